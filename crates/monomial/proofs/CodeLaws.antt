@@ -1,0 +1,242 @@
+-- What the functions compute, on plain numbers: each law is a step of one of them. Assumes nothing.
+use mathlib.Core.Path.{_≡_, refl, sym, ap, ap₂, _∙_, subst}
+use mathlib.Core.Bool.{Bool, true, false, _&&_}
+use mathlib.Core.List.{List, [], _∷_, _++_, reverse, append-nil}
+use Prim.Native.Nat.{ℕ, zero, suc, _+_, _-_, _*_, _/_, _%_, _^_, _<_, _≤_, zero-le, compare, Ordering, Ordering·lt, Ordering·eq, Ordering·gt}
+use native.Mathlib.Nat.{mod-eq-of-lt, div-mul-le-self, div-add-mod', div-div-eq-div-mul, mul-le-mul}
+use native.Mathlib.Decide.{decLe}
+use native.Mathlib.Numerals.{add-one}
+use native.Mathlib.Omega.{arith}
+use borrow.Author.Tests.{eq-eqb, ne-eqb}
+use lib.Dec.{eqb, lit<, lit≤}
+use lib.Bits.{bitAnd, bitXor, xor-block, xor-zero-r, xor-add-and, and-mask}
+use lib.Pow.{pow-mono}
+use lib.ListN.{length, getD, take, drop, set, length-set, take-append-drop}
+use lib.Seq.{take-suc, take-all, drop-cons, drop-length, append-snoc, set-at, length-take-le}
+use Rattle.monomial.specs.declared.order.Order.{Order}
+use Rattle.monomial.specs.declared.order.Order.the-variants.{Lex, DegLex, DegRevLex}
+use Rattle.monomial.specs.declared.order.Comparison.{Comparison}
+use Rattle.monomial.specs.declared.order.Comparison.the-variants.{Smaller, Same, Larger}
+use Rattle.monomial.specs.declared.word.Product.{Product}
+use Rattle.monomial.specs.declared.word.Product.the-variants.{Word, Over}
+use Rattle.monomial.specs.Exponents.{degree, orderBy, orderOf, product}
+use Rattle.monomial.specs.Layout.{bytes, ofBytes, six, upward, lowBit, wordOf, fields, exponents, Below, below, inLayout}
+use Rattle.monomial.specs.Words.{low, high, compareWords, keyOf, answer, Packed, dividesWord, productBy, productOf}
+use Rattle.monomial.proofs.Comparing.{lt-compare, eq-compare, gt-compare}
+use Rattle.monomial.proofs.Places.{length-each, below-reverse, degree-append, degree-upward, degree-zeros, true-below, zeros}
+use Rattle.monomial.proofs.ByteLaws.{length-bytes, bytes-below, ofBytes-bytes, bytes-of, bytes-add, tops, tops-clear, tops-set, apart, apart-sum, apart-below, apart-full, full, ofBytes-drop, ofBytes-take, zero-bytes}
+use Rattle.monomial.proofs.LayoutLaws.{below-fields}
+use Rattle.monomial.proofs.KeyLaws.{key-compare}
+use Rattle.monomial.proofs.FieldLaws.{pow-bytes, drop-reverse, word-more}
+
+-- ---- the number of an order
+pub order-first : (k : ℕ) → k ≡ 1 → Lex ≡ orderOf k
+order-first k h = sym (ap (λ (t : Bool). orderBy t (eqb k 2)) (eq-eqb k 1 h))
+
+pub order-second : (k : ℕ) → (k ≡ 1 → ⊥) → k ≡ 2 → DegLex ≡ orderOf k
+order-second k h l = sym (ap₂ orderBy (ne-eqb k 1 h) (eq-eqb k 2 l))
+
+pub order-other : (k : ℕ) → (k ≡ 1 → ⊥) → (k ≡ 2 → ⊥) → DegRevLex ≡ orderOf k
+order-other k h l = sym (ap₂ orderBy (ne-eqb k 1 h) (ne-eqb k 2 l))
+
+-- ---- keys
+pub key-lex : (o : Order) (w : ℕ) → o ≡ Lex → w % 2 ^ 48 * 65536 + w / 2 ^ 48 ≡ keyOf o w
+key-lex o w h = rw h
+
+inverted : (r : ℕ) → r < 2 ^ 48 → bitXor r (2 ^ 48 - 1) ≡ 2 ^ 48 - 1 - r
+inverted r h = omega (arith, xor-add-and r (2 ^ 48 - 1), and-mask r 48)
+
+pub key-rev : (o : Order) (w : ℕ) → o ≡ DegRevLex → bitXor w (2 ^ 48 - 1) ≡ keyOf o w
+key-rev o w h =
+    rw h
+    (ap (λ (n : ℕ). bitXor n (2 ^ 48 - 1)) (let e : w ≡ high w * 2 ^ 48 + low w = omega arith in e)
+    ∙ (xor-block 48 (high w) 0 (low w) (2 ^ 48 - 1) (omega arith) (lit< tt)
+    ∙ ap₂ (λ (i j : ℕ). i * 2 ^ 48 + j) (xor-zero-r (high w)) (inverted (low w) (omega arith))))
+
+-- ---- the comparison of two words, by their keys
+module _ (o : Order) (x y a b : ℕ) (hx : x < 2 ^ 64) (hy : y < 2 ^ 64) (ea : a ≡ keyOf o x) (eb : b ≡ keyOf o y) where
+  keyed : compareWords o x y ≡ compare a b
+  keyed = sym (key-compare o x y hx hy) ∙ ap₂ compare (sym ea) (sym eb)
+
+  pub is-smaller : a < b → Smaller ≡ answer (compareWords o x y)
+  is-smaller h = sym (ap answer (keyed ∙ lt-compare h))
+
+  pub is-larger : b < a → Larger ≡ answer (compareWords o x y)
+  is-larger h = sym (ap answer (keyed ∙ gt-compare h))
+
+  pub is-same : a ≤ b → b ≤ a → Same ≡ answer (compareWords o x y)
+  is-same h k = sym (ap answer (keyed ∙ eq-compare (let e : a ≡ b = omega arith in e)))
+
+-- ---- divisibility and product
+module _ (x y : ℕ) (hx : Packed x) (hy : Packed y) where
+  long : length (bytes 6 x) ≡ length (bytes 6 y)
+  long = length-bytes 6 x ∙ sym (length-bytes 6 y)
+
+  -- the difference that the code takes, by its bytes
+  whole : ofBytes (apart (bytes 6 x) (bytes 6 y)) + y % 2 ^ 48 ≡ x % 2 ^ 48 + tops 6
+  whole =
+      let s = apart-sum (bytes 6 x) (bytes 6 y) long (hy .tops) in
+      let t = ap tops (length-bytes 6 x) in
+      omega (arith, ofBytes-bytes 6 x, ofBytes-bytes 6 y)
+
+  pub no-borrow : y % 2 ^ 48 ≤ x % 2 ^ 48 + tops 6
+  no-borrow = omega (arith, whole)
+
+  pub divides-by : eqb (bitAnd (x % 2 ^ 48 + tops 6 - y % 2 ^ 48) (tops 6)) (tops 6) ≡ dividesWord y x
+  divides-by =
+      let z : ℕ = ofBytes (apart (bytes 6 x) (bytes 6 y)) in
+      let e : x % 2 ^ 48 + tops 6 - y % 2 ^ 48 ≡ z + 256 ^ 6 * 0 = omega (arith, whole) in
+      ap (λ (n : ℕ). eqb (bitAnd n (tops 6)) (tops 6)) e
+      ∙ (tops-set 6 (z + 256 ^ 6 * 0)
+      ∙ (ap full (bytes-of 6 (apart (bytes 6 x) (bytes 6 y)) 0 (length-each (λ a b. a + 128 - b) (bytes 6 x) (bytes 6 y) long ∙ length-bytes 6 x) (apart-below (bytes 6 x) (bytes 6 y) (hx .tops)))
+      ∙ apart-full (bytes 6 x) (bytes 6 y) long (hy .tops)))
+
+  sum-test : eqb (bitAnd (x + y) (tops 6)) 0 ≡ below 128 (product (bytes 6 x) (bytes 6 y))
+  sum-test = tops-clear 6 (x + y) ∙ ap (below 128) (bytes-add 6 x y (hx .tops) (hy .tops))
+
+  pub product-fits : bitAnd (x + y) (tops 6) ≡ 0 → Word (x + y) ≡ productOf x y
+  product-fits h = sym (ap (λ (t : Bool). productBy t (x + y)) (sym sum-test ∙ eq-eqb (bitAnd (x + y) (tops 6)) 0 h))
+
+  pub product-over : (bitAnd (x + y) (tops 6) ≡ 0 → ⊥) → Over ≡ productOf x y
+  product-over h = sym (ap (λ (t : Bool). productBy t (x + y)) (sym sum-test ∙ ne-eqb (bitAnd (x + y) (tops 6)) 0 h))
+
+-- ---- the layout
+pub lowest-zero : (x m : ℕ) → x < 2 ^ 64 → eqb (x / m * m % 2 ^ 64) x ≡ eqb (x % m) 0
+lowest-zero x m h =
+    ap (λ (n : ℕ). eqb n x) (mod-eq-of-lt (let l : x / m * m < 2 ^ 64 = omega (arith, div-mul-le-self x m) in l)) ∙ go (decLe (x % m) 0)
+  where
+    go : Dec (x % m ≤ 0) → eqb (x / m * m) x ≡ eqb (x % m) 0
+    go (yes k) = eq-eqb (x / m * m) x (omega (arith, div-add-mod' x m)) ∙ sym (eq-eqb (x % m) 0 (omega arith))
+    go (no k) = ne-eqb (x / m * m) x (λ e. omega (arith, div-add-mod' x m)) ∙ sym (ne-eqb (x % m) 0 (λ e. omega arith))
+
+ends-down : (n w : ℕ) → n ≤ 6 → eqb (w % 2 ^ 48 % 2 ^ (48 - 8 * n)) 0 ≡ below 1 (drop n (reverse (bytes 6 w)))
+ends-down n w h =
+    let m : 2 ^ (48 - 8 * n) ≡ 256 ^ (6 - n) = ap (λ (k : ℕ). 2 ^ k) (let e : 48 - 8 * n ≡ 8 * (6 - n) = omega arith in e) ∙ pow-bytes (6 - n) in
+    ap₂ (λ (i j : ℕ). eqb (i % j) 0) (sym (ofBytes-bytes 6 w)) m
+    ∙ (ap (λ (i : ℕ). eqb i 0) (sym (ofBytes-take (6 - n) (bytes 6 w) (bytes-below 6 w)))
+    ∙ (zero-bytes (take (6 - n) (bytes 6 w))
+    ∙ (sym (below-reverse 1 (take (6 - n) (bytes 6 w)))
+    ∙ (ap (λ (k : ℕ). below 1 (reverse (take (k - n) (bytes 6 w)))) (sym (length-bytes 6 w)) ∙ ap (below 1) (sym (drop-reverse (bytes 6 w) n (omega (arith, length-bytes 6 w))))))))
+
+pub ends-lex : (o : Order) (n w : ℕ) (r : Bool) → o ≡ Lex → n ≤ 6 → r ≡ eqb (w % 2 ^ 48 % 2 ^ (48 - 8 * n)) 0 → r ≡ below 1 (drop n (fields o w))
+unfolding fields
+ends-lex o n w r e h k = rw e (k ∙ ends-down n w h)
+
+pub ends-deg : (o : Order) (n w : ℕ) (r : Bool) → o ≡ DegLex → n ≤ 6 → r ≡ eqb (w % 2 ^ 48 % 2 ^ (48 - 8 * n)) 0 → r ≡ below 1 (drop n (fields o w))
+unfolding fields
+ends-deg o n w r e h k = rw e (k ∙ ends-down n w h)
+
+pub ends-rev : (o : Order) (n w : ℕ) → o ≡ DegRevLex → eqb (w % 2 ^ 48 / 2 ^ (8 * n)) 0 ≡ below 1 (drop n (fields o w))
+unfolding fields
+ends-rev o n w e =
+    rw e
+    (ap₂ (λ (i j : ℕ). eqb (i / j) 0) (sym (ofBytes-bytes 6 w)) (pow-bytes n)
+    ∙ (ap (λ (i : ℕ). eqb i 0) (sym (ofBytes-drop n (bytes 6 w) (bytes-below 6 w))) ∙ zero-bytes (drop n (bytes 6 w))))
+
+grouped : (a b c d e f : ℕ) → a + b + c + d + e + f ≡ a + (b + (c + (d + (e + (f + 0)))))
+grouped a b c d e f = omega arith
+
+pub sum-fields : (w : ℕ) → w % 256 + w / 256 % 256 + w / 65536 % 256 + w / 16777216 % 256 + w / 4294967296 % 256 + w / 1099511627776 % 256 ≡ degree (bytes 6 w)
+unfolding bytes
+sum-fields w = simp div-div-eq-div-mul (grouped (w % 256) (w / 256 % 256) (w / 65536 % 256) (w / 16777216 % 256) (w / 4294967296 % 256) (w / 1099511627776 % 256))
+
+-- the degree of the exponents is the sum of all fields, where those beyond n are 0
+degree-enough : (n : ℕ) (α : List ℕ) → below 1 (drop n α) ≡ true → degree (take n α) ≡ degree α
+degree-enough n α h =
+    let z = ap degree (zeros (drop n α) (true-below 1 (drop n α) h)) ∙ degree-zeros (length (drop n α)) in
+    let s = ap degree (sym (take-append-drop n α)) ∙ degree-append (take n α) (drop n α) in
+    omega arith
+
+module _ (o : Order) (n w : ℕ) where
+  clear : below 128 (fields o w) ≡ eqb (bitAnd w (tops 6)) 0
+  clear = below-fields 128 o w ∙ sym (tops-clear 6 w)
+
+  pub top-refused : (bitAnd w (tops 6) ≡ 0 → ⊥) → false ≡ inLayout o n w
+  unfolding inLayout
+  top-refused h = rw (clear ∙ ne-eqb (bitAnd w (tops 6)) 0 h)
+
+  pub beyond-refused : bitAnd w (tops 6) ≡ 0 → below 1 (drop n (fields o w)) ≡ false → false ≡ inLayout o n w
+  unfolding inLayout
+  beyond-refused h k = rw (clear ∙ eq-eqb (bitAnd w (tops 6)) 0 h, k)
+
+  pub by-degree : bitAnd w (tops 6) ≡ 0 → below 1 (drop n (fields o w)) ≡ true → (s : ℕ) → s ≡ degree (bytes 6 w) → eqb (w / 2 ^ 48) s ≡ inLayout o n w
+  unfolding inLayout fields
+  by-degree h k s e = rw (clear ∙ eq-eqb (bitAnd w (tops 6)) 0 h, k) (ap (eqb (w / 2 ^ 48)) (e ∙ (sym (degree-upward o (bytes 6 w)) ∙ sym (degree-enough n (fields o w) k))))
+
+-- ---- bits of a field
+pub bit-lex : (o : Order) (i : ℕ) → o ≡ Lex → 40 - 8 * i ≡ lowBit o i
+bit-lex o i h = rw h
+
+pub bit-deg : (o : Order) (i : ℕ) → o ≡ DegLex → 40 - 8 * i ≡ lowBit o i
+bit-deg o i h = rw h
+
+pub bit-rev : (o : Order) (i : ℕ) → o ≡ DegRevLex → 8 * i ≡ lowBit o i
+bit-rev o i h = rw h
+
+-- an exponent that is moved to its field stays below the degree
+pub moved : (e s : ℕ) → e < 256 → s ≤ 40 → (e * 2 ^ s % 2 ^ 64 ≡ e * 2 ^ s) × (e * 2 ^ s < 2 ^ 48)
+moved e s h k =
+    let p : 2 ^ s ≤ 2 ^ 40 = pow-mono k in
+    let l : e * 2 ^ s ≤ 255 * 2 ^ 40 = mul-le-mul (let q : e ≤ 255 = omega arith in q) p in
+    (mod-eq-of-lt (let m : e * 2 ^ s < 2 ^ 64 = omega arith in m), omega arith)
+
+-- ---- a list filled from the front with what F has
+pub record Filled (F out₀ out : List ℕ) (i : ℕ) : Type 0 where
+  pub low : i ≤ length out₀
+  pub long : length out ≡ length out₀
+  pub is : out ≡ take i F ++ drop i out₀
+
+pub fill-more : (F out₀ out : List ℕ) (i v : ℕ) → Filled F out₀ out i → i < length out₀ → i < length F → v ≡ getD F i 0 → Filled F out₀ (set out i v) (i + 1)
+fill-more F out₀ out i v f h k e = record {
+  low = omega arith;
+  long = length-set out i v ∙ f .long;
+  is =
+      ap₂ (λ (l : List ℕ) (x : ℕ). set l i x) (f .is ∙ ap (λ (l : List ℕ). take i F ++ l) (drop-cons out₀ i 0 h)) e
+      ∙ (set-at (take i F) (getD out₀ i 0) (drop (suc i) out₀) (getD F i 0) i (length-take-le i F (let m : i ≤ length F = omega arith in m))
+      ∙ (sym (append-snoc (take i F) (getD F i 0) (drop (suc i) out₀))
+      ∙ (ap (λ (l : List ℕ). l ++ drop (suc i) out₀) (sym (take-suc F i 0 k)) ∙ ap (λ (n : ℕ). take n F ++ drop n out₀) (sym (add-one i)))));
+}
+
+pub fill-ends : (F out₀ out : List ℕ) (i : ℕ) → Filled F out₀ out i → length out₀ ≤ i → out ≡ take (length out₀) F
+fill-ends F out₀ out i f h =
+    let e : i ≡ length out₀ = omega (arith, f .low) in
+    f .is ∙ (ap (λ (n : ℕ). take n F ++ drop n out₀) e ∙ (ap (λ (l : List ℕ). take (length out₀) F ++ l) (drop-length out₀) ∙ append-nil (take (length out₀) F)))
+
+-- ---- the word of the first i exponents
+pub record Begun (o : Order) (α : List ℕ) (word i : ℕ) : Type 0 where
+  pub low : i ≤ length α
+  pub small : word ≤ i * 2 ^ 56
+  pub is : word ≡ wordOf o (take i α)
+
+pub word-none : (o : Order) (α : List ℕ) → Begun o α 0 0
+unfolding wordOf
+word-none o α = record { low = zero-le; small = zero-le; is = none o }
+  where
+    none : (q : Order) → 0 ≡ 0 * 2 ^ 48 + ofBytes (upward q (six []))
+    none Lex = refl
+    none DegLex = refl
+    none DegRevLex = refl
+
+pub word-step : (o : Order) (α : List ℕ) (word i e s : ℕ) → Begun o α word i → i < length α → length α ≤ 6 → (e ≡ getD α i 0) × (e < 256) → (s ≡ lowBit o i) × (s ≤ 40) → Begun o α (word + (e * 2 ^ 48 + e * 2 ^ s % 2 ^ 64)) (i + 1)
+word-step o α word i e s g h l he hs =
+    let m = moved e s (he .1) (hs .1) in
+    let n : length (take i α) ≡ i = length-take-le i α (omega arith) in
+    record {
+      low = omega arith;
+      small = omega (arith, g .small, he .1, m .0, m .1);
+      is =
+          ap₂ (λ (x y : ℕ). x + (e * 2 ^ 48 + y)) (g .is) (m .0)
+          ∙ (ap₂ (λ (x y : ℕ). wordOf o (take i α) + (x * 2 ^ 48 + x * 2 ^ y)) (he .0) (hs .0 ∙ ap (lowBit o) (sym n))
+          ∙ (sym (word-more o (take i α) (getD α i 0) (let k : length (take i α) < 6 = omega arith in k))
+          ∙ (ap (wordOf o) (sym (take-suc α i 0 h)) ∙ ap (λ (k : ℕ). wordOf o (take k α)) (sym (add-one i)))));
+    }
+
+pub word-ends : (o : Order) (α : List ℕ) (word i : ℕ) → Begun o α word i → length α ≤ i → word ≡ wordOf o α
+word-ends o α word i g h = g .is ∙ ap (wordOf o) (take-all i α h)
+
+-- ---- sums that fit
+pub key-fits : (w : ℕ) → w < 2 ^ 64 → w % 2 ^ 48 * 65536 + w / 2 ^ 48 < 2 ^ 64
+key-fits w h = fits (w % 2 ^ 48) (w / 2 ^ 48) (omega arith) (omega arith)
+  where
+    fits : (r q : ℕ) → r < 2 ^ 48 → q < 65536 → r * 65536 + q < 2 ^ 64
+    fits r q hr hq = omega arith

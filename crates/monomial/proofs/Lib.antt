@@ -1,0 +1,11 @@
+pub mod Comparing
+pub mod WeakOrder
+pub mod OrderLaws
+pub mod Places
+pub mod ByteLaws
+pub mod LayoutLaws
+pub mod KeyLaws
+pub mod WordLaws
+pub mod FieldLaws
+pub mod CodeLaws
+pub mod DocumentLaws

@@ -1,0 +1,4 @@
+pub mod Exponents
+pub mod Layout
+pub mod Words
+pub mod TotalOrder

@@ -1,0 +1,8 @@
+-- Laws on plain numbers: what this crate's proofs cite, and crates above it.
+pub mod Remainder
+pub mod Modular
+pub mod Primality
+pub mod TrialDivision
+pub mod Euclid
+pub mod Inverses
+pub mod Shoup

@@ -1,0 +1,35 @@
+-- `times` meets its contract: each need is a law of `Shoup.antt`.
+use native.Mathlib.Omega.{arith}
+use Rattle.residue.proofs.Shoup.{share-fits, value-fits, at-most, small-rest, large-rest, rest-fits}
+use borrow.Author.Needs.{needs}
+use Rattle.residue.proofs.factor.Factor.times.Statement.{statement}
+use Rattle.residue.proofs.factor.Factor.times.Tie as tie
+
+mul-quotient : tie.Need-mul-quotient
+mul-quotient c = omega (arith, share-fits _ _ (c .before .pre .0) (c .before .pre .1))
+
+mul-r : tie.Need-mul-r
+mul-r c = omega (arith, value-fits _ _ (c .before .before .pre .0) (c .before .before .pre .1))
+
+mul-r-2 : tie.Need-mul-r-2
+mul-r-2 c = let h = c .before .before .pre in omega (arith, value-fits _ _ (h .0) (h .1), at-most _ _ (h .0) (h .1))
+
+sub-r : tie.Need-sub-r
+sub-r c = at-most _ _ (c .before .before .pre .0) (c .before .before .pre .1)
+
+cast-result : tie.Need-cast-result
+cast-result c = search needs
+
+cast-result-2 : tie.Need-cast-result-2
+cast-result-2 c = let h = c .before .before .before .pre in omega (arith, rest-fits _ _ (h .0) (h .1) (c .if1 .left))
+
+returns : tie.Need-returns
+returns c = let h = c .before .before .before .pre in small-rest _ _ (h .0) (h .1) (c .if1 .taken)
+
+returns-2 : tie.Need-returns-2
+returns-2 c = let h = c .before .before .before .pre in large-rest _ _ (h .0) (h .1) (c .if1 .left)
+
+pub times-spec : {M : Type 1} → statement M
+times-spec =
+    tie.close
+    (tie.spec mul-quotient mul-r mul-r-2 sub-r cast-result cast-result-2 returns returns-2)

@@ -1,0 +1,3 @@
+pub mod Prime
+pub mod Modular
+pub mod Share
