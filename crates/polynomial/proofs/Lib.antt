@@ -1,0 +1,6 @@
+pub mod MergeLaws
+pub mod CoefLaws
+pub mod MultipleLaws
+pub mod TermLists
+pub mod OpeningLaws
+pub mod StartLaws

@@ -1,0 +1,4 @@
+pub mod Terms
+pub mod Merge
+pub mod Multiple
+pub mod Opening
