@@ -41,7 +41,7 @@ module _ {A : Type 0} (cmp : A → A → Ordering) where
 
   module _ (O : TotalOrder A cmp) where
     -- a step of the merge at a monomial: x's and y's own shares, and what is left of each list
-    total-merge : (p : ℕ) (m : A) (xs ys : List (Term A)) → total cmp m (merge cmp p xs ys) % p ≡ (total cmp m xs + total cmp m ys) % p
+    pub total-merge : (p : ℕ) (m : A) (xs ys : List (Term A)) → total cmp m (merge cmp p xs ys) % p ≡ (total cmp m xs + total cmp m ys) % p
     total-merge p m =
         along cmp p (λ xs ys zs qs. total cmp m zs % p ≡ (total cmp m xs + total cmp m ys) % p)
         (λ ys. ap (λ (n : ℕ). n % p) (omega (arith, total-nil m)))

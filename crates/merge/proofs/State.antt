@@ -1,0 +1,318 @@
+-- A merge under way, over lists alone: what each turn of the loop does to it. Both merges have this state. Assumes nothing.
+use mathlib.Core.Path.{_≡_, refl, sym, ap, ap₂, _∙_, subst}
+use mathlib.Core.Bool.{Bool, true, false, not}
+use mathlib.Core.List.{List, [], _∷_, _++_, map}
+use mathlib.Core.Logic.{_⊎_, inl, inr, ⊎-elim}
+use Prim.Native.Nat.{ℕ, zero, suc, _+_, _-_, _%_, _<_, _≤_, Ordering, Ordering·lt, Ordering·eq, Ordering·gt}
+use native.Mathlib.Nat.{add-zero, zero-add, add-assoc, mod-eq-of-lt}
+use native.Mathlib.Decide.{decLe}
+use borrow.Author.Tests.{eq-eqb, ne-eqb, eqb-true}
+use lib.Dec.{eqb}
+use native.Mathlib.Omega.{arith}
+use lib.ListN.{length, drop, set, getD, length-append, length-map, drop-of-length-le, length-drop}
+use lib.Seq.{sets, set-getD, append-snoc, length-sets, ext-getD, getD-drop}
+use Rattle.monomial.specs.TotalOrder.{TotalOrder}
+use Rattle.polynomial.specs.Terms.{Term, term, terms, words, coefs, All}
+use Rattle.polynomial.specs.Merge.{keep, into, merge, comparedInto, compared, mergeCount}
+use Rattle.polynomial.specs.Opening.{isLarger}
+use Rattle.polynomial.proofs.MergeLaws.{merge-less, merge-same, merge-more, compared-less, compared-same, compared-more, Stands, less, same, more, stands}
+use Rattle.polynomial.proofs.TermLists.{length-terms, lead-at, words-terms, coefs-terms, map-drop}
+use Rattle.merge.specs.Lent.{restOf, part, flag, chosen}
+use Rattle.merge.proofs.Lists.{sets-append, sets-snoc, length-part, getD-part, getD-sets-other}
+
+pub flag-small : (b : Bool) → flag b ≤ 1
+flag-small true = omega arith
+flag-small false = omega arith
+
+-- M and N are the whole merge and its count; xs and ys are what is left of the two lists, and ow and oc the two slices, which were ow₀ and oc₀; the next term goes to place k, the first went to `to`, and n comparisons are made
+pub record State (cmp : ℕ → ℕ → Ordering) (p : ℕ) (M : List (Term ℕ)) (N to : ℕ) (ow₀ oc₀ : List ℕ) (xs ys : List (Term ℕ)) (ow oc : List ℕ) (k n : ℕ) : Type 0 where
+  pub done : List (Term ℕ)
+  pub at : to + length done ≡ k
+  pub whole : done ++ merge cmp p xs ys ≡ M
+  pub count : n + mergeCount cmp xs ys ≡ N
+  pub words-are : ow ≡ sets ow₀ to (words done)
+  pub coefs-are : oc ≡ sets oc₀ to (coefs done)
+
+pub state-start : (cmp : ℕ → ℕ → Ordering) (p : ℕ) (xs ys : List (Term ℕ)) (to : ℕ) (ow oc : List ℕ) → State cmp p (merge cmp p xs ys) (mergeCount cmp xs ys) to ow oc xs ys ow oc to 0
+state-start cmp p xs ys to ow oc = record { done = []; at = omega arith; whole = refl; count = omega arith; words-are = refl; coefs-are = refl }
+
+map-snoc : (f : Term ℕ → ℕ) (ts : List (Term ℕ)) (t : Term ℕ) → map f (ts ++ (t ∷ [])) ≡ map f ts ++ (f t ∷ [])
+map-snoc f [] t = refl
+map-snoc f (u ∷ ts) t = ap (λ (l : List ℕ). f u ∷ l) (map-snoc f ts t)
+
+map-append : (f : Term ℕ → ℕ) (ts us : List (Term ℕ)) → map f (ts ++ us) ≡ map f ts ++ map f us
+map-append f [] us = refl
+map-append f (t ∷ ts) us = ap (λ (l : List ℕ). f t ∷ l) (map-append f ts us)
+
+-- a store of f of the next term at place k
+stored : (f : Term ℕ → ℕ) (l : List ℕ) (to k : ℕ) (ts : List (Term ℕ)) (t : Term ℕ) (o : List ℕ) → to + length ts ≡ k → o ≡ sets l to (map f ts) → set o k (f t) ≡ sets l to (map f (ts ++ (t ∷ [])))
+stored f l to k ts t o e q =
+    ap (λ (x : List ℕ). set x k (f t)) q
+    ∙ (ap (λ (m : ℕ). set (sets l to (map f ts)) m (f t)) (sym e ∙ ap (λ (m : ℕ). to + m) (sym (length-map ts f)))
+    ∙ (sym (sets-snoc l to (map f ts) (f t)) ∙ ap (sets l to) (sym (map-snoc f ts t))))
+
+keep-some : (m c : ℕ) (ts : List (Term ℕ)) → (c ≡ 0 → ⊥) → keep m c ts ≡ term m c ∷ ts
+unfolding keep
+keep-some m zero ts h = absurd (h refl)
+keep-some m (suc c) ts h = refl
+
+keep-none : (m : ℕ) (ts : List (Term ℕ)) → keep m 0 ts ≡ ts
+unfolding keep
+keep-none m ts = refl
+
+count-used : (cmp : ℕ → ℕ → Ordering) (xs ys : List (Term ℕ)) → (xs ≡ []) ⊎ (ys ≡ []) → mergeCount cmp xs ys ≡ 0
+unfolding compared comparedInto
+count-used cmp [] ys e = refl
+count-used cmp (x ∷ xs) [] e = refl
+count-used cmp (x ∷ xs) (y ∷ ys) (inl e) = let z : _≡_ {A = ℕ} 0 1 = cc in absurd (omega arith)
+count-used cmp (x ∷ xs) (y ∷ ys) (inr e) = let z : _≡_ {A = ℕ} 0 1 = cc in absurd (omega arith)
+
+module _ {cmp : ℕ → ℕ → Ordering} {p : ℕ} {M : List (Term ℕ)} {N to : ℕ} {ow₀ oc₀ : List ℕ} {xs ys : List (Term ℕ)} {ow oc : List ℕ} {k n : ℕ} (s : State cmp p M N to ow₀ oc₀ xs ys ow oc k n) where
+  -- one term more is stored, and xs' and ys' are left
+  state-put : (t : Term ℕ) (xs' ys' : List (Term ℕ)) → merge cmp p xs ys ≡ t ∷ merge cmp p xs' ys' → mergeCount cmp xs ys ≡ suc (mergeCount cmp xs' ys')
+      → State cmp p M N to ow₀ oc₀ xs' ys' (set ow k (t .mono)) (set oc k (t .coef)) (k + 1) (n + 1)
+  state-put t xs' ys' e f = record {
+    done = s .done ++ (t ∷ []);
+    at = omega (arith, s .at, length-append (s .done) (t ∷ []));
+    whole = append-snoc (s .done) t (merge cmp p xs' ys') ∙ (ap (λ (l : List (Term ℕ)). s .done ++ l) (sym e) ∙ s .whole);
+    count = omega (arith, f, s .count);
+    words-are = stored (λ t. t .mono) ow₀ to k (s .done) t ow (s .at) (s .words-are);
+    coefs-are = stored (λ t. t .coef) oc₀ to k (s .done) t oc (s .at) (s .coefs-are);
+  }
+
+  -- nothing is stored
+  state-skip : (xs' ys' : List (Term ℕ)) → merge cmp p xs ys ≡ merge cmp p xs' ys' → mergeCount cmp xs ys ≡ suc (mergeCount cmp xs' ys') → State cmp p M N to ow₀ oc₀ xs' ys' ow oc k (n + 1)
+  state-skip xs' ys' e f = record {
+    done = s .done;
+    at = s .at;
+    whole = ap (λ (l : List (Term ℕ)). s .done ++ l) (sym e) ∙ s .whole;
+    count = omega (arith, f, s .count);
+    words-are = s .words-are;
+    coefs-are = s .coefs-are;
+  }
+
+  module _ (O : TotalOrder ℕ cmp) (x y : Term ℕ) (xs' ys' : List (Term ℕ)) (ex : xs ≡ x ∷ xs') (ey : ys ≡ y ∷ ys') where
+    -- x is used up and stored; y is; both are, and their sum is stored, or nothing where it is 0
+    after-more : cmp (x .mono) (y .mono) ≡ Ordering·gt → State cmp p M N to ow₀ oc₀ xs' ys (set ow k (x .mono)) (set oc k (x .coef)) (k + 1) (n + 1)
+    after-more h = state-put x xs' ys (rw (ex, ey) (merge-more cmp p x xs' y ys' h)) (rw (ex, ey) (ap length (compared-more cmp x xs' y ys' h)))
+
+    after-less : cmp (x .mono) (y .mono) ≡ Ordering·lt → State cmp p M N to ow₀ oc₀ xs ys' (set ow k (y .mono)) (set oc k (y .coef)) (k + 1) (n + 1)
+    after-less h = state-put y xs ys' (rw (ex, ey) (merge-less cmp p x xs' y ys' h)) (rw (ex, ey) (ap length (compared-less cmp x xs' y ys' h)))
+
+    after-sum : cmp (x .mono) (y .mono) ≡ Ordering·eq → (c : ℕ) → c ≡ (x .coef + y .coef) % p → (c ≡ 0 → ⊥) → State cmp p M N to ow₀ oc₀ xs' ys' (set ow k (x .mono)) (set oc k c) (k + 1) (n + 1)
+    after-sum h c e ne = state-put (term (x .mono) c) xs' ys' (rw (ex, ey) (merge-same cmp p x xs' y ys' h ∙ rw (← e) (keep-some (x .mono) c (merge cmp p xs' ys') ne))) (rw (ex, ey) (ap length (compared-same cmp x xs' y ys' h)))
+
+    after-cancel : cmp (x .mono) (y .mono) ≡ Ordering·eq → 0 ≡ (x .coef + y .coef) % p → State cmp p M N to ow₀ oc₀ xs' ys' ow oc k (n + 1)
+    after-cancel h e = state-skip xs' ys' (rw (ex, ey) (merge-same cmp p x xs' y ys' h ∙ rw (← e) (keep-none (x .mono) (merge cmp p xs' ys')))) (rw (ex, ey) (ap length (compared-same cmp x xs' y ys' h)))
+
+-- the same state, written in other words
+same-state : {cmp : ℕ → ℕ → Ordering} {p : ℕ} {M : List (Term ℕ)} {N to : ℕ} {ow₀ oc₀ : List ℕ} {xs ys : List (Term ℕ)} {ow oc : List ℕ} {k n : ℕ} {xs' ys' : List (Term ℕ)} {ow' oc' : List ℕ} {k' : ℕ}
+    → State cmp p M N to ow₀ oc₀ xs ys ow oc k n → xs' ≡ xs → ys' ≡ ys → ow' ≡ ow → oc' ≡ oc → k' ≡ k → State cmp p M N to ow₀ oc₀ xs' ys' ow' oc' k' n
+same-state {cmp} {p} {n = n} s ex ey ew ec ek = record {
+  done = s .done;
+  at = s .at ∙ sym ek;
+  whole = ap₂ (λ (a b : List (Term ℕ)). s .done ++ merge cmp p a b) ex ey ∙ s .whole;
+  count = ap₂ (λ (a b : List (Term ℕ)). n + mergeCount cmp a b) ex ey ∙ s .count;
+  words-are = ew ∙ s .words-are;
+  coefs-are = ec ∙ s .coefs-are;
+}
+
+-- ---- a turn, by its flags: l is 1 where x is larger, q where the two are like, and z where the sum that is stored is not 0
+module _ {cmp : ℕ → ℕ → Ordering} {p : ℕ} {M : List (Term ℕ)} {N to : ℕ} {ow₀ oc₀ ow oc : List ℕ} {k n : ℕ} (L R : List (Term ℕ)) (i j : ℕ)
+    (s : State cmp p M N to ow₀ oc₀ (drop i L) (drop j R) ow oc k n)
+    (O : TotalOrder ℕ cmp) (x y : Term ℕ) (ex : drop i L ≡ x ∷ drop (i + 1) L) (ey : drop j R ≡ y ∷ drop (j + 1) R)
+    (hx : (0 < x .coef) × (x .coef < p)) (hy : (0 < y .coef) × (y .coef < p))
+    (l q c z : ℕ) (el : l ≡ flag (isLarger (cmp (x .mono) (y .mono)))) (eq : q ≡ flag (eqb (x .mono) (y .mono)))
+    (ec : c ≡ (chosen (l + q) (x .coef) 0 + chosen (1 - l) (y .coef) 0) % p) (ez : z ≡ flag (not (eqb c 0))) where
+  pub Turned : Type 0
+  Turned = State cmp p M N to ow₀ oc₀ (drop (i + (l + q)) L) (drop (j + (1 - l)) R) (set ow k (chosen z (chosen (l + q) (x .mono) (y .mono)) (getD ow k 0))) (set oc k (chosen z c (getD oc k 0))) (k + z) (n + 1)
+
+  unlike : (cmp (x .mono) (y .mono) ≡ Ordering·eq → ⊥) → q ≡ 0
+  unlike h = eq ∙ ap flag (ne-eqb (x .mono) (y .mono) (λ e. h (ap (cmp (x .mono)) (sym e) ∙ O .like (x .mono))))
+
+  by-cmp : (t : Ordering) → cmp (x .mono) (y .mono) ≡ t → l ≡ flag (isLarger t)
+  by-cmp t h = el ∙ ap (λ (u : Ordering). flag (isLarger u)) h
+
+  stored-flag : (c ≡ 0 → ⊥) → z ≡ 1
+  stored-flag h = ez ∙ ap (λ (b : Bool). flag (not b)) (ne-eqb c 0 h)
+
+  turned-more : cmp (x .mono) (y .mono) ≡ Ordering·gt → Turned
+  unfolding Turned
+  turned-more h =
+      let l1 : l ≡ 1 = by-cmp Ordering·gt h in
+      let q0 : q ≡ 0 = unlike (λ e. clash (sym h ∙ e)) in
+      let f1 : l + q ≡ 1 = omega arith in
+      let g0 : 1 - l ≡ 0 = omega arith in
+      let c1 : c ≡ x .coef = ec ∙ (ap₂ (λ (f g : ℕ). (chosen f (x .coef) 0 + chosen g (y .coef) 0) % p) f1 g0 ∙ (ap (λ (m : ℕ). m % p) (add-zero (x .coef)) ∙ mod-eq-of-lt (hx .1))) in
+      let z1 : z ≡ 1 = stored-flag (λ e. let w : ⊥ = omega (arith, hx .0) in w) in
+      same-state (after-more s O x y (drop (i + 1) L) (drop (j + 1) R) ex ey h)
+      (ap (λ (m : ℕ). drop (i + m) L) f1) (ap (λ (m : ℕ). drop (j + m) R) g0 ∙ ap (λ (m : ℕ). drop m R) (add-zero j))
+      (ap₂ (λ (u v : ℕ). set ow k (chosen u (chosen v (x .mono) (y .mono)) (getD ow k 0))) z1 f1)
+      (ap₂ (λ (u v : ℕ). set oc k (chosen u v (getD oc k 0))) z1 c1)
+      (ap (λ (m : ℕ). k + m) z1)
+    where
+      clash : {B : Type 0} → _≡_ {A = Ordering} Ordering·gt Ordering·eq → B
+      clash e = absurd (let w : _≡_ {A = ℕ} 0 1 = cc in omega arith)
+
+  turned-less : cmp (x .mono) (y .mono) ≡ Ordering·lt → Turned
+  unfolding Turned
+  turned-less h =
+      let l0 : l ≡ 0 = by-cmp Ordering·lt h in
+      let q0 : q ≡ 0 = unlike (λ e. clash (sym h ∙ e)) in
+      let f0 : l + q ≡ 0 = omega arith in
+      let g1 : 1 - l ≡ 1 = omega arith in
+      let c1 : c ≡ y .coef = ec ∙ (ap₂ (λ (f g : ℕ). (chosen f (x .coef) 0 + chosen g (y .coef) 0) % p) f0 g1 ∙ (ap (λ (m : ℕ). m % p) (zero-add (y .coef)) ∙ mod-eq-of-lt (hy .1))) in
+      let z1 : z ≡ 1 = stored-flag (λ e. let w : ⊥ = omega (arith, hy .0) in w) in
+      same-state (after-less s O x y (drop (i + 1) L) (drop (j + 1) R) ex ey h)
+      (ap (λ (m : ℕ). drop (i + m) L) f0 ∙ ap (λ (m : ℕ). drop m L) (add-zero i)) (ap (λ (m : ℕ). drop (j + m) R) g1)
+      (ap₂ (λ (u v : ℕ). set ow k (chosen u (chosen v (x .mono) (y .mono)) (getD ow k 0))) z1 f0)
+      (ap₂ (λ (u v : ℕ). set oc k (chosen u v (getD oc k 0))) z1 c1)
+      (ap (λ (m : ℕ). k + m) z1)
+    where
+      clash : {B : Type 0} → _≡_ {A = Ordering} Ordering·lt Ordering·eq → B
+      clash e = absurd (let w : _≡_ {A = ℕ} 0 1 = cc in omega arith)
+
+  turned-same : cmp (x .mono) (y .mono) ≡ Ordering·eq → Turned
+  unfolding Turned
+  turned-same h = go (decLe c 0)
+    where
+      l0 : l ≡ 0
+      l0 = by-cmp Ordering·eq h
+
+      q1 : q ≡ 1
+      q1 = eq ∙ ap flag (eq-eqb (x .mono) (y .mono) (O .same (x .mono) (y .mono) h))
+
+      f1 : l + q ≡ 1
+      f1 = ap₂ (λ (a b : ℕ). a + b) l0 q1
+
+      g1 : 1 - l ≡ 1
+      g1 = ap (λ (a : ℕ). 1 - a) l0
+
+      c1 : c ≡ (x .coef + y .coef) % p
+      c1 = ec ∙ ap₂ (λ (f g : ℕ). (chosen f (x .coef) 0 + chosen g (y .coef) 0) % p) f1 g1
+
+      go : Dec (c ≤ 0) → Turned
+      go (no u) =
+          let ne : c ≡ 0 → ⊥ = λ e. let w : ⊥ = omega arith in w in
+          let z1 : z ≡ 1 = stored-flag ne in
+          same-state (after-sum s O x y (drop (i + 1) L) (drop (j + 1) R) ex ey h c c1 ne)
+          (ap (λ (m : ℕ). drop (i + m) L) f1) (ap (λ (m : ℕ). drop (j + m) R) g1)
+          (ap₂ (λ (u v : ℕ). set ow k (chosen u (chosen v (x .mono) (y .mono)) (getD ow k 0))) z1 f1)
+          (ap (λ (u : ℕ). set oc k (chosen u c (getD oc k 0))) z1)
+          (ap (λ (m : ℕ). k + m) z1)
+      go (yes u) =
+          let c0 : c ≡ 0 = omega arith in
+          let z0 : z ≡ 0 = ez ∙ ap (λ (b : Bool). flag (not b)) (eq-eqb c 0 c0) in
+          same-state (after-cancel s O x y (drop (i + 1) L) (drop (j + 1) R) ex ey h (sym c0 ∙ c1))
+          (ap (λ (m : ℕ). drop (i + m) L) f1) (ap (λ (m : ℕ). drop (j + m) R) g1)
+          (ap (λ (u : ℕ). set ow k (chosen u (chosen (l + q) (x .mono) (y .mono)) (getD ow k 0))) z0 ∙ set-getD ow k 0)
+          (ap (λ (u : ℕ). set oc k (chosen u c (getD oc k 0))) z0 ∙ set-getD oc k 0)
+          (ap (λ (m : ℕ). k + m) z0 ∙ add-zero k)
+
+  -- what the code stores is what the flags choose
+  pub turn : (w v : ℕ) → w ≡ chosen z (chosen (l + q) (x .mono) (y .mono)) (getD ow k 0) → v ≡ chosen z c (getD oc k 0) → State cmp p M N to ow₀ oc₀ (drop (i + (l + q)) L) (drop (j + (1 - l)) R) (set ow k w) (set oc k v) (k + z) (n + 1)
+  unfolding Turned
+  turn w v ew ev = same-state (go (stands cmp (x .mono) (y .mono))) refl refl (ap (set ow k) ew) (ap (set oc k) ev) refl
+    where
+      go : Stands cmp (x .mono) (y .mono) → Turned
+      go (less h) = turned-less h
+      go (same h) = turned-same h
+      go (more h) = turned-more h
+
+-- no monomial is both larger than another and like it
+pub one-flag : (cmp : ℕ → ℕ → Ordering) → TotalOrder ℕ cmp → (a b l q : ℕ) → l ≡ flag (isLarger (cmp a b)) → q ≡ flag (eqb a b) → l + q ≤ 1
+one-flag cmp O a b l q el eq = go (eqb a b) refl (isLarger (cmp a b)) refl
+  where
+    go : (t : Bool) → eqb a b ≡ t → (u : Bool) → isLarger (cmp a b) ≡ u → l + q ≤ 1
+    go false et u eu = omega (arith, el, eq ∙ ap flag et, flag-small (isLarger (cmp a b)))
+    go true et u eu = omega (arith, el ∙ ap (λ (t : Ordering). flag (isLarger t)) (ap (cmp a) (sym (eqb-true a b et)) ∙ O .like a), eq ∙ ap flag et)
+
+module _ {cmp : ℕ → ℕ → Ordering} {p : ℕ} {M : List (Term ℕ)} {N to : ℕ} {ow₀ oc₀ : List ℕ} {xs ys : List (Term ℕ)} {ow oc : List ℕ} {k n : ℕ} (s : State cmp p M N to ow₀ oc₀ xs ys ow oc k n) where
+  -- the rest is put from k on
+  rest-put : (f : Term ℕ → ℕ) (l o : List ℕ) → o ≡ sets l to (map f (s .done)) → sets o k (map f (merge cmp p xs ys)) ≡ sets l to (map f M)
+  rest-put f l o q =
+      ap (λ (x : List ℕ). sets x k (map f (merge cmp p xs ys))) q
+      ∙ (ap (λ (m : ℕ). sets (sets l to (map f (s .done))) m (map f (merge cmp p xs ys))) (sym (s .at) ∙ ap (λ (m : ℕ). to + m) (sym (length-map (s .done) f)))
+      ∙ (sym (sets-append l to (map f (s .done)) (map f (merge cmp p xs ys)))
+      ∙ ap (sets l to) (sym (map-append f (s .done) (merge cmp p xs ys)) ∙ ap (map f) (s .whole))))
+
+  pub end-words : sets ow k (words (merge cmp p xs ys)) ≡ sets ow₀ to (words M)
+  end-words = rest-put (λ t. t .mono) ow₀ ow (s .words-are)
+
+  pub end-coefs : sets oc k (coefs (merge cmp p xs ys)) ≡ sets oc₀ to (coefs M)
+  end-coefs = rest-put (λ t. t .coef) oc₀ oc (s .coefs-are)
+
+  pub end-length : k + length (merge cmp p xs ys) ≡ to + length M
+  end-length = omega (arith, s .at, length-append (s .done) (merge cmp p xs ys), ap length (s .whole))
+
+  pub end-count : (xs ≡ []) ⊎ (ys ≡ []) → n ≡ N
+  end-count e = omega (arith, s .count, count-used cmp xs ys e)
+
+-- where one list is used up, the merge is the other
+merge-rest : (cmp : ℕ → ℕ → Ordering) (p : ℕ) (f : Term ℕ → ℕ) (xs ys : List (Term ℕ)) → (xs ≡ []) ⊎ (ys ≡ []) → map f (merge cmp p xs ys) ≡ restOf (map f xs) (map f ys)
+unfolding merge into
+merge-rest cmp p f [] ys e = refl
+merge-rest cmp p f (x ∷ xs) [] e = refl
+merge-rest cmp p f (x ∷ xs) (y ∷ ys) (inl e) = absurd (let z : _≡_ {A = ℕ} 0 1 = cc in omega arith)
+merge-rest cmp p f (x ∷ xs) (y ∷ ys) (inr e) = absurd (let z : _≡_ {A = ℕ} 0 1 = cc in omega arith)
+
+-- ---- the rest of two pairs of slices
+words-left : (ws cs : List ℕ) (i : ℕ) → length cs ≡ length ws → words (drop i (terms ws cs)) ≡ drop i ws
+words-left ws cs i e = map-drop (λ t. t .mono) i (terms ws cs) ∙ ap (drop i) (words-terms ws cs e)
+
+coefs-left : (ws cs : List ℕ) (i : ℕ) → length cs ≡ length ws → coefs (drop i (terms ws cs)) ≡ drop i cs
+coefs-left ws cs i e = map-drop (λ t. t .coef) i (terms ws cs) ∙ ap (drop i) (coefs-terms ws cs e)
+
+module _ (aw ac bw bc : List ℕ) (i j : ℕ) (ea : length ac ≡ length aw) (eb : length bc ≡ length bw) (u : (length aw ≤ i) ⊎ (length bw ≤ j)) where
+  pub used-up : (drop i (terms aw ac) ≡ []) ⊎ (drop j (terms bw bc) ≡ [])
+  used-up = ⊎-elim (λ h. inl (drop-of-length-le (terms aw ac) {i = i} (omega (arith, length-terms aw ac ea)))) (λ h. inr (drop-of-length-le (terms bw bc) {i = j} (omega (arith, length-terms bw bc eb)))) u
+
+  pub rest-words : (cmp : ℕ → ℕ → Ordering) (p : ℕ) → restOf (drop i aw) (drop j bw) ≡ words (merge cmp p (drop i (terms aw ac)) (drop j (terms bw bc)))
+  rest-words cmp p = sym (merge-rest cmp p (λ t. t .mono) (drop i (terms aw ac)) (drop j (terms bw bc)) used-up ∙ ap₂ restOf (words-left aw ac i ea) (words-left bw bc j eb))
+
+  pub rest-coefs : (cmp : ℕ → ℕ → Ordering) (p : ℕ) → restOf (drop i ac) (drop j bc) ≡ coefs (merge cmp p (drop i (terms aw ac)) (drop j (terms bw bc)))
+  rest-coefs cmp p = sym (merge-rest cmp p (λ t. t .coef) (drop i (terms aw ac)) (drop j (terms bw bc)) used-up ∙ ap₂ restOf (coefs-left aw ac i ea) (coefs-left bw bc j eb))
+
+-- ---- an operand in the slices that the result is written to
+
+-- an operand's number stands where it stood, if the place is not one of those written
+pub stays : (f : Term ℕ → ℕ) (l o : List ℕ) (to : ℕ) (ts : List (Term ℕ)) (from len i k : ℕ) → o ≡ sets l to (map f ts) → to + length ts ≡ k → i < len → (from + i < to) ⊎ (k ≤ from + i)
+    → getD (part from len l) i 0 ≡ getD o (from + i) 0
+stays f l o to ts from len i k q e h out =
+    getD-part from len l i h
+    ∙ sym (ap (λ (x : List ℕ). getD x (from + i) 0) q ∙ getD-sets-other l to (map f ts) (from + i) (⊎-elim (λ u. inl u) (λ u. inr (omega (arith, length-map ts f))) out))
+
+-- what is left of the operand begins with the term that stands in the slices now
+pub lead-within : {cmp : ℕ → ℕ → Ordering} {p : ℕ} {M : List (Term ℕ)} {N to : ℕ} {xs ys : List (Term ℕ)} {k n : ℕ} (ww₀ wc₀ ww wc : List ℕ) (from len i : ℕ)
+    → State cmp p M N to ww₀ wc₀ xs ys ww wc k n
+    → from + len ≤ length ww₀ → from + len ≤ length wc₀ → i < len → (from + i < to) ⊎ (k ≤ from + i)
+    → drop i (terms (part from len ww₀) (part from len wc₀)) ≡ term (getD ww (from + i) 0) (getD wc (from + i) 0) ∷ drop (i + 1) (terms (part from len ww₀) (part from len wc₀))
+lead-within {to} {k} ww₀ wc₀ ww wc from len i s hw hc h out =
+    let lw : length (part from len ww₀) ≡ len = length-part from len ww₀ hw in
+    let lc : length (part from len wc₀) ≡ len = length-part from len wc₀ hc in
+    lead-at (part from len ww₀) (part from len wc₀) i (lc ∙ sym lw) (omega arith)
+    ∙ ap₂ (λ (w c : ℕ). term w c ∷ drop (i + 1) (terms (part from len ww₀) (part from len wc₀)))
+    (stays (λ t. t .mono) ww₀ ww to (s .done) from len i k (s .words-are) (s .at) h out) (stays (λ t. t .coef) wc₀ wc to (s .done) from len i k (s .coefs-are) (s .at) h out)
+
+-- what is left of the operand, read where it stands now
+pub part-within : (f : Term ℕ → ℕ) (l o : List ℕ) (to : ℕ) (ts : List (Term ℕ)) (from len i k : ℕ) → o ≡ sets l to (map f ts) → to + length ts ≡ k → from + len ≤ length l → i ≤ len → (from + len ≤ to) ⊎ (k ≤ from + i)
+    → part (from + i) (len - i) o ≡ drop i (part from len l)
+part-within f l o to ts from len i k q e h hi out =
+    let vs : List ℕ = map f ts in
+    let lv : length vs ≡ length ts = length-map ts f in
+    let lo : length o ≡ length l = ap length q ∙ length-sets l to vs in
+    let lp : length (part (from + i) (len - i) o) ≡ len - i = length-part (from + i) (len - i) o (omega arith) in
+    ext-getD 0 (part (from + i) (len - i) o) (drop i (part from len l))
+    (omega (arith, length-drop i (part from len l), length-part from len l h))
+    (λ t b.
+    getD-part (from + i) (len - i) o t (omega arith)
+    ∙ (ap (λ (x : List ℕ). getD x (from + i + t) 0) q
+    ∙ (getD-sets-other l to vs (from + i + t) (⊎-elim (λ u. inl (omega arith)) (λ u. inr (omega arith)) out)
+    ∙ (ap (λ (m : ℕ). getD l m 0) (add-assoc from i t)
+    ∙ sym (getD-drop i (part from len l) t 0 ∙ getD-part from len l (i + t) (omega arith))))))
+
+-- what holds of each term holds of the one at a place
+pub all-at : (P : Term ℕ → Type 0) (ts : List (Term ℕ)) (i : ℕ) (d : Term ℕ) → All P ts → i < length ts → P (getD ts i d)
+all-at P [] i d a h = absurd (let z : ⊥ = omega arith in z)
+all-at P (t ∷ ts) zero d a h = a .0
+all-at P (t ∷ ts) (suc i) d a h = all-at P ts i d (a .1) (let k : i < length ts = omega arith in k)

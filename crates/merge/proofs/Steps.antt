@@ -1,0 +1,126 @@
+-- Steps of the merges and of the multiple, on plain numbers. Assumes nothing.
+use mathlib.Core.Path.{_≡_, refl, sym, ap, ap₂, _∙_, subst}
+use mathlib.Core.Bool.{Bool, true, false, not, _||_}
+use mathlib.Core.List.{List, [], _∷_, map}
+use Prim.Native.Nat.{ℕ, zero, suc, _+_, _-_, _*_, _%_, _^_, _<_, _≤_}
+use native.Mathlib.Nat.{mul-one, mul-zero}
+use native.Mathlib.Numerals.{add-one}
+use native.Mathlib.Omega.{arith}
+use borrow.Author.Tests.{lt-ltb, le-ltb}
+use lib.Dec.{ltb}
+use lib.ListN.{length, getD, drop, set, length-set, drop-of-length-le}
+use lib.Seq.{drop-cons}
+use Rattle.monomial.specs.declared.order.Order.{Order}
+use Rattle.monomial.specs.declared.word.Product.{Product}
+use Rattle.monomial.specs.declared.word.Product.the-variants.{Word, Over}
+use Rattle.monomial.specs.Exponents.{product}
+use Rattle.monomial.specs.Layout.{bytes, below}
+use Rattle.monomial.specs.Words.{compareWords, keyOf, Packed, productBy}
+use Rattle.polynomial.specs.Terms.{Term, term, terms, words, coefs}
+use Rattle.polynomial.specs.Multiple.{multiple}
+use Rattle.polynomial.specs.Opening.{isLarger}
+use Rattle.polynomial.proofs.OpeningLaws.{larger-key}
+use Rattle.polynomial.proofs.TermLists.{length-terms, term-at}
+use Rattle.merge.specs.Lent.{Poly, flag, chosen}
+use Rattle.merge.specs.Multiplying.{AllPacked, anyOver}
+use Rattle.merge.proofs.State.{all-at, flag-small}
+
+-- ---- the choice by a flag
+pub choose-fits : (f x : ℕ) → f ≤ 1 → (x * f ≤ x) × (x * (1 - f) ≤ x) × (x * f + x * (1 - f) ≡ x)
+choose-fits zero x h = (omega (arith, mul-zero x), omega (arith, mul-one x), omega (arith, mul-zero x, mul-one x))
+choose-fits (suc zero) x h = (omega (arith, mul-one x), omega (arith, mul-zero x), omega (arith, mul-zero x, mul-one x))
+choose-fits (suc (suc f)) x h = absurd (let z : ⊥ = omega arith in z)
+
+pub choose-is : (f x y : ℕ) → f ≤ 1 → x * f + y * (1 - f) ≡ chosen f x y
+choose-is zero x y h = omega (arith, mul-zero x, mul-one y)
+choose-is (suc zero) x y h = omega (arith, mul-one x, mul-zero y)
+choose-is (suc (suc f)) x y h = absurd (let z : ⊥ = omega arith in z)
+
+pub choose-below : (f x y b : ℕ) → f ≤ 1 → x < b → y < b → x * f + y * (1 - f) < b
+choose-below f x y b h hx hy = subst (λ (n : ℕ). n < b) (sym (choose-is f x y h)) (go f)
+  where
+    go : (g : ℕ) → chosen g x y < b
+    go zero = hy
+    go (suc g) = hx
+
+-- ---- the larger lead, by keys
+pub larger-flag : (o : Order) (x y a b : ℕ) → x < 2 ^ 64 → y < 2 ^ 64 → a ≡ keyOf o y → b ≡ keyOf o x → flag (ltb a b) ≡ flag (isLarger (compareWords o x y))
+larger-flag o x y a b hx hy ea eb = ap flag (ap₂ ltb ea eb ∙ sym (larger-key o x y hx hy))
+
+pub flag-is : (b : Bool) → (flag b ≡ flag b) × (flag b ≤ 1)
+flag-is b = (refl, flag-small b)
+
+-- ---- a coefficient of a lent polynomial
+pub coef-within : (p : ℕ) (ws cs : List ℕ) → Poly p ws cs → (i : ℕ) → i < length ws → (0 < getD cs i 0) × (getD cs i 0 < p)
+coef-within p ws cs h i k =
+    subst (λ (t : Term ℕ). (0 < t .coef) × (t .coef < p)) (term-at ws cs i (h .long))
+    (all-at (λ t. (0 < t .coef) × (t .coef < p)) (terms ws cs) i (term 0 0) (h .reduced) (let l : i < length (terms ws cs) = omega (arith, length-terms ws cs (h .long)) in l))
+
+pub coef-below : (p : ℕ) (ws cs : List ℕ) → Poly p ws cs → (i : ℕ) → i < length ws → getD cs i 0 < p
+coef-below p ws cs h i k = coef-within p ws cs h i k .1
+
+-- a coefficient that is taken, or 0
+pub chosen-below : (f c p : ℕ) → 0 < p → c < p → chosen f c 0 < p
+chosen-below zero c p h k = h
+chosen-below (suc f) c p h k = k
+
+-- ---- the bounds that both loops keep: i and j terms are read, k is the next place, n comparisons are made
+pub record Bounds (la lb to lw lc i j k n l-ow l-oc : ℕ) : Type 0 where
+  pub in-a : i ≤ la
+  pub in-b : j ≤ lb
+  pub low : to ≤ k
+  pub place : k ≤ to + (i + j)
+  pub made : n ≤ i + j
+  pub words-len : l-ow ≡ lw
+  pub coefs-len : l-oc ≡ lc
+
+-- a turn uses up f and g terms, at least one, and stores z
+pub next-bounds : {la lb to lw lc i j k n : ℕ} (ow oc : List ℕ) (w v l q z : ℕ) → Bounds la lb to lw lc i j k n (length ow) (length oc) → i < la → j < lb → l + q ≤ 1 → z ≤ 1
+    → Bounds la lb to lw lc (i + (l + q)) (j + (1 - l)) (k + z) (n + 1) (length (set ow k w)) (length (set oc k v))
+next-bounds ow oc w v l q z b hi hj hl hz = simp length-set (omega arith)
+
+-- ---- products that go over
+pub fits-word : (b : Bool) (w x : ℕ) (r : Product) → r ≡ productBy b w → r ≡ Word x → false ≡ not b
+fits-word true w x r e k = refl
+fits-word false w x r e k = let z : _≡_ {A = ℕ} 0 1 = cc in absurd (let q : ⊥ = omega arith in q)
+
+pub over-word : (b : Bool) (w : ℕ) (r : Product) → r ≡ productBy b w → r ≡ Over → true ≡ not b
+over-word true w r e k = let z : _≡_ {A = ℕ} 0 1 = cc in absurd (let q : ⊥ = omega arith in q)
+over-word false w r e k = refl
+
+pub packed-at : (ws : List ℕ) (i : ℕ) → AllPacked ws → i < length ws → Packed (getD ws i 0)
+packed-at [] i a h = absurd (let z : ⊥ = omega arith in z)
+packed-at (w ∷ ws) zero a h = a .0
+packed-at (w ∷ ws) (suc i) a h = packed-at ws i (a .1) (let k : i < length ws = omega arith in k)
+
+-- the first i products do not go over
+pub record Sound (q : ℕ) (ws : List ℕ) (i : ℕ) : Type 0 where
+  pub low : i ≤ length ws
+  pub rest : anyOver q (drop i ws) ≡ anyOver q ws
+
+module _ (q : ℕ) (ws : List ℕ) (i : ℕ) (s : Sound q ws i) (h : i < length ws) where
+  at-word : (r : Bool) → r ≡ not (below 128 (product (bytes 6 q) (bytes 6 (getD ws i 0)))) → (r || anyOver q (drop (suc i) ws)) ≡ anyOver q ws
+  unfolding anyOver
+  at-word r e = ap (λ (t : Bool). t || anyOver q (drop (suc i) ws)) e ∙ (sym (ap (anyOver q) (drop-cons ws i 0 h)) ∙ s .rest)
+
+  pub sound-stop : (r : Bool) → r ≡ not (below 128 (product (bytes 6 q) (bytes 6 (getD ws i 0)))) → r ≡ true → true ≡ anyOver q ws
+  sound-stop r e t = sym (ap (λ (b : Bool). b || anyOver q (drop (suc i) ws)) t) ∙ at-word r e
+
+  pub sound-more : (r : Bool) → r ≡ not (below 128 (product (bytes 6 q) (bytes 6 (getD ws i 0)))) → r ≡ false → Sound q ws (i + 1)
+  sound-more r e t = record { low = omega arith; rest = ap (λ (n : ℕ). anyOver q (drop n ws)) (add-one i) ∙ (sym (ap (λ (b : Bool). b || anyOver q (drop (suc i) ws)) t) ∙ at-word r e) }
+
+pub sound-all : (q : ℕ) (ws : List ℕ) (i : ℕ) → Sound q ws i → length ws ≤ i → false ≡ anyOver q ws
+unfolding anyOver
+sound-all q ws i s h = sym (ap (anyOver q) (drop-of-length-le ws {i = i} h)) ∙ s .rest
+
+-- ---- the multiple, as two lists
+pub words-multiple : (p c q : ℕ) (ws cs : List ℕ) → length cs ≡ length ws → words (multiple (λ x y. x + y) p c q (terms ws cs)) ≡ map (λ w. q + w) ws
+words-multiple p c q [] cs e = refl
+words-multiple p c q (w ∷ ws) [] e = absurd (let z : ⊥ = omega arith in z)
+words-multiple p c q (w ∷ ws) (k ∷ cs) e = ap (λ (l : List ℕ). (q + w) ∷ l) (words-multiple p c q ws cs (let h : length cs ≡ length ws = omega arith in h))
+
+pub coefs-multiple : (p c q : ℕ) (ws cs : List ℕ) → length cs ≡ length ws → coefs (multiple (λ x y. x + y) p c q (terms ws cs)) ≡ map (λ k. c * k % p) cs
+coefs-multiple p c q [] [] e = refl
+coefs-multiple p c q [] (k ∷ cs) e = absurd (let z : ⊥ = omega arith in z)
+coefs-multiple p c q (w ∷ ws) [] e = absurd (let z : ⊥ = omega arith in z)
+coefs-multiple p c q (w ∷ ws) (k ∷ cs) e = ap (λ (l : List ℕ). (c * k % p) ∷ l) (coefs-multiple p c q ws cs (let h : length cs ≡ length ws = omega arith in h))

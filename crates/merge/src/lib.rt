@@ -1,0 +1,5 @@
+// The merge of two polynomials and the multiple of one by a term, on lent slices.
+pub mod copy; // parts of slices, put and moved
+pub mod merging; // the merge of two lent polynomials
+pub mod multiple; // the multiple by a term
+pub mod within; // the merge within one work space

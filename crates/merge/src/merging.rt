@@ -1,0 +1,106 @@
+// The merge of two lent polynomials into a lent output.
+use crate::copy::put_coefs;
+use crate::copy::put_words;
+use crate::copy::rest_coefs;
+use crate::copy::rest_words;
+use monomial::order::Order;
+use residue::arithmetic::add;
+ghost use mathlib.Core.Path.{_≡_};
+ghost use mathlib.Core.Bool.{not};
+ghost use Prim.Native.Nat.{_≤_};
+ghost use lib.Dec.{eqb};
+ghost use Rattle.monomial.specs.Words.{compareWords};
+ghost use Rattle.polynomial.specs.Terms.{terms};
+ghost use Rattle.polynomial.specs.Opening.{isLarger};
+ghost use Rattle.merge.specs.Lent.{flag, chosen};
+ghost use Rattle.merge.specs.Merging.{Sides, Made};
+
+// What a merge made: the terms of the result, and the comparisons.
+pub struct Merged {
+    pub len: usize,
+    pub comparisons: u64,
+}
+
+// Merges the polynomials a and b into the first places of the output. Which lead is larger, and
+// whether like terms cancel, cannot be foreseen, so that a turn has no branch: it goes by flags, and
+// a sum that is 0 leaves its place as it was.
+pub fn merge<'a>(
+    order: Order,
+    p: u32,
+    aw: &'a [u64],
+    ac: &'a [u32],
+    bw: &'a [u64],
+    bc: &'a [u32],
+    ow: &mut [u64],
+    oc: &mut [u32],
+) -> Merged
+    requires { ⌜ Sides p (now aw) (now ac) (now bw) (now bc) (now ow) (now oc) ⌝ }
+    ensures { λ r. ⌜ Made (compareWords order) p (terms (now (aw .entry)) (now (ac .entry))) (terms (now (bw .entry)) (now (bc .entry))) 0 (now (ow .entry)) (now (oc .entry)) (now (ow .exit)) (now (oc .exit)) (r .len) (r .comparisons) ⌝ }
+{
+    let mut i = 0;
+    let mut j = 0;
+    let mut k = 0;
+    let mut n: u64 = 0;
+    while i < aw.len() && j < bw.len() {
+        let x = aw[i];
+        let y = bw[j];
+        let l = larger(order, x, y);
+        let f = l + like(x, y);
+        let g = 1 - l;
+        let s = add(choose_coef(f, ac[i], 0), choose_coef(g, bc[j], 0), p);
+        let z = not_zero(s);
+        ow[k] = choose_word(z, choose_word(f, x, y), ow[k]);
+        oc[k] = choose_coef(z, s, oc[k]);
+        i += f;
+        j += g;
+        k += z;
+        n += 1;
+    }
+    let tw = rest_words(aw, i, bw, j);
+    let tc = rest_coefs(ac, i, bc, j);
+    put_words(tw, ow, k);
+    put_coefs(tc, oc, k);
+    Merged {
+        len: k + tw.len(),
+        comparisons: n,
+    }
+}
+
+// 1 where the monomial x is larger than y, and else 0.
+pub fn larger(order: Order, x: u64, y: u64) -> usize
+    ensures { λ r. ⌜ (r ≡ flag (isLarger (compareWords order x y))) × (r ≤ 1) ⌝ }
+{
+    (order.key(y) < order.key(x)) as usize
+}
+
+// 1 where the two are the same monomial, and else 0.
+pub fn like(x: u64, y: u64) -> usize
+    ensures { λ r. ⌜ (r ≡ flag (eqb x y)) × (r ≤ 1) ⌝ }
+{
+    (x == y) as usize
+}
+
+// 1 where the coefficient is not 0, and else 0.
+pub fn not_zero(c: u32) -> usize
+    ensures { λ r. ⌜ (r ≡ flag (not (eqb c 0))) × (r ≤ 1) ⌝ }
+{
+    (c != 0) as usize
+}
+
+// x for the flag 1, and y for 0.
+pub fn choose_word(f: usize, x: u64, y: u64) -> u64
+    requires { ⌜ f ≤ 1 ⌝ }
+    ensures { λ r. ⌜ r ≡ chosen f x y ⌝ }
+{
+    let g = f as u64;
+    x * g + y * (1 - g)
+}
+
+// The same for coefficients.
+pub fn choose_coef(f: usize, x: u32, y: u32) -> u32
+    requires { ⌜ f ≤ 1 ⌝ }
+    ensures { λ r. ⌜ r ≡ chosen f x y ⌝ }
+{
+    let g = f as u32;
+    x * g + y * (1 - g)
+}
