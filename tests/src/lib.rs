@@ -1,6 +1,15 @@
-//! A second program for what the proved crates compute. `monomial` and `residue` are plain models,
-//! written from document 01 alone; `probe` calls the proved functions.
+//! A second program for what the proved crates compute. `monomial`, `residue` and `polynomial` are
+//! plain models, written from document 01 alone; `probe` calls the proved functions.
 pub mod monomial;
+pub mod polynomial;
 pub mod probe;
 pub mod random;
 pub mod residue;
+
+/// How many cases a group of generated tests has: the variable SECOND_CASES, or 50,000.
+pub fn cases() -> u64 {
+    match std::env::var("SECOND_CASES") {
+        Ok(text) => text.parse().expect("SECOND_CASES is a number"),
+        Err(_) => 50_000,
+    }
+}

@@ -1,5 +1,6 @@
 //! The proved functions, through the static library `probe`.
-use crate::monomial::{Order, FIELDS};
+use crate::monomial::{Order, FIELDS, LIMIT};
+use crate::residue;
 use std::cmp::Ordering;
 
 /// The answer on words that are not taken.
@@ -17,6 +18,21 @@ pub const NO_EXPONENT: u32 = 256;
 /// The answer of `divides` on words that are not packed.
 pub const NOT_PACKED: u32 = 2;
 
+/// The answer of `check` for over 6 variables or unequal lengths.
+pub const NOT_CHECKED: u32 = u32::MAX;
+
+/// The answers for a word and a coefficient that a part does not have.
+pub const NO_WORD: u64 = u64::MAX;
+pub const NO_COEF: u32 = u32::MAX;
+
+/// What a merge made: the terms of the result, and the comparisons.
+#[repr(C)]
+#[derive(Clone, Copy, Debug, PartialEq, Eq)]
+pub struct Counts {
+    pub len: usize,
+    pub comparisons: u64,
+}
+
 extern "C" {
     fn probe_key(order: u32, w: u64) -> u64;
     fn probe_compare(order: u32, x: u64, y: u64) -> u32;
@@ -33,10 +49,82 @@ extern "C" {
     fn probe_multiply_residues(a: u32, b: u32, p: u32) -> u32;
     fn probe_factor_times(a: u32, b: u32, p: u32) -> u32;
     fn probe_invert(a: u32, p: u32) -> u32;
+    fn probe_check(
+        order: u32,
+        n: u32,
+        p: u32,
+        words: *const u64,
+        words_len: usize,
+        coefs: *const u32,
+        coefs_len: usize,
+    ) -> u32;
+    fn probe_starts_good(starts: *const usize, starts_len: usize, len: usize) -> bool;
+    fn probe_part_word(
+        words: *const u64,
+        words_len: usize,
+        starts: *const usize,
+        starts_len: usize,
+        k: usize,
+        i: usize,
+    ) -> u64;
+    fn probe_part_coef(
+        coefs: *const u32,
+        coefs_len: usize,
+        starts: *const usize,
+        starts_len: usize,
+        k: usize,
+        i: usize,
+    ) -> u32;
+    fn probe_merge(
+        order: u32,
+        p: u32,
+        aw: *const u64,
+        aw_len: usize,
+        ac: *const u32,
+        ac_len: usize,
+        bw: *const u64,
+        bw_len: usize,
+        bc: *const u32,
+        bc_len: usize,
+        ow: *mut u64,
+        ow_len: usize,
+        oc: *mut u32,
+        oc_len: usize,
+    ) -> Counts;
+    fn probe_merge_within(
+        order: u32,
+        p: u32,
+        ww: *mut u64,
+        ww_len: usize,
+        wc: *mut u32,
+        wc_len: usize,
+        from: usize,
+        len: usize,
+        to: usize,
+        bw: *const u64,
+        bw_len: usize,
+        bc: *const u32,
+        bc_len: usize,
+    ) -> Counts;
+    fn probe_any_over(q: u64, words: *const u64, words_len: usize) -> bool;
+    fn probe_put_multiple(
+        p: u32,
+        c: u32,
+        q: u64,
+        words: *const u64,
+        words_len: usize,
+        coefs: *const u32,
+        coefs_len: usize,
+        ow: *mut u64,
+        ow_len: usize,
+        oc: *mut u32,
+        oc_len: usize,
+        to: usize,
+    );
 }
 
-// SAFETY of each call below: the function takes every number, reads a slice only within its length,
-// and keeps no reference.
+// SAFETY of each call below: the function takes every number, or those that are tested first, stays
+// within the length of each slice, and keeps no reference.
 
 pub fn key(order: Order, w: u64) -> u64 {
     unsafe { probe_key(order.number(), w) }
@@ -110,4 +198,151 @@ pub fn factor_times(a: u32, b: u32, p: u32) -> u32 {
 
 pub fn invert(a: u32, p: u32) -> u32 {
     unsafe { probe_invert(a, p) }
+}
+
+/// A lent polynomial: words and coefficients.
+pub type Lent<'a> = (&'a [u64], &'a [u32]);
+
+/// A lent output.
+pub type LentMut<'a> = (&'a mut [u64], &'a mut [u32]);
+
+/// What every merge and multiple asks of a modulus and a polynomial.
+fn ask_polynomial(p: u32, (words, coefs): Lent) {
+    assert!((2..=residue::LIMIT).contains(&p), "not a modulus");
+    assert_eq!(words.len(), coefs.len());
+    assert!(coefs.iter().all(|c| (1..p).contains(c)), "not reduced");
+}
+
+/// That `len` places from `from` on are within `size`.
+fn ask_room(from: usize, len: usize, size: usize) {
+    assert!(from.checked_add(len).is_some_and(|end| end <= size));
+}
+
+/// What word arithmetic asks: no field's top bit is set, and bit 63 is not.
+fn ask_packed(w: u64) {
+    let fields = Order::DegRevLex.fields(w);
+    assert!(w >> 63 == 0 && fields.iter().all(|&e| e <= LIMIT));
+}
+
+pub fn check(order: Order, n: u32, p: u32, (words, coefs): Lent) -> u32 {
+    unsafe {
+        probe_check(
+            order.number(),
+            n,
+            p,
+            words.as_ptr(),
+            words.len(),
+            coefs.as_ptr(),
+            coefs.len(),
+        )
+    }
+}
+
+pub fn starts_good(starts: &[usize], len: usize) -> bool {
+    unsafe { probe_starts_good(starts.as_ptr(), starts.len(), len) }
+}
+
+/// Word i of polynomial k.
+pub fn part_word(words: &[u64], starts: &[usize], k: usize, i: usize) -> u64 {
+    let (from, len) = (starts.as_ptr(), starts.len());
+    unsafe { probe_part_word(words.as_ptr(), words.len(), from, len, k, i) }
+}
+
+/// Coefficient i of polynomial k.
+pub fn part_coef(coefs: &[u32], starts: &[usize], k: usize, i: usize) -> u32 {
+    let (from, len) = (starts.as_ptr(), starts.len());
+    unsafe { probe_part_coef(coefs.as_ptr(), coefs.len(), from, len, k, i) }
+}
+
+/// Merges a and b into the first places of the output.
+pub fn merge(order: Order, p: u32, a: Lent, b: Lent, (ow, oc): LentMut) -> Counts {
+    ask_polynomial(p, a);
+    ask_polynomial(p, b);
+    ask_room(a.0.len(), b.0.len(), ow.len());
+    ask_room(a.0.len(), b.0.len(), oc.len());
+    unsafe {
+        probe_merge(
+            order.number(),
+            p,
+            a.0.as_ptr(),
+            a.0.len(),
+            a.1.as_ptr(),
+            a.1.len(),
+            b.0.as_ptr(),
+            b.0.len(),
+            b.1.as_ptr(),
+            b.1.len(),
+            ow.as_mut_ptr(),
+            ow.len(),
+            oc.as_mut_ptr(),
+            oc.len(),
+        )
+    }
+}
+
+/// Merges the `len` terms at `from` of the work space with b, to `to` on.
+pub fn merge_within(
+    order: Order,
+    p: u32,
+    (ww, wc): LentMut,
+    [from, len, to]: [usize; 3],
+    b: Lent,
+) -> Counts {
+    ask_polynomial(p, b);
+    let size = ww.len().min(wc.len());
+    ask_room(from, len, size);
+    let most = len + b.0.len();
+    ask_room(to, most, size);
+    ask_polynomial(p, (&ww[from..from + len], &wc[from..from + len]));
+    assert!(from + len <= to || to + most <= from, "not apart");
+    unsafe {
+        probe_merge_within(
+            order.number(),
+            p,
+            ww.as_mut_ptr(),
+            ww.len(),
+            wc.as_mut_ptr(),
+            wc.len(),
+            from,
+            len,
+            to,
+            b.0.as_ptr(),
+            b.0.len(),
+            b.1.as_ptr(),
+            b.1.len(),
+        )
+    }
+}
+
+/// Whether a product of the monomial q with one of the words has an exponent over 127.
+pub fn any_over(q: u64, words: &[u64]) -> bool {
+    ask_packed(q);
+    words.iter().for_each(|&w| ask_packed(w));
+    unsafe { probe_any_over(q, words.as_ptr(), words.len()) }
+}
+
+/// Puts the polynomial times c·q modulo p into the output from `to` on.
+pub fn put_multiple(p: u32, (c, q): (u32, u64), f: Lent, (ow, oc): LentMut, to: usize) {
+    ask_polynomial(p, f);
+    assert!(c < p, "not below the modulus");
+    ask_packed(q);
+    f.0.iter().for_each(|&w| ask_packed(w));
+    ask_room(to, f.0.len(), ow.len());
+    ask_room(to, f.0.len(), oc.len());
+    unsafe {
+        probe_put_multiple(
+            p,
+            c,
+            q,
+            f.0.as_ptr(),
+            f.0.len(),
+            f.1.as_ptr(),
+            f.1.len(),
+            ow.as_mut_ptr(),
+            ow.len(),
+            oc.as_mut_ptr(),
+            oc.len(),
+            to,
+        )
+    }
 }

@@ -19,7 +19,7 @@ pub fn add(a: u32, b: u32, p: u32) -> u32 {
 }
 
 pub fn negate(a: u32, p: u32) -> u32 {
-    modulo(u128::from(p) - u128::from(a), p)
+    modulo(u128::from(p - a % p), p)
 }
 
 pub fn multiply(a: u32, b: u32, p: u32) -> u32 {

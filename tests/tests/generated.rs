@@ -1,18 +1,11 @@
 //! Generated cases: the proved functions against the model. The variable SECOND_CASES sets how many
 //! cases each group has.
+use second::cases;
 use second::monomial::{divides, product, quotient, Order, FIELDS, LIMIT};
 use second::probe;
 use second::random::Random;
 use second::residue;
 use std::cmp::Ordering;
-
-/// How many cases a group has.
-fn cases() -> u64 {
-    match std::env::var("SECOND_CASES") {
-        Ok(text) => text.parse().expect("SECOND_CASES is a number"),
-        Err(_) => 50_000,
-    }
-}
 
 /// An exponent, often one of the ends.
 fn exponent(random: &mut Random) -> u8 {

@@ -11,12 +11,12 @@ use Rattle.polynomial.specs.Terms.{Term, term, All, Reduced, here, Under
 use Rattle.polynomial.specs.Merge.{keep, merge}
 use Rattle.polynomial.proofs.MergeLaws.{Stands, less, same, more, stands, along, turned-lt, turned-gt, under-more}
 
-here-zero : (t : Ordering) → here t 0 ≡ 0
+pub here-zero : (t : Ordering) → here t 0 ≡ 0
 here-zero Ordering·lt = refl
 here-zero Ordering·eq = refl
 here-zero Ordering·gt = refl
 
-here-sum : (p : ℕ) (t : Ordering) (a b : ℕ) → here t ((a + b) % p) % p ≡ (here t a + here t b) % p
+pub here-sum : (p : ℕ) (t : Ordering) (a b : ℕ) → here t ((a + b) % p) % p ≡ (here t a + here t b) % p
 here-sum p Ordering·lt a b = refl
 here-sum p Ordering·eq a b = mod-mod (a + b) p
 here-sum p Ordering·gt a b = refl
@@ -34,7 +34,7 @@ module _ {A : Type 0} (cmp : A → A → Ordering) where
   unfolding total
   total-cons m t ts = refl
 
-  total-keep : (m w : A) (c : ℕ) (ts : List (Term A)) → total cmp m (keep w c ts) ≡ here (cmp w m) c + total cmp m ts
+  pub total-keep : (m w : A) (c : ℕ) (ts : List (Term A)) → total cmp m (keep w c ts) ≡ here (cmp w m) c + total cmp m ts
   unfolding keep total
   total-keep m w zero ts = omega (arith, here-zero (cmp w m))
   total-keep m w (suc c) ts = refl

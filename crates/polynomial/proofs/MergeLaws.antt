@@ -95,7 +95,7 @@ unfolding keep
 length-keep m zero ts = omega arith
 length-keep m (suc c) ts = omega arith
 
-all-keep : {A : Type 0} (P : Term A → Type 0) (m : A) (c : ℕ) (ts : List (Term A)) → (0 < c → P (term m c)) → All P ts → All P (keep m c ts)
+pub all-keep : {A : Type 0} (P : Term A → Type 0) (m : A) (c : ℕ) (ts : List (Term A)) → (0 < c → P (term m c)) → All P ts → All P (keep m c ts)
 unfolding keep
 all-keep P m zero ts h a = a
 all-keep P m (suc c) ts h a = (h (omega arith), a)
@@ -158,7 +158,7 @@ pub count-right : {A : Type 0} (cmp : A → A → Ordering) (xs : List (Term A))
 count-right cmp xs = ap length (compared-nil cmp xs)
 
 -- ---- falling lists
-falling-keep : {A : Type 0} (cmp : A → A → Ordering) (m : A) (c : ℕ) (ts : List (Term A)) → Under cmp m ts → Falling cmp ts → Falling cmp (keep m c ts)
+pub falling-keep : {A : Type 0} (cmp : A → A → Ordering) (m : A) (c : ℕ) (ts : List (Term A)) → Under cmp m ts → Falling cmp ts → Falling cmp (keep m c ts)
 unfolding keep
 falling-keep cmp m zero ts u f = f
 falling-keep cmp m (suc c) ts u f = (u, f)

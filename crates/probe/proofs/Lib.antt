@@ -1,3 +1,4 @@
 pub mod Answering
+pub mod LendingLaws
 pub mod Moduli
 pub mod Packing

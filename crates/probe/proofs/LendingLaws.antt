@@ -1,0 +1,85 @@
+-- The tests before a polynomial is checked or a part of it is read, the merge in an order by its number, and the multiple by a prepared factor. Assumes nothing.
+use mathlib.Core.Path.{_≡_, refl, sym}
+use mathlib.Core.Bool.{true, false, _&&_}
+use mathlib.Core.List.{List, [], _∷_}
+use Prim.Native.Nat.{ℕ, zero, suc, _+_, _≤_, _<_}
+use native.Mathlib.Omega.{arith}
+use lib.Dec.{leb, ltb, eqb}
+use lib.ListN.{length, getD}
+use borrow.Author.Tests.{ltb-true, leb-true, eqb-true, lt-ltb, le-ltb, le-leb, lt-leb}
+use Rattle.residue.specs.declared.factor.Factor.{Factor}
+use Rattle.residue.specs.Share.{FactorOf}
+use Rattle.residue.proofs.Shoup.{prepared}
+use Rattle.monomial.specs.declared.order.Order.{Order}
+use Rattle.monomial.specs.Words.{compareWords}
+use Rattle.monomial.proofs.Places.{and-both}
+use Rattle.polynomial.specs.Terms.{Term}
+use Rattle.polynomial.specs.Opening.{Within, refusalOf}
+use Rattle.merge.specs.Merging.{Made}
+use Rattle.merge.specs.Multiplying.{Multiplicands, Multiplied}
+use Rattle.probe.specs.Lending.{checkable, partThere, Factors}
+
+module _ (n words coefs : ℕ) where
+  pub too-many : 6 < n → false ≡ checkable n words coefs
+  unfolding checkable
+  too-many h = rw (lt-leb n 6 h)
+
+  pub by-lengths : n ≤ 6 → eqb coefs words ≡ checkable n words coefs
+  unfolding checkable
+  by-lengths h = rw (le-leb n 6 h)
+
+  pub checkable-parts : checkable n words coefs ≡ true → (n ≤ 6) × (coefs ≡ words)
+  unfolding checkable
+  checkable-parts h =
+      let s = and-both (leb n 6) (eqb coefs words) h in (leb-true n 6 (s .0), eqb-true coefs words (s .1))
+
+module _ (starts : List ℕ) (k len : ℕ) where
+  pub no-start : length starts ≤ k + 1 → false ≡ partThere starts k len
+  unfolding partThere
+  no-start h = rw (le-ltb (k + 1) (length starts) h)
+
+  pub falls : k + 1 < length starts → getD starts (k + 1) 0 < getD starts k 0 → false ≡ partThere starts k len
+  unfolding partThere
+  falls h f = rw (lt-ltb (k + 1) (length starts) h, lt-leb (getD starts k 0) (getD starts (k + 1) 0) f)
+
+  pub by-end : k + 1 < length starts → getD starts k 0 ≤ getD starts (k + 1) 0 → leb (getD starts (k + 1) 0) len ≡ partThere starts k len
+  unfolding partThere
+  by-end h r = rw (lt-ltb (k + 1) (length starts) h, le-leb (getD starts k 0) (getD starts (k + 1) 0) r)
+
+  pub there-within : partThere starts k len ≡ true → Within starts k len
+  unfolding partThere
+  there-within h =
+      let s = and-both (ltb (k + 1) (length starts)) (leb (getD starts k 0) (getD starts (k + 1) 0) && leb (getD starts (k + 1) 0) len) h in
+      let t = and-both (leb (getD starts k 0) (getD starts (k + 1) 0)) (leb (getD starts (k + 1) 0) len) (s .1) in
+      record {
+        there = ltb-true (k + 1) (length starts) (s .0);
+        rise = leb-true (getD starts k 0) (getD starts (k + 1) 0) (t .0);
+        ends = leb-true (getD starts (k + 1) 0) len (t .1);
+      }
+
+-- within a list it does not matter what stands past its end
+pub getD-within : (l : List ℕ) (i d e : ℕ) → i < length l → getD l i d ≡ getD l i e
+getD-within [] i d e h = absurd (let z : ⊥ = omega arith in z)
+getD-within (x ∷ l) zero d e h = refl
+getD-within (x ∷ l) (suc i) d e h = getD-within l i d e (omega arith)
+
+-- what is said in an order is said in its equal
+pub refused-in : {o o' : Order} {r : ℕ} (n p : ℕ) (f : List (Term ℕ)) → o ≡ o' → r ≡ refusalOf o n p f → r ≡ refusalOf o' n p f
+refused-in n p f e h = rw e at h
+
+pub made-in : {o o' : Order} {p : ℕ} {f g : List (Term ℕ)} {to : ℕ} {ow oc ow' oc' : List ℕ} {len n : ℕ} → o ≡ o' → Made (compareWords o) p f g to ow oc ow' oc' len n → Made (compareWords o') p f g to ow oc ow' oc' len n
+made-in e m = rw e at m
+
+module _ (p v q : ℕ) (f : Factor) (ws cs : List ℕ) (to : ℕ) (ow oc : List ℕ) (k : FactorOf p v f) where
+  pub multiplicands : Factors p v q ws cs to ow oc → Multiplicands f q ws cs to ow oc
+  multiplicands h = record {
+    prepared = prepared p v f (h .modulus) (h .below) k;
+    poly = rw (k .prime-is) (h .poly);
+    monomial = h .monomial;
+    packed = h .packed;
+    words-room = h .words-room;
+    coefs-room = h .coefs-room;
+  }
+
+  pub multiplied : {ow' oc' : List ℕ} → Multiplied (f .prime) (f .value) q ws cs to ow oc ow' oc' → Multiplied p v q ws cs to ow oc ow' oc'
+  multiplied h = rw (k .prime-is, k .value-is) at h

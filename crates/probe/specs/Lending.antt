@@ -1,0 +1,28 @@
+-- The tests before a polynomial is checked or a part of it is read, and what its multiple asks. Assumes nothing.
+use Prim.Native.Nat.{ℕ, _+_, _<_, _≤_}
+use mathlib.Core.Bool.{Bool, _&&_}
+use mathlib.Core.List.{List}
+use lib.Dec.{leb, ltb, eqb}
+use lib.ListN.{length, getD}
+use Rattle.residue.specs.Modular.{Modulus}
+use Rattle.monomial.specs.Words.{Packed}
+use Rattle.merge.specs.Lent.{Poly}
+use Rattle.merge.specs.Multiplying.{AllPacked}
+
+-- at most 6 variables, and as many coefficients as words
+unfoldable pub checkable : (n words coefs : ℕ) → Bool
+checkable n words coefs = leb n 6 && eqb coefs words
+
+-- polynomial k has both starts, which rise and end within the slice
+unfoldable pub partThere : List ℕ → ℕ → ℕ → Bool
+partThere starts k len = ltb (k + 1) (length starts) && (leb (getD starts k 0) (getD starts (k + 1) 0) && leb (getD starts (k + 1) 0) len)
+
+-- a polynomial, a term c·q, and room for the multiple from place `to` on
+pub record Factors (p c q : ℕ) (ws cs : List ℕ) (to : ℕ) (ow oc : List ℕ) : Type 0 where
+  pub modulus : Modulus p
+  pub below : c < p
+  pub poly : Poly p ws cs
+  pub monomial : Packed q
+  pub packed : AllPacked ws
+  pub words-room : to + length ws ≤ length ow
+  pub coefs-room : to + length ws ≤ length oc

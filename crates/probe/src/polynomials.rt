@@ -1,0 +1,186 @@
+// Polynomials in lent slices: their opening check, starts and parts, their merge, and the multiple
+// by a term. An order is its number, 1 to 3; any other number counts as 3. The merges and the
+// multiple ask what the functions that they call ask: whoever calls them tests it first.
+use merge::merging::merge;
+use merge::multiple::any_over;
+use merge::multiple::put_multiple;
+use merge::within::merge_within;
+use monomial::order::order_of;
+use polynomial::check::check;
+use polynomial::part::coefs_of;
+use polynomial::part::words_of;
+use polynomial::starts::starts_good;
+use residue::factor::Factor;
+ghost use mathlib.Core.Path.{_≡_};
+ghost use mathlib.Core.Bool.{cond};
+ghost use lib.ListN.{length, getD};
+ghost use Rattle.monomial.specs.Exponents.{orderOf};
+ghost use Rattle.monomial.specs.Words.{Packed, compareWords};
+ghost use Rattle.polynomial.specs.Terms.{terms};
+ghost use Rattle.polynomial.specs.Opening.{refusalOf, startsGood, partOf};
+ghost use Rattle.merge.specs.Lent.{part};
+ghost use Rattle.merge.specs.Merging.{Sides, Within, Made};
+ghost use Rattle.merge.specs.Multiplying.{AllPacked, anyOver, Multiplied};
+ghost use Rattle.probe.specs.Lending.{checkable, partThere, Factors};
+
+const NO_WORD: u64 = 0xffff_ffff_ffff_ffff;
+
+const NO_COEF: u32 = 0xffff_ffff;
+
+const NOT_CHECKED: u32 = 0xffff_ffff;
+
+// What a merge made: the terms of the result, and the comparisons.
+#[repr(C)]
+pub struct Counts {
+    pub len: usize,
+    pub comparisons: u64,
+}
+
+// The refusal of a polynomial, 0 for none, or NOT_CHECKED where n is over 6 or the lengths differ.
+#[no_mangle]
+pub extern "C" fn probe_check(order: u32, n: u32, p: u32, words: &[u64], coefs: &[u32]) -> u32
+    ensures { λ r. ⌜ r ≡ cond (checkable n (length (now (words .entry))) (length (now (coefs .entry)))) (refusalOf (orderOf order) n p (terms (now (words .entry)) (now (coefs .entry)))) 4294967295 ⌝ }
+{
+    if !is_checkable(n, words.len(), coefs.len()) {
+        return NOT_CHECKED;
+    }
+    check(order_of(order), n, p, words, coefs)
+}
+
+// Whether a polynomial in n variables with so many words and coefficients can be checked.
+fn is_checkable(n: u32, words: usize, coefs: usize) -> bool
+    ensures { λ r. ⌜ r ≡ checkable n words coefs ⌝ }
+{
+    if n > 6 {
+        return false;
+    }
+    coefs == words
+}
+
+#[no_mangle]
+pub extern "C" fn probe_starts_good(starts: &[usize], len: usize) -> bool
+    ensures { λ r. ⌜ r ≡ startsGood (now (starts .entry)) len ⌝ }
+{
+    starts_good(starts, len)
+}
+
+// Word i of polynomial k, or NO_WORD where there is none.
+#[no_mangle]
+pub extern "C" fn probe_part_word(words: &[u64], starts: &[usize], k: usize, i: usize) -> u64
+    ensures { λ r. ⌜ r ≡ cond (partThere (now (starts .entry)) k (length (now (words .entry)))) (getD (partOf (now (starts .entry)) k (now (words .entry))) i 18446744073709551615) 18446744073709551615 ⌝ }
+{
+    if !is_part_there(starts, k, words.len()) {
+        return NO_WORD;
+    }
+    word_at(words_of(words, starts, k), i)
+}
+
+// Coefficient i of polynomial k, or NO_COEF where there is none.
+#[no_mangle]
+pub extern "C" fn probe_part_coef(coefs: &[u32], starts: &[usize], k: usize, i: usize) -> u32
+    ensures { λ r. ⌜ r ≡ cond (partThere (now (starts .entry)) k (length (now (coefs .entry)))) (getD (partOf (now (starts .entry)) k (now (coefs .entry))) i 4294967295) 4294967295 ⌝ }
+{
+    if !is_part_there(starts, k, coefs.len()) {
+        return NO_COEF;
+    }
+    coef_at(coefs_of(coefs, starts, k), i)
+}
+
+// Whether polynomial k has both starts, which rise and end within len.
+fn is_part_there(starts: &[usize], k: usize, len: usize) -> bool
+    ensures { λ r. ⌜ r ≡ partThere (now (starts .entry)) k len ⌝ }
+{
+    if k >= starts.len() {
+        return false;
+    }
+    let next = k + 1;
+    if next >= starts.len() {
+        return false;
+    }
+    if starts[k] > starts[next] {
+        return false;
+    }
+    starts[next] <= len
+}
+
+fn word_at(words: &[u64], i: usize) -> u64
+    ensures { λ r. ⌜ r ≡ getD (now (words .entry)) i 18446744073709551615 ⌝ }
+{
+    if i < words.len() { words[i] } else { NO_WORD }
+}
+
+fn coef_at(coefs: &[u32], i: usize) -> u32
+    ensures { λ r. ⌜ r ≡ getD (now (coefs .entry)) i 4294967295 ⌝ }
+{
+    if i < coefs.len() { coefs[i] } else { NO_COEF }
+}
+
+#[no_mangle]
+pub extern "C" fn probe_merge<'a>(
+    order: u32,
+    p: u32,
+    aw: &'a [u64],
+    ac: &'a [u32],
+    bw: &'a [u64],
+    bc: &'a [u32],
+    ow: &mut [u64],
+    oc: &mut [u32],
+) -> Counts
+    requires { ⌜ Sides p (now aw) (now ac) (now bw) (now bc) (now ow) (now oc) ⌝ }
+    ensures { λ r. ⌜ Made (compareWords (orderOf order)) p (terms (now (aw .entry)) (now (ac .entry))) (terms (now (bw .entry)) (now (bc .entry))) 0 (now (ow .entry)) (now (oc .entry)) (now (ow .exit)) (now (oc .exit)) (r .len) (r .comparisons) ⌝ }
+{
+    let made = merge(order_of(order), p, aw, ac, bw, bc, ow, oc);
+    Counts {
+        len: made.len,
+        comparisons: made.comparisons,
+    }
+}
+
+#[no_mangle]
+pub extern "C" fn probe_merge_within(
+    order: u32,
+    p: u32,
+    ww: &mut [u64],
+    wc: &mut [u32],
+    from: usize,
+    len: usize,
+    to: usize,
+    bw: &[u64],
+    bc: &[u32],
+) -> Counts
+    requires { ⌜ Within p (now ww) (now wc) from len to (now bw) (now bc) ⌝ }
+    ensures { λ r. ⌜ Made (compareWords (orderOf order)) p (terms (part from len (now (ww .entry))) (part from len (now (wc .entry)))) (terms (now (bw .entry)) (now (bc .entry))) to (now (ww .entry)) (now (wc .entry)) (now (ww .exit)) (now (wc .exit)) (r .len) (r .comparisons) ⌝ }
+{
+    let made = merge_within(order_of(order), p, ww, wc, from, len, to, bw, bc);
+    Counts {
+        len: made.len,
+        comparisons: made.comparisons,
+    }
+}
+
+// Whether a product of the monomial q with one of the words has an exponent over 127.
+#[no_mangle]
+pub extern "C" fn probe_any_over(q: u64, words: &[u64]) -> bool
+    requires { ⌜ Packed q × AllPacked (now words) ⌝ }
+    ensures { λ r. ⌜ r ≡ anyOver q (now (words .entry)) ⌝ }
+{
+    any_over(q, words)
+}
+
+// Puts the polynomial times c·q modulo p into the output from place `to` on.
+#[no_mangle]
+pub extern "C" fn probe_put_multiple(
+    p: u32,
+    c: u32,
+    q: u64,
+    words: &[u64],
+    coefs: &[u32],
+    ow: &mut [u64],
+    oc: &mut [u32],
+    to: usize,
+)
+    requires { ⌜ Factors p c q (now words) (now coefs) to (now ow) (now oc) ⌝ }
+    ensures { λ _. ⌜ Multiplied p c q (now (words .entry)) (now (coefs .entry)) to (now (ow .entry)) (now (oc .entry)) (now (ow .exit)) (now (oc .exit)) ⌝ }
+{
+    put_multiple(Factor::new(c, p), q, words, coefs, ow, oc, to);
+}

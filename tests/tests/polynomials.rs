@@ -1,0 +1,609 @@
+//! Generated polynomials: checks, starts, parts, merges and multiples against the model. The variable
+//! SECOND_CASES sets the size, as for the other generated tests.
+use second::cases;
+use second::monomial::{Order, FIELDS, LIMIT};
+use second::polynomial::{lent, merge, multiple, part, refusal, starts_good, sum, Term};
+use second::probe::{self, Counts};
+use second::random::Random;
+use second::residue;
+
+const PRIMES: [u32; 6] = [2, 3, 7, 32_003, 65_521, residue::LIMIT];
+
+/// The work space has this many places, in two halves.
+const SPACE: usize = 8_192;
+const HALF: usize = SPACE / 2;
+
+/// The most terms of a list, but for one of so many cases.
+const SHORT: usize = 60;
+const LONG_EVERY: u64 = 64;
+
+/// A number from 0 to n.
+fn up_to(random: &mut Random, n: usize) -> usize {
+    random.below(n as u64 + 1) as usize
+}
+
+/// An order, a number of variables and a prime: all 108 in turn.
+fn setting(case: u64) -> (Order, usize, u32) {
+    let order = Order::ALL[(case % 3) as usize];
+    let n = 1 + (case / 3 % FIELDS as u64) as usize;
+    let p = PRIMES[(case / 18 % PRIMES.len() as u64) as usize];
+    (order, n, p)
+}
+
+/// A coefficient from 1 to p - 1, often one of the ends.
+fn coef(random: &mut Random, p: u32) -> u32 {
+    match random.below(4) {
+        0 => random.pick(&[1, p - 1, 1 + (p - 1) / 2]),
+        _ => 1 + random.below(u64::from(p - 1)) as u32,
+    }
+}
+
+/// A monomial with exponents up to a limit.
+fn monomial(random: &mut Random, n: usize, limit: u8) -> Vec<u8> {
+    (0..n)
+        .map(|_| up_to(random, usize::from(limit)) as u8)
+        .collect()
+}
+
+/// Monomials put in falling order, each once.
+fn falling(order: Order, mut monomials: Vec<Vec<u8>>) -> Vec<Vec<u8>> {
+    monomials.sort_by(|x, y| order.compare(y, x));
+    monomials.dedup();
+    monomials
+}
+
+/// About `len` falling monomials; fewer where so few have exponents up to the limit.
+fn monomials(random: &mut Random, order: Order, n: usize, len: usize, limit: u8) -> Vec<Vec<u8>> {
+    falling(
+        order,
+        (0..len).map(|_| monomial(random, n, limit)).collect(),
+    )
+}
+
+fn with_coefs(random: &mut Random, p: u32, monomials: Vec<Vec<u8>>) -> Vec<Term> {
+    let term = |m| (m, coef(random, p));
+    monomials.into_iter().map(term).collect()
+}
+
+/// A polynomial of up to `len` terms, dense or scattered.
+fn polynomial(random: &mut Random, order: Order, n: usize, p: u32, len: usize) -> Vec<Term> {
+    let dense = random.pick(&[1, 3, 15, LIMIT, LIMIT]);
+    let limit = if len > SHORT { LIMIT } else { dense };
+    let len = up_to(random, len);
+    let monomials = monomials(random, order, n, len, limit);
+    with_coefs(random, p, monomials)
+}
+
+/// How two polynomials stand to each other.
+#[derive(Clone, Copy, Debug)]
+enum Likeness {
+    Any,
+    Many,
+    All,
+    Cancelling,
+    SomeCancelling,
+    LeftEmpty,
+    RightEmpty,
+    BothEmpty,
+    OneAfterTheOther,
+}
+
+const LIKENESSES: [Likeness; 9] = [
+    Likeness::Any,
+    Likeness::Many,
+    Likeness::All,
+    Likeness::Cancelling,
+    Likeness::SomeCancelling,
+    Likeness::LeftEmpty,
+    Likeness::RightEmpty,
+    Likeness::BothEmpty,
+    Likeness::OneAfterTheOther,
+];
+
+/// Two polynomials of up to `len` terms each.
+fn pair(
+    random: &mut Random,
+    (order, n, p): (Order, usize, u32),
+    likeness: Likeness,
+    len: usize,
+) -> (Vec<Term>, Vec<Term>) {
+    let a = polynomial(random, order, n, p, len);
+    let b = polynomial(random, order, n, p, len);
+    let negative = |(m, c): &Term| (m.clone(), residue::negate(*c, p));
+    match likeness {
+        Likeness::Any => (a, b),
+        Likeness::Many => {
+            // Most monomials of a, and some of b.
+            let own = b.into_iter().map(|(m, _)| m).step_by(3);
+            let shared = a.iter().map(|(m, _)| m.clone());
+            let mut both: Vec<Vec<u8>> = shared.filter(|_| random.below(5) < 3).collect();
+            both.extend(own);
+            both.truncate(len);
+            let b = with_coefs(random, p, falling(order, both));
+            (a, b)
+        }
+        Likeness::All => {
+            let b = with_coefs(random, p, a.iter().map(|(m, _)| m.clone()).collect());
+            (a, b)
+        }
+        Likeness::Cancelling => {
+            let b = a.iter().map(negative).collect();
+            (a, b)
+        }
+        Likeness::SomeCancelling => {
+            let some = |t: &Term| match random.below(2) {
+                0 => negative(t),
+                _ => (t.0.clone(), coef(random, p)),
+            };
+            let b = a.iter().map(some).collect();
+            (a, b)
+        }
+        Likeness::LeftEmpty => (Vec::new(), b),
+        Likeness::RightEmpty => (a, Vec::new()),
+        Likeness::BothEmpty => (Vec::new(), Vec::new()),
+        Likeness::OneAfterTheOther => {
+            let mut high = a;
+            let low = high.split_off(up_to(random, high.len()));
+            match random.below(2) {
+                0 => (high, low),
+                _ => (low, high),
+            }
+        }
+    }
+}
+
+/// The most terms of a list in this case.
+fn list_len(random: &mut Random, case: u64) -> usize {
+    match case % LONG_EVERY {
+        0 => 500 + up_to(random, 1_500),
+        _ => SHORT,
+    }
+}
+
+/// Places with any contents.
+fn places(random: &mut Random, words: usize, coefs: usize) -> (Vec<u64>, Vec<u32>) {
+    let ow = (0..words).map(|_| random.word()).collect();
+    let oc = (0..coefs).map(|_| random.word() as u32).collect();
+    (ow, oc)
+}
+
+/// Puts terms from place `to` on.
+fn put(order: Order, terms: &[Term], space: &mut (Vec<u64>, Vec<u32>), to: usize) {
+    let (words, coefs) = lent(order, terms);
+    space.0[to..to + words.len()].copy_from_slice(&words);
+    space.1[to..to + coefs.len()].copy_from_slice(&coefs);
+}
+
+fn as_lent((words, coefs): &(Vec<u64>, Vec<u32>)) -> probe::Lent<'_> {
+    (words, coefs)
+}
+
+/// The model's merge: the published one, which must give the sum.
+fn model(order: Order, p: u32, a: &[Term], b: &[Term]) -> (Vec<Term>, Counts) {
+    let (merged, comparisons) = merge(order, p, a, b);
+    assert_eq!(merged, sum(order, p, a, b));
+    let len = merged.len();
+    (merged, Counts { len, comparisons })
+}
+
+/// What the merges of a run met.
+#[derive(Debug, Default)]
+struct Met {
+    merges: u64,
+    long: u64,
+    longest: usize,
+    comparisons: u64,
+    like: u64,
+    cancelled: u64,
+    zero: u64,
+}
+
+impl Met {
+    fn add(&mut self, a: usize, b: usize, counts: Counts, all: usize) {
+        self.merges += 1;
+        self.long += u64::from(a.max(b) > SHORT);
+        self.longest = self.longest.max(a).max(b);
+        self.comparisons += counts.comparisons;
+        self.like += (a + b - all) as u64;
+        self.cancelled += (all - counts.len) as u64;
+        self.zero += u64::from(a + b > 0 && counts.len == 0);
+    }
+
+    /// That each kind was met.
+    fn whole(&self) {
+        println!("{self:?}");
+        let kinds = [self.long, self.like, self.cancelled, self.zero];
+        assert!(kinds.iter().all(|&k| k > 0), "{self:?}");
+    }
+}
+
+/// How many unlike monomials two polynomials have together.
+fn unlike(order: Order, a: &[Term], b: &[Term]) -> usize {
+    let all = a.iter().chain(b).map(|(m, _)| m.clone());
+    falling(order, all.collect()).len()
+}
+
+/// Two fifths of the cases: 20,000 merges into an output.
+#[test]
+fn merges() {
+    let random = &mut Random::new(21);
+    let mut met = Met::default();
+    for case in 0..cases() * 2 / 5 {
+        let (order, n, p) = setting(case);
+        let likeness = random.pick(&LIKENESSES);
+        let len = list_len(random, case);
+        let (a, b) = pair(random, (order, n, p), likeness, len);
+        let (expected, counts) = model(order, p, &a, &b);
+        let room = a.len() + b.len();
+        let (ow, oc) = (room + up_to(random, 4), room + up_to(random, 4));
+        let mut output = places(random, ow, oc);
+        let mut wanted = output.clone();
+        put(order, &expected, &mut wanted, 0);
+        let found = probe::merge(
+            order,
+            p,
+            as_lent(&lent(order, &a)),
+            as_lent(&lent(order, &b)),
+            (&mut output.0, &mut output.1),
+        );
+        let about = || format!("case {case} {order:?} n {n} p {p} {likeness:?}");
+        assert_eq!(found, counts, "{}", about());
+        assert!(output == wanted, "{}", about());
+        met.add(a.len(), b.len(), counts, unlike(order, &a, &b));
+    }
+    met.whole();
+}
+
+/// Merges within the work space, from the lower half to the upper and back: 20,000.
+#[test]
+fn merges_between_halves() {
+    let random = &mut Random::new(22);
+    let mut met = Met::default();
+    let mut space = places(random, SPACE, SPACE);
+    for case in 0..cases() / 5 {
+        let (order, n, p) = setting(case);
+        let likeness = random.pick(&LIKENESSES);
+        let len = list_len(random, case).min(1_300);
+        let (mut a, up) = pair(random, (order, n, p), likeness, len);
+        let down = match random.below(2) {
+            0 => up
+                .iter()
+                .map(|(m, c)| (m.clone(), residue::negate(*c, p)))
+                .collect(),
+            _ => polynomial(random, order, n, p, len),
+        };
+        put(order, &a, &mut space, 0);
+        for (b, from, to) in [(up, 0, HALF), (down, HALF, 0)] {
+            let (expected, counts) = model(order, p, &a, &b);
+            let mut wanted = space.clone();
+            put(order, &expected, &mut wanted, to);
+            let found = probe::merge_within(
+                order,
+                p,
+                (&mut space.0, &mut space.1),
+                [from, a.len(), to],
+                as_lent(&lent(order, &b)),
+            );
+            let about = || format!("case {case} {order:?} n {n} p {p} {likeness:?} to {to}");
+            assert_eq!(found, counts, "{}", about());
+            assert!(space == wanted, "{}", about());
+            met.add(a.len(), b.len(), counts, unlike(order, &a, &b));
+            a = expected;
+        }
+    }
+    met.whole();
+}
+
+/// Merges within a small space, at any places that lie apart, often side by side.
+#[test]
+fn merges_side_by_side() {
+    let random = &mut Random::new(23);
+    for case in 0..cases() / 5 {
+        let (order, n, p) = setting(case);
+        let likeness = random.pick(&LIKENESSES);
+        let (a, b) = pair(random, (order, n, p), likeness, 12);
+        let most = a.len() + b.len();
+        let gaps = [0; 3].map(|_| up_to(random, 3) / 2);
+        let (from, to, end) = match random.below(2) {
+            0 => {
+                let to = gaps[0] + a.len() + gaps[1];
+                (gaps[0], to, to + most)
+            }
+            _ => {
+                let from = gaps[0] + most + gaps[1];
+                (from, gaps[0], from + a.len())
+            }
+        };
+        let more = up_to(random, 2);
+        let mut space = places(random, end + gaps[2], end + more);
+        put(order, &a, &mut space, from);
+        let (expected, counts) = model(order, p, &a, &b);
+        let mut wanted = space.clone();
+        put(order, &expected, &mut wanted, to);
+        let found = probe::merge_within(
+            order,
+            p,
+            (&mut space.0, &mut space.1),
+            [from, a.len(), to],
+            as_lent(&lent(order, &b)),
+        );
+        assert_eq!(found, counts, "case {case}");
+        assert!(space == wanted, "case {case} {likeness:?} {from} to {to}");
+    }
+}
+
+/// What is done to a good polynomial.
+#[derive(Clone, Copy, Debug)]
+enum Damage {
+    None,
+    Coef(Number),
+    Word(Fault),
+    Equal,
+    Swapped,
+    Turned,
+    /// A bad coefficient, and a bad word at the same, a later or an earlier place.
+    CoefAndWord,
+    /// An early order fault, and a late bad coefficient or word.
+    EqualThenCoef,
+    SwappedThenWord,
+}
+
+#[derive(Clone, Copy, Debug)]
+enum Number {
+    Zero,
+    Prime,
+    Last,
+    Max,
+}
+
+#[derive(Clone, Copy, Debug)]
+enum Fault {
+    TopBit,
+    Degree,
+    Beyond,
+    AnyBit,
+    Any,
+}
+
+/// Their number and that of the settings have no common divisor, so that all come together.
+const DAMAGES: [Damage; 17] = [
+    Damage::None,
+    Damage::Coef(Number::Zero),
+    Damage::Coef(Number::Prime),
+    Damage::Coef(Number::Last),
+    Damage::Coef(Number::Max),
+    Damage::Word(Fault::TopBit),
+    Damage::Word(Fault::Degree),
+    Damage::Word(Fault::Beyond),
+    Damage::Word(Fault::AnyBit),
+    Damage::Word(Fault::Any),
+    Damage::Equal,
+    Damage::Swapped,
+    Damage::Turned,
+    Damage::CoefAndWord,
+    Damage::EqualThenCoef,
+    Damage::SwappedThenWord,
+    Damage::None,
+];
+
+fn number(p: u32, number: Number) -> u32 {
+    match number {
+        Number::Zero => 0,
+        Number::Prime => p,
+        Number::Last => p - 1,
+        Number::Max => u32::MAX,
+    }
+}
+
+fn bad_word(random: &mut Random, order: Order, n: usize, word: u64, fault: Fault) -> u64 {
+    match fault {
+        Fault::TopBit => word | 0x80 << (8 * random.below(6)),
+        Fault::Degree => word ^ 1 << (48 + random.below(16)),
+        Fault::Beyond => {
+            // The word of more variables, under its own degree.
+            let mut fields = order.fields(word);
+            fields[n.min(FIELDS - 1)] |= 1;
+            order.word(&fields)
+        }
+        Fault::AnyBit => word ^ 1 << random.below(64),
+        Fault::Any => random.word(),
+    }
+}
+
+/// Damages a polynomial, which has terms.
+fn damage(
+    random: &mut Random,
+    (order, n, p): (Order, usize, u32),
+    kind: Damage,
+    (words, coefs): &mut (Vec<u64>, Vec<u32>),
+) {
+    let last = words.len() - 1;
+    let at = up_to(random, last);
+    let next = (at + 1).min(last);
+    let later = at + up_to(random, last - at);
+    let out_of_range = random.pick(&[Number::Zero, Number::Prime, Number::Max]);
+    let fault = random.pick(&[Fault::TopBit, Fault::Degree, Fault::Any]);
+    match kind {
+        Damage::None => {}
+        Damage::Coef(c) => coefs[at] = number(p, c),
+        Damage::Word(fault) => words[at] = bad_word(random, order, n, words[at], fault),
+        Damage::Equal => words[next] = words[at],
+        Damage::Swapped => words.swap(at, next),
+        Damage::Turned => words.reverse(),
+        Damage::CoefAndWord => {
+            let (c, w) = random.pick(&[(at, at), (at, later), (later, at)]);
+            coefs[c] = number(p, out_of_range);
+            words[w] = bad_word(random, order, n, words[w], fault);
+        }
+        Damage::EqualThenCoef => {
+            words[next] = words[at];
+            coefs[later] = number(p, out_of_range);
+        }
+        Damage::SwappedThenWord => {
+            words.swap(at, next);
+            words[later] = bad_word(random, order, n, words[later], fault);
+        }
+    }
+}
+
+/// Good and damaged polynomials, as many as there are cases, each kind of damage in turn. Every
+/// refusal is met.
+#[test]
+fn checks() {
+    let random = &mut Random::new(24);
+    let mut met = [0; 7];
+    for case in 0..cases() {
+        let (order, n, p) = setting(case);
+        let kind = DAMAGES[(case % DAMAGES.len() as u64) as usize];
+        let terms = polynomial(random, order, n, p, 40);
+        let mut poly = lent(order, &terms);
+        if !terms.is_empty() {
+            damage(random, (order, n, p), kind, &mut poly);
+        }
+        let expected = refusal(order, n, p, &poly.0, &poly.1);
+        let found = probe::check(order, n as u32, p, as_lent(&poly));
+        let about = || format!("case {case} {order:?} n {n} p {p} {kind:?} {poly:x?}");
+        assert_eq!(found, expected, "{}", about());
+        met[expected as usize] += 1;
+    }
+    println!("refusals met: {met:?}");
+    for number in [0, 4, 5, 6] {
+        assert!(met[number] > 0, "refusal {number} is never met");
+    }
+}
+
+/// Over 6 variables and unequal lengths are not checked; modulo 0 and 1 no coefficient is good.
+#[test]
+fn checks_outside() {
+    let random = &mut Random::new(25);
+    for case in 0..cases() / 10 {
+        let (order, n, p) = setting(case);
+        let terms = polynomial(random, order, n, p, 10);
+        let (words, coefs) = lent(order, &terms);
+        let poly = (&words[..], &coefs[..]);
+        let many = random.pick(&[7, 8, 1 << 31, u32::MAX]);
+        assert_eq!(probe::check(order, many, p, poly), probe::NOT_CHECKED);
+        if let Some((_, fewer)) = coefs.split_last() {
+            let short = (&words[..], fewer);
+            assert_eq!(probe::check(order, n as u32, p, short), probe::NOT_CHECKED);
+            let short = (&words[1..], &coefs[..]);
+            assert_eq!(probe::check(order, n as u32, p, short), probe::NOT_CHECKED);
+        }
+        for p in [0, 1] {
+            let expected = refusal(order, n, p, &words, &coefs);
+            assert_eq!(probe::check(order, n as u32, p, poly), expected);
+        }
+    }
+}
+
+/// Starts of up to 8 polynomials, good or damaged, and the length that they end at.
+fn starts(random: &mut Random) -> (Vec<usize>, usize) {
+    let mut starts = vec![0];
+    let mut len = 0;
+    for _ in 0..random.below(9) {
+        len += up_to(random, 6) * up_to(random, 1);
+        starts.push(len);
+    }
+    let last = starts.len() - 1;
+    let at = up_to(random, last);
+    match random.below(8) {
+        0 => starts[0] = 1 + up_to(random, 3),
+        1 => starts[last] = len + 1 + up_to(random, 3),
+        2 => len += 1,
+        3 => starts[at] = up_to(random, len + 2),
+        4 => starts[at] = usize::MAX - up_to(random, 1),
+        5 => {
+            starts.swap(at, up_to(random, last));
+        }
+        6 => starts.truncate(at),
+        _ => {}
+    }
+    (starts, len)
+}
+
+/// Starts and parts, as many as there are cases.
+#[test]
+fn starts_and_parts() {
+    let random = &mut Random::new(26);
+    let mut good = 0;
+    let mut absent = 0;
+    for case in 0..cases() {
+        let (starts, len) = starts(random);
+        let expected = starts_good(&starts, len);
+        assert_eq!(
+            probe::starts_good(&starts, len),
+            expected,
+            "{starts:?} {len}"
+        );
+        good += u64::from(expected);
+        let (words, coefs) = places(random, len, len);
+        let far = [starts.len(), usize::MAX - 1, usize::MAX];
+        for k in (0..starts.len()).chain(far) {
+            let Some(places) = part(&starts, k, len) else {
+                absent += u64::from(k < starts.len());
+                let (word, coef) = (
+                    probe::part_word(&words, &starts, k, 0),
+                    probe::part_coef(&coefs, &starts, k, 0),
+                );
+                assert_eq!(
+                    (word, coef),
+                    (probe::NO_WORD, probe::NO_COEF),
+                    "case {case}"
+                );
+                continue;
+            };
+            for i in 0..places.len() {
+                let at = places.start + i;
+                assert_eq!(probe::part_word(&words, &starts, k, i), words[at]);
+                assert_eq!(probe::part_coef(&coefs, &starts, k, i), coefs[at]);
+            }
+            for i in [places.len(), places.len() + 1, usize::MAX] {
+                assert_eq!(probe::part_word(&words, &starts, k, i), probe::NO_WORD);
+                assert_eq!(probe::part_coef(&coefs, &starts, k, i), probe::NO_COEF);
+            }
+        }
+    }
+    println!("good starts: {good} of {}; parts absent: {absent}", cases());
+    assert!(good > 0 && good < cases() && absent > 0);
+}
+
+/// Multiples by a term, some with an exponent over 127: 20,000.
+#[test]
+fn multiples() {
+    let random = &mut Random::new(27);
+    let mut over = 0;
+    let count = cases() * 2 / 5;
+    for case in 0..count {
+        let (order, n, p) = setting(case);
+        let limit = random.pick(&[1, 15, 63, 64, LIMIT]);
+        let len = up_to(random, 40);
+        let monomials = monomials(random, order, n, len, limit);
+        let f = with_coefs(random, p, monomials);
+        let least = random.pick(&[0, 1, LIMIT - limit, LIMIT]);
+        let q = monomial(random, n, least);
+        let c = coef(random, p);
+        let (words, coefs) = lent(order, &f);
+        let expected = multiple(p, c, &q, &f);
+        let found = probe::any_over(order.word(&q), &words);
+        assert_eq!(found, expected.is_none(), "case {case} {q:?}");
+        let Some(expected) = expected else {
+            over += 1;
+            continue;
+        };
+        let to = up_to(random, 3);
+        let room = to + f.len();
+        let (ow, oc) = (room + up_to(random, 3), room + up_to(random, 3));
+        let mut output = places(random, ow, oc);
+        let mut wanted = output.clone();
+        put(order, &expected, &mut wanted, to);
+        let term = (c, order.word(&q));
+        let into = (&mut output.0[..], &mut output.1[..]);
+        probe::put_multiple(p, term, (&words, &coefs), into, to);
+        assert!(
+            output == wanted,
+            "case {case} {order:?} n {n} p {p} {c} {q:?}"
+        );
+    }
+    println!("multiples: {count}, of them with an exponent over 127: {over}");
+    assert!(over > 0 && over < count);
+}
