@@ -1,0 +1,3 @@
+pub mod AddLaws
+pub mod Credit
+pub mod SearchLaws

@@ -1,0 +1,62 @@
+-- A list of what is done with a geobucket, in a form that serves runs and reductions alike, and what it makes of an empty one. Assumes nothing.
+use Prim.Native.Nat.{ℕ, _+_, _*_, Ordering}
+use mathlib.Core.Bool.{true, false}
+use mathlib.Core.List.{List, [], _∷_, _++_}
+use lib.Dec.{leb}
+use lib.ListN.{length}
+use Rattle.polynomial.specs.Terms.{Term}
+use Rattle.geobucket.specs.Buckets.{empty, held, add, addCompared, fullSum, sumCompared, emptied}
+use Rattle.geobucket.specs.Search.{Lead, none, lead, search, withLead}
+
+-- a polynomial is added; a lead is found and removed; the full sum is given out; a lead is found and left, which ends the list
+pub data Event (A : Type 0) : Type 0 where
+  addition : List (Term A) → Event A
+  removal : Event A
+  summation : Event A
+  finding : Event A
+
+-- the buckets, all pairs compared so far, the terms that accepted additions brought in, and those given out
+pub record Work (A : Type 0) : Type 0 where
+  pub buckets : List (List (Term A))
+  pub pairs : List (A × A)
+  pub brought : List (Term A)
+  pub given : List (Term A)
+
+abbrev pub start : {A : Type 0} → Work A
+start = record { buckets = empty; pairs = []; brought = []; given = [] }
+
+abbrev pub leadTerms : {A : Type 0} → Lead A → List (Term A)
+leadTerms none = []
+leadTerms (lead at t) = t ∷ []
+
+module _ {A : Type 0} (cmp : A → A → Ordering) (p : ℕ) where
+  abbrev pub added : List (Term A) → Work A → Work A
+  added f w = record { buckets = add cmp p f (w .buckets); pairs = w .pairs ++ addCompared cmp p f (w .buckets); brought = w .brought ++ f; given = w .given }
+
+  abbrev pub removed : Work A → Work A
+  removed w = let s = search cmp p (w .buckets) in record { buckets = s .buckets; pairs = w .pairs ++ s .pairs; brought = w .brought; given = w .given ++ leadTerms (s .answer) }
+
+  abbrev pub summed : Work A → Work A
+  summed w = record { buckets = emptied (w .buckets); pairs = w .pairs ++ sumCompared cmp p [] (w .buckets); brought = w .brought; given = w .given ++ fullSum cmp p (w .buckets) }
+
+  abbrev pub left : Work A → Work A
+  left w = let s = search cmp p (w .buckets) in record { buckets = withLead (s .answer) (s .buckets); pairs = w .pairs ++ s .pairs; brought = w .brought; given = w .given }
+
+  -- "11: terms held + terms to add > 4,096": such an addition is refused, and ends the list
+  unfoldable pub perform : List (Event A) → Work A → Work A
+  perform [] w = w
+  perform (addition f ∷ es) w = elim (leb (held (w .buckets) + length f) 4096) [ true ↦ perform es (added f w) | false ↦ w ]
+  perform (removal ∷ es) w = perform es (removed w)
+  perform (summation ∷ es) w = perform es (summed w)
+  perform (finding ∷ es) w = left w
+
+-- demand 3: "M is the smaller of 6 and the least whole number from 1 up with 4 to the power M at least N"
+unfoldable pub levels : ℕ → ℕ
+levels n =
+    elim (leb n 4) [
+      | true ↦ 1
+      | false ↦ elim (leb n 16) [ true ↦ 2 | false ↦ elim (leb n 64) [ true ↦ 3 | false ↦ elim (leb n 256) [ true ↦ 4 | false ↦ elim (leb n 1024) [ true ↦ 5 | false ↦ 6 ] ] ] ]
+    ]
+
+abbrev pub bound : ℕ → ℕ
+bound n = 6 * n * levels n
