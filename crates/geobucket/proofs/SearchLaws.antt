@@ -1,4 +1,4 @@
--- The search: the term that it ends with is the lead of the true sum, and zero where that is zero; and it is paid by the terms that it removes. Assumes nothing.
+-- The search: it ends with a term above all that the buckets still hold, or with zero and empty buckets, and keeps the sum. Assumes nothing.
 use mathlib.Core.Path.{_≡_, refl, sym, ap, ap₂, _∙_, subst}
 use mathlib.Core.List.{List, [], _∷_, _++_}
 use mathlib.Core.Logic.{_⊎_, inl, inr, ⊎-elim}
