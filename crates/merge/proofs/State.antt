@@ -1,4 +1,4 @@
--- A merge under way, over lists alone: what each turn of the loop does to it. Both merges have this state. Assumes nothing.
+-- A merge under way, over lists alone: what each turn of the loop does to it. All merges have this state. Assumes nothing.
 use mathlib.Core.Path.{_≡_, refl, sym, ap, ap₂, _∙_, subst}
 use mathlib.Core.Bool.{Bool, true, false, not}
 use mathlib.Core.List.{List, [], _∷_, _++_, map}
@@ -93,16 +93,16 @@ module _ {cmp : ℕ → ℕ → Ordering} {p : ℕ} {M : List (Term ℕ)} {N to 
 
   module _ (O : TotalOrder ℕ cmp) (x y : Term ℕ) (xs' ys' : List (Term ℕ)) (ex : xs ≡ x ∷ xs') (ey : ys ≡ y ∷ ys') where
     -- x is used up and stored; y is; both are, and their sum is stored, or nothing where it is 0
-    after-more : cmp (x .mono) (y .mono) ≡ Ordering·gt → State cmp p M N to ow₀ oc₀ xs' ys (set ow k (x .mono)) (set oc k (x .coef)) (k + 1) (n + 1)
+    pub after-more : cmp (x .mono) (y .mono) ≡ Ordering·gt → State cmp p M N to ow₀ oc₀ xs' ys (set ow k (x .mono)) (set oc k (x .coef)) (k + 1) (n + 1)
     after-more h = state-put x xs' ys (rw (ex, ey) (merge-more cmp p x xs' y ys' h)) (rw (ex, ey) (ap length (compared-more cmp x xs' y ys' h)))
 
-    after-less : cmp (x .mono) (y .mono) ≡ Ordering·lt → State cmp p M N to ow₀ oc₀ xs ys' (set ow k (y .mono)) (set oc k (y .coef)) (k + 1) (n + 1)
+    pub after-less : cmp (x .mono) (y .mono) ≡ Ordering·lt → State cmp p M N to ow₀ oc₀ xs ys' (set ow k (y .mono)) (set oc k (y .coef)) (k + 1) (n + 1)
     after-less h = state-put y xs ys' (rw (ex, ey) (merge-less cmp p x xs' y ys' h)) (rw (ex, ey) (ap length (compared-less cmp x xs' y ys' h)))
 
-    after-sum : cmp (x .mono) (y .mono) ≡ Ordering·eq → (c : ℕ) → c ≡ (x .coef + y .coef) % p → (c ≡ 0 → ⊥) → State cmp p M N to ow₀ oc₀ xs' ys' (set ow k (x .mono)) (set oc k c) (k + 1) (n + 1)
+    pub after-sum : cmp (x .mono) (y .mono) ≡ Ordering·eq → (c : ℕ) → c ≡ (x .coef + y .coef) % p → (c ≡ 0 → ⊥) → State cmp p M N to ow₀ oc₀ xs' ys' (set ow k (x .mono)) (set oc k c) (k + 1) (n + 1)
     after-sum h c e ne = state-put (term (x .mono) c) xs' ys' (rw (ex, ey) (merge-same cmp p x xs' y ys' h ∙ rw (← e) (keep-some (x .mono) c (merge cmp p xs' ys') ne))) (rw (ex, ey) (ap length (compared-same cmp x xs' y ys' h)))
 
-    after-cancel : cmp (x .mono) (y .mono) ≡ Ordering·eq → 0 ≡ (x .coef + y .coef) % p → State cmp p M N to ow₀ oc₀ xs' ys' ow oc k (n + 1)
+    pub after-cancel : cmp (x .mono) (y .mono) ≡ Ordering·eq → 0 ≡ (x .coef + y .coef) % p → State cmp p M N to ow₀ oc₀ xs' ys' ow oc k (n + 1)
     after-cancel h e = state-skip xs' ys' (rw (ex, ey) (merge-same cmp p x xs' y ys' h ∙ rw (← e) (keep-none (x .mono) (merge cmp p xs' ys')))) (rw (ex, ey) (ap length (compared-same cmp x xs' y ys' h)))
 
 -- the same state, written in other words
@@ -218,6 +218,26 @@ module _ {cmp : ℕ → ℕ → Ordering} {p : ℕ} {M : List (Term ℕ)} {N to 
       go (less h) = turned-less h
       go (same h) = turned-same h
       go (more h) = turned-more h
+
+-- ---- a turn, by branches: l is 1 where a is larger
+pub more-by : (cmp : ℕ → ℕ → Ordering) (a b l : ℕ) → l ≡ flag (isLarger (cmp a b)) → l ≡ 1 → cmp a b ≡ Ordering·gt
+more-by cmp a b l el h = go (stands cmp a b)
+  where
+    go : Stands cmp a b → cmp a b ≡ Ordering·gt
+    go (less k) = absurd (let z : ⊥ = omega (arith, el ∙ ap (λ (t : Ordering). flag (isLarger t)) k) in z)
+    go (same k) = absurd (let z : ⊥ = omega (arith, el ∙ ap (λ (t : Ordering). flag (isLarger t)) k) in z)
+    go (more k) = k
+
+pub less-by : (cmp : ℕ → ℕ → Ordering) → TotalOrder ℕ cmp → (a b l : ℕ) → l ≡ flag (isLarger (cmp a b)) → (l ≡ 1 → ⊥) → (a ≡ b → ⊥) → cmp a b ≡ Ordering·lt
+less-by cmp O a b l el h ne = go (stands cmp a b)
+  where
+    go : Stands cmp a b → cmp a b ≡ Ordering·lt
+    go (less k) = k
+    go (same k) = absurd (ne (O .same a b k))
+    go (more k) = absurd (h (el ∙ ap (λ (t : Ordering). flag (isLarger t)) k))
+
+pub same-by : (cmp : ℕ → ℕ → Ordering) → TotalOrder ℕ cmp → (a b : ℕ) → a ≡ b → cmp a b ≡ Ordering·eq
+same-by cmp O a b e = ap (cmp a) (sym e) ∙ O .like a
 
 -- no monomial is both larger than another and like it
 pub one-flag : (cmp : ℕ → ℕ → Ordering) → TotalOrder ℕ cmp → (a b l q : ℕ) → l ≡ flag (isLarger (cmp a b)) → q ≡ flag (eqb a b) → l + q ≤ 1

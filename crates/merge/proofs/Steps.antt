@@ -64,7 +64,7 @@ pub chosen-below : (f c p : ℕ) → 0 < p → c < p → chosen f c 0 < p
 chosen-below zero c p h k = h
 chosen-below (suc f) c p h k = k
 
--- ---- the bounds that both loops keep: i and j terms are read, k is the next place, n comparisons are made
+-- ---- the bounds that all loops keep: i and j terms are read, k is the next place, n comparisons are made
 pub record Bounds (la lb to lw lc i j k n l-ow l-oc : ℕ) : Type 0 where
   pub in-a : i ≤ la
   pub in-b : j ≤ lb

@@ -1,4 +1,4 @@
--- `merge::merging::merge` meets its contract: between two turns the terms put so far and the merge of what is left are the whole merge. Assumes nothing.
+-- `merge::merging::merge_by_flags` meets its contract: between two turns the terms put so far and the merge of what is left are the whole merge. Assumes nothing.
 use mathlib.Core.Path.{_≡_, refl, sym, ap, ap₂, _∙_, subst}
 use mathlib.Core.List.{List, _∷_}
 use mathlib.Core.Logic.{_⊎_, inl, inr, ⊎-elim}
@@ -17,8 +17,8 @@ use Rattle.merge.specs.Lent.{chosen}
 use Rattle.merge.proofs.Lists.{rest-room}
 use Rattle.merge.proofs.State.{State, state-start, turn, one-flag, rest-words, rest-coefs, used-up, end-words, end-coefs, end-length, end-count}
 use Rattle.merge.proofs.Steps.{Bounds, next-bounds, coef-within, chosen-below}
-use Rattle.merge.proofs.merging.merge.Statement.{statement}
-use Rattle.merge.proofs.merging.merge.Tie as tie
+use Rattle.merge.proofs.merging.merge_by_flags.Statement.{statement}
+use Rattle.merge.proofs.merging.merge_by_flags.Tie as tie
 
 abbrev Inv-loop : tie.InvT-loop
 Inv-loop order p aw ac bw bc ow₀ oc₀ i₀ j₀ k₀ n₀ ow oc i j k n =
@@ -305,8 +305,8 @@ returns c =
       count-is = end-count s u;
     }
 
-pub merge-spec : {M : Type 1} → statement M
-merge-spec =
+pub merge-by-flags-spec : {M : Type 1} → statement M
+merge-by-flags-spec =
     tie.close
     (tie.spec
     Inv-loop
