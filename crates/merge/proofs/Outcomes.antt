@@ -1,0 +1,12 @@
+-- A wrong program that no edit of an operand makes, and a call on which it differs from what `merge` ensures. Assumes nothing.
+use mathlib.Core.Path.{_≡_, refl}
+use mathlib.Core.List.{[], _∷_}
+use Rattle.monomial.specs.declared.order.Order.the-variants.{DegRevLex}
+use Rattle.monomial.specs.Words.{compareWords}
+use Rattle.polynomial.specs.Terms.{term}
+use Rattle.polynomial.specs.Merge.{compared, mergeCount}
+
+-- a merge that counts like terms twice answers 2 here
+pub like-once : mergeCount (compareWords DegRevLex) (term 0 2 ∷ []) (term 0 3 ∷ []) ≡ 1
+unfolding compared
+like-once = refl
