@@ -186,6 +186,30 @@ fn model(order: Order, p: u32, a: &[Term], b: &[Term]) -> (Vec<Term>, Counts) {
     (merged, Counts { len, comparisons })
 }
 
+/// Merges the terms a at `from` of the space with b, to `to` on, as the model does and nothing else.
+fn merge_within(
+    (order, p): (Order, u32),
+    (a, from): (&[Term], usize),
+    b: &[Term],
+    space: &mut (Vec<u64>, Vec<u32>),
+    to: usize,
+    about: &str,
+) -> (Vec<Term>, Counts) {
+    let (expected, counts) = model(order, p, a, b);
+    let mut wanted = space.clone();
+    put(order, &expected, &mut wanted, to);
+    let found = probe::merge_within(
+        order,
+        p,
+        (&mut space.0, &mut space.1),
+        [from, a.len(), to],
+        as_lent(&lent(order, b)),
+    );
+    assert_eq!(found, counts, "{about}");
+    assert!(*space == wanted, "{about}");
+    (expected, counts)
+}
+
 /// What the merges of a run met.
 #[derive(Debug, Default)]
 struct Met {
@@ -196,6 +220,7 @@ struct Met {
     like: u64,
     cancelled: u64,
     zero: u64,
+    uneven: u64,
 }
 
 impl Met {
@@ -207,12 +232,13 @@ impl Met {
         self.like += (a + b - all) as u64;
         self.cancelled += (all - counts.len) as u64;
         self.zero += u64::from(a + b > 0 && counts.len == 0);
+        self.uneven += u64::from(a.min(b) > 0 && a.max(b) / 4 > a.min(b));
     }
 
     /// That each kind was met.
     fn whole(&self) {
         println!("{self:?}");
-        let kinds = [self.long, self.like, self.cancelled, self.zero];
+        let kinds = [self.long, self.like, self.cancelled, self.zero, self.uneven];
         assert!(kinds.iter().all(|&k| k > 0), "{self:?}");
     }
 }
@@ -274,19 +300,9 @@ fn merges_between_halves() {
         };
         put(order, &a, &mut space, 0);
         for (b, from, to) in [(up, 0, HALF), (down, HALF, 0)] {
-            let (expected, counts) = model(order, p, &a, &b);
-            let mut wanted = space.clone();
-            put(order, &expected, &mut wanted, to);
-            let found = probe::merge_within(
-                order,
-                p,
-                (&mut space.0, &mut space.1),
-                [from, a.len(), to],
-                as_lent(&lent(order, &b)),
-            );
-            let about = || format!("case {case} {order:?} n {n} p {p} {likeness:?} to {to}");
-            assert_eq!(found, counts, "{}", about());
-            assert!(space == wanted, "{}", about());
+            let about = format!("case {case} {order:?} n {n} p {p} {likeness:?} to {to}");
+            let (expected, counts) =
+                merge_within((order, p), (&a, from), &b, &mut space, to, &about);
             met.add(a.len(), b.len(), counts, unlike(order, &a, &b));
             a = expected;
         }
@@ -317,18 +333,8 @@ fn merges_side_by_side() {
         let more = up_to(random, 2);
         let mut space = places(random, end + gaps[2], end + more);
         put(order, &a, &mut space, from);
-        let (expected, counts) = model(order, p, &a, &b);
-        let mut wanted = space.clone();
-        put(order, &expected, &mut wanted, to);
-        let found = probe::merge_within(
-            order,
-            p,
-            (&mut space.0, &mut space.1),
-            [from, a.len(), to],
-            as_lent(&lent(order, &b)),
-        );
-        assert_eq!(found, counts, "case {case}");
-        assert!(space == wanted, "case {case} {likeness:?} {from} to {to}");
+        let about = format!("case {case} {likeness:?} {from} to {to}");
+        merge_within((order, p), (&a, from), &b, &mut space, to, &about);
     }
 }
 
