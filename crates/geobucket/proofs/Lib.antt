@@ -1,3 +1,5 @@
 pub mod AddLaws
 pub mod Credit
 pub mod SearchLaws
+pub mod SumLaws
+pub mod SearchCost
