@@ -3,3 +3,4 @@ pub mod Credit
 pub mod SearchLaws
 pub mod SumLaws
 pub mod SearchCost
+pub mod Levels

@@ -1,5 +1,4 @@
 -- The search is paid by the terms that it removes: a pass makes fewer comparisons than there are levels, and the candidate that it ends with has as much credit. Assumes nothing.
-use mathlib.Core.Path.{_≡_, refl, sym, subst}
 use mathlib.Core.List.{List, [], _∷_, _++_}
 use Prim.Native.Nat.{ℕ, zero, suc, _+_, _-_, _*_, _<_, _≤_, Ordering}
 use native.Mathlib.Nat.{mul-le-mul-right}
@@ -10,9 +9,9 @@ use Rattle.polynomial.specs.Terms.{Term}
 use Rattle.polynomial.specs.Merge.{keep}
 use Rattle.polynomial.proofs.MergeLaws.{length-keep}
 use Rattle.geobucket.specs.Buckets.{held}
-use Rattle.geobucket.specs.Search.{Pass, seek, Lead, none, lead, Searched, pass, after, ended, searchIn, search}
+use Rattle.geobucket.specs.Search.{Pass, seek, pass, search}
 use Rattle.geobucket.proofs.Credit.{credit, Low}
-use Rattle.geobucket.proofs.SearchLaws.{Canon, shrunk-low, seek-along, Passes, passes, ended-none, ended-lead, ended-again}
+use Rattle.geobucket.proofs.SearchLaws.{Canon, shrunk-low, seek-along, search-along, passes}
 
 -- ---- the sums of one bucket, on plain numbers: a term of the candidate's bucket has w, one of the bucket that is looked at v
 ends-pays : (n w d : ℕ) → d ≤ w → n * w + 0 + d ≤ suc n * w + 0
@@ -73,33 +72,13 @@ module _ {A : Type 0} (cmp : A → A → Ordering) (p : ℕ) (M : ℕ) where
       omega (arith, a .few, a .pays)
 
   module _ (O : TotalOrder A cmp) (pos : 0 < p) where
-    -- what a search costs, and what the terms have then
-    abbrev Paid : List (List (Term A)) → Searched A → Type 0
-    Paid bs s = length (s .pairs) + credit M 1 (s .buckets) ≤ credit M 1 bs
-
-    paid-in : (n : ℕ) (bs : List (List (Term A))) → Canon cmp p bs → Low M 1 bs → Paid bs (searchIn cmp p n bs)
-    unfolding searchIn
-    paid-in zero bs g l = omega arith
-    paid-in (suc n) bs g l = by-answer (s .answer) refl (passes cmp p O pos bs g) (λ cs c k. paid-in n cs c k)
-      where
-        s : Searched A
-        s = pass cmp p bs
-
-        again : List (List (Term A)) → Searched A
-        again cs = searchIn cmp p n cs
-
-        once : Paid bs s
-        once = pass-paid bs 1 (omega arith) l
-
-        by-coef : (at : ℕ) (t : Term A) → s .answer ≡ lead at t → (c : ℕ) → t .coef ≡ c → Passes cmp p bs s → ((cs : List (List (Term A))) → Canon cmp p cs → Low M 1 cs → Paid cs (again cs)) → Paid bs (ended cmp p (s .answer) s again)
-        by-coef at t e zero z q r =
-            let d = r (s .buckets) (q .canon) (shrunk-low M 1 (s .buckets) bs (q .short) l) in
-            subst (Paid bs) (sym (ended-again cmp p s again at t e z)) (let k : Paid bs (after cmp p (s .pairs) (again (s .buckets))) = omega (arith, once, length-append (s .pairs) (again (s .buckets) .pairs)) in k)
-        by-coef at t e (suc c) z q r = subst (Paid bs) (sym (ended-lead cmp p s again at c t e z)) once
-
-        by-answer : (a : Lead A) → s .answer ≡ a → Passes cmp p bs s → ((cs : List (List (Term A))) → Canon cmp p cs → Low M 1 cs → Paid cs (again cs)) → Paid bs (ended cmp p (s .answer) s again)
-        by-answer none e q r = subst (Paid bs) (sym (ended-none cmp p s again e)) once
-        by-answer (lead at t) e q r = by-coef at t e (t .coef) refl q r
-
     pub search-paid : (bs : List (List (Term A))) → Canon cmp p bs → Low M 1 bs → length (search cmp p bs .pairs) + credit M 1 (search cmp p bs .buckets) ≤ credit M 1 bs
-    search-paid bs g l = paid-in (suc (held bs)) bs g l
+    search-paid bs =
+        search-along cmp p (λ bs s. Canon cmp p bs → Low M 1 bs → length (s .pairs) + credit M 1 (s .buckets) ≤ credit M 1 bs)
+        (λ bs g l. omega arith)
+        (λ bs g l. pass-paid bs 1 (omega arith) l)
+        (λ bs s r g l.
+        let q = passes cmp p O pos bs g in
+        let d = r (q .canon) (shrunk-low M 1 (pass cmp p bs .buckets) bs (q .short) l) in
+        omega (arith, pass-paid bs 1 (omega arith) l, length-append (pass cmp p bs .pairs) (s .pairs)))
+        (suc (held bs)) bs

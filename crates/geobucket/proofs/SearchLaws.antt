@@ -256,17 +256,73 @@ module _ {A : Type 0} (cmp : A → A → Ordering) (p : ℕ) where
     pub leads : Leads (s .answer) (s .buckets)
     pub fewer : Fewer (s .answer) (s .buckets) bs
 
-  pub ended-none : (s : Searched A) (again : List (List (Term A)) → Searched A) → s .answer ≡ none → ended cmp p (s .answer) s again ≡ s
+  ended-none : (s : Searched A) (again : List (List (Term A)) → Searched A) → s .answer ≡ none → ended cmp p (s .answer) s again ≡ s
   unfolding ended
   ended-none s again h = ap (λ (a : Lead A). ended cmp p a s again) h
 
-  pub ended-lead : (s : Searched A) (again : List (List (Term A)) → Searched A) (at c : ℕ) (t : Term A) → s .answer ≡ lead at t → t .coef ≡ suc c → ended cmp p (s .answer) s again ≡ s
+  ended-lead : (s : Searched A) (again : List (List (Term A)) → Searched A) (at c : ℕ) (t : Term A) → s .answer ≡ lead at t → t .coef ≡ suc c → ended cmp p (s .answer) s again ≡ s
   unfolding ended onward
   ended-lead s again at c t h k = ap (λ (a : Lead A). ended cmp p a s again) h ∙ ap (λ (n : ℕ). onward cmp p n s again) k
 
-  pub ended-again : (s : Searched A) (again : List (List (Term A)) → Searched A) (at : ℕ) (t : Term A) → s .answer ≡ lead at t → t .coef ≡ 0 → ended cmp p (s .answer) s again ≡ after cmp p (s .pairs) (again (s .buckets))
+  ended-again : (s : Searched A) (again : List (List (Term A)) → Searched A) (at : ℕ) (t : Term A) → s .answer ≡ lead at t → t .coef ≡ 0 → ended cmp p (s .answer) s again ≡ after cmp p (s .pairs) (again (s .buckets))
   unfolding ended onward
   ended-again s again at t h k = ap (λ (a : Lead A). ended cmp p a s again) h ∙ ap (λ (n : ℕ). onward cmp p n s again) k
+
+  -- ---- Induction along a search: it ends with a pass, or goes on after one.
+  module _
+      (P : List (List (Term A)) → Searched A → Type 0)
+      (stops : (bs : List (List (Term A))) → P bs (record { answer = none; buckets = bs; pairs = [] }))
+      (ends : (bs : List (List (Term A))) → P bs (pass cmp p bs))
+      (goes-on : (bs : List (List (Term A))) (s : Searched A) → P (pass cmp p bs .buckets) s → P bs (after cmp p (pass cmp p bs .pairs) s)) where
+    pub search-along : (n : ℕ) (bs : List (List (Term A))) → P bs (searchIn cmp p n bs)
+    unfolding searchIn
+    search-along zero bs = stops bs
+    search-along (suc n) bs = by-answer (s .answer) refl (search-along n (s .buckets))
+      where
+        s : Searched A
+        s = pass cmp p bs
+
+        again : List (List (Term A)) → Searched A
+        again cs = searchIn cmp p n cs
+
+        by-coef : (at : ℕ) (t : Term A) → s .answer ≡ lead at t → (c : ℕ) → t .coef ≡ c → P (s .buckets) (again (s .buckets)) → P bs (ended cmp p (s .answer) s again)
+        by-coef at t e zero z r = subst (P bs) (sym (ended-again s again at t e z)) (goes-on bs _ r)
+        by-coef at t e (suc c) z r = subst (P bs) (sym (ended-lead s again at c t e z)) (ends bs)
+
+        by-answer : (a : Lead A) → s .answer ≡ a → P (s .buckets) (again (s .buckets)) → P bs (ended cmp p (s .answer) s again)
+        by-answer none e r = subst (P bs) (sym (ended-none s again e)) (ends bs)
+        by-answer (lead at t) e r = by-coef at t e (t .coef) refl r
+
+  -- ---- the lead's bucket is one of the buckets
+  abbrev pub Within : Lead A → List (List (Term A)) → Type 0
+  Within none cs = Unit {0}
+  Within (lead at t) cs = at < length cs
+
+  passed-within : (at n : ℕ) → at ≤ n → passed at ≤ suc n
+  passed-within zero n h = omega arith
+  passed-within (suc at) n h = omega arith
+
+  seek-within : (bs : List (List (Term A))) (x : Term A) (xs : List (Term A)) → seek cmp p x xs bs .at ≤ length (seek cmp p x xs bs .above)
+  seek-within =
+      seek-along (λ x xs bs s. s .at ≤ length (s .above))
+      (λ x xs. omega arith)
+      (λ x xs bs s r. passed-within (s .at) (length (s .above)) r)
+      (λ x xs y ys bs s h r. omega arith)
+      (λ x xs y ys bs s h r. passed-within (s .at) (length (s .above)) r)
+      (λ x xs y ys bs s h r. passed-within (s .at) (length (s .above)) r)
+
+  higher-within : (a : Lead A) (cs : List (List (Term A))) → Within a cs → Within (higher a) ([] ∷ cs)
+  higher-within none cs h = tt
+  higher-within (lead at t) cs h = omega arith
+
+  pass-within : (bs : List (List (Term A))) → Within (pass cmp p bs .answer) (pass cmp p bs .buckets)
+  unfolding pass
+  pass-within [] = tt
+  pass-within ([] ∷ bs) = higher-within (pass cmp p bs .answer) (pass cmp p bs .buckets) (pass-within bs)
+  pass-within ((x ∷ xs) ∷ bs) = omega (arith, seek-within bs x xs)
+
+  pub search-within : (bs : List (List (Term A))) → Within (search cmp p bs .answer) (search cmp p bs .buckets)
+  search-within bs = search-along (λ bs s. Within (s .answer) (s .buckets)) (λ bs. tt) pass-within (λ bs s r. r) (suc (held bs)) bs
 
   module _ (O : TotalOrder A cmp) (pos : 0 < p) where
     raised : (m : A) (a : Lead A) → leadTotal m (higher a) ≡ leadTotal m a

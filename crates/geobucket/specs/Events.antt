@@ -1,5 +1,5 @@
 -- A list of what is done with a geobucket, in a form that serves runs and reductions alike, and what it makes of an empty one. Assumes nothing.
-use Prim.Native.Nat.{ℕ, _+_, _*_, Ordering}
+use Prim.Native.Nat.{ℕ, zero, suc, _+_, _*_, _^_, Ordering}
 use mathlib.Core.Bool.{true, false}
 use mathlib.Core.List.{List, [], _∷_, _++_}
 use lib.Dec.{leb}
@@ -50,13 +50,14 @@ module _ {A : Type 0} (cmp : A → A → Ordering) (p : ℕ) where
   perform (summation ∷ es) w = perform es (summed w)
   perform (finding ∷ es) w = left w
 
+-- the least level from i up whose power of 4 reaches n, but no more than `more` levels above i
+unfoldable pub levelFrom : (more i n : ℕ) → ℕ
+levelFrom zero i n = i
+levelFrom (suc more) i n = elim (leb n (4 ^ i)) [ true ↦ i | false ↦ levelFrom more (suc i) n ]
+
 -- demand 3: "M is the smaller of 6 and the least whole number from 1 up with 4 to the power M at least N"
-unfoldable pub levels : ℕ → ℕ
-levels n =
-    elim (leb n 4) [
-      | true ↦ 1
-      | false ↦ elim (leb n 16) [ true ↦ 2 | false ↦ elim (leb n 64) [ true ↦ 3 | false ↦ elim (leb n 256) [ true ↦ 4 | false ↦ elim (leb n 1024) [ true ↦ 5 | false ↦ 6 ] ] ] ]
-    ]
+abbrev pub levels : ℕ → ℕ
+levels n = levelFrom 5 1 n
 
 abbrev pub bound : ℕ → ℕ
 bound n = 6 * n * levels n
