@@ -4,3 +4,4 @@ pub mod SearchLaws
 pub mod SumLaws
 pub mod SearchCost
 pub mod Levels
+pub mod EventLaws

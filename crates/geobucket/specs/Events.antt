@@ -4,7 +4,7 @@ use mathlib.Core.Bool.{true, false}
 use mathlib.Core.List.{List, [], _∷_, _++_}
 use lib.Dec.{leb}
 use lib.ListN.{length}
-use Rattle.polynomial.specs.Terms.{Term}
+use Rattle.polynomial.specs.Terms.{Term, Canonical}
 use Rattle.geobucket.specs.Buckets.{empty, held, add, addCompared, fullSum, sumCompared, emptied}
 use Rattle.geobucket.specs.Search.{Lead, none, lead, search, withLead}
 
@@ -49,6 +49,14 @@ module _ {A : Type 0} (cmp : A → A → Ordering) (p : ℕ) where
   perform (removal ∷ es) w = perform es (removed w)
   perform (summation ∷ es) w = perform es (summed w)
   perform (finding ∷ es) w = left w
+
+-- each polynomial that is to be added is canonical
+unfoldable pub Polynomials : {A : Type 0} → (A → A → Ordering) → (p : ℕ) → List (Event A) → Type 0
+Polynomials cmp p [] = Unit {0}
+Polynomials cmp p (addition f ∷ es) = Canonical cmp p f × Polynomials cmp p es
+Polynomials cmp p (removal ∷ es) = Polynomials cmp p es
+Polynomials cmp p (summation ∷ es) = Polynomials cmp p es
+Polynomials cmp p (finding ∷ es) = Polynomials cmp p es
 
 -- the least level from i up whose power of 4 reaches n, but no more than `more` levels above i
 unfoldable pub levelFrom : (more i n : ℕ) → ℕ
