@@ -5,3 +5,4 @@ pub mod SumLaws
 pub mod SearchCost
 pub mod Levels
 pub mod EventLaws
+pub mod LeadLaws

@@ -1,3 +1,4 @@
 pub mod Buckets
 pub mod Search
 pub mod Events
+pub mod TrueSum
