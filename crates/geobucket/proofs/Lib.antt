@@ -6,3 +6,4 @@ pub mod SearchCost
 pub mod Levels
 pub mod EventLaws
 pub mod LeadLaws
+mod Outcomes
