@@ -1,5 +1,5 @@
 //! A second program for what the proved crates compute. `monomial`, `residue` and `polynomial` are
-//! plain models, written from document 01 alone; `probe` calls the proved functions.
+//! plain models, which share no code with the proved crates; `probe` calls the proved functions.
 pub mod monomial;
 pub mod polynomial;
 pub mod probe;
