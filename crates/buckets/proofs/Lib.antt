@@ -1,0 +1,6 @@
+pub mod SpaceLaws
+pub mod LevelLaws
+pub mod StoreLaws
+pub mod CarryLaws
+pub mod CarryState
+pub mod AddLaws

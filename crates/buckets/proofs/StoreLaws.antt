@@ -1,0 +1,47 @@
+-- Terms put into a bucket in place of what it held. Assumes nothing.
+use mathlib.Core.Path.{_≡_, refl, sym, ap, ap₂, _∙_}
+use mathlib.Core.List.{List}
+use Prim.Native.Nat.{ℕ, suc, _+_, _<_, _≤_}
+use native.Mathlib.Omega.{arith}
+use lib.ListN.{length, getD}
+use lib.Seq.{sets, length-sets}
+use Rattle.polynomial.specs.Terms.{terms}
+use Rattle.merge.specs.Lent.{part}
+use Rattle.space.specs.Space.{capacity, start, bucketAt, Laid}
+use Rattle.space.specs.declared.state.Buckets.{Buckets}
+use Rattle.buckets.specs.declared.level.Level.{Level}
+use Rattle.buckets.specs.Adding.{Store, Stored}
+use Rattle.buckets.proofs.SpaceLaws.{start-suc, start-end, part-put, moved, moved-head, moved-len, laid-moved, bucket-other}
+use Rattle.buckets.proofs.LevelLaws.{start-is}
+
+module _ {b : Buckets} {l : Level} {tw tc sw sc : List ℕ} (s : Store b l tw tc sw sc) where
+  -- the terms end within the bucket
+  ends : l .start + length tw ≤ start (suc (l .bucket))
+  ends = omega (arith, start-is l (s .level-is), start-suc (l .bucket), s .fits)
+
+  from-start : start (l .bucket) ≤ l .start
+  from-start = omega (arith, start-is l (s .level-is))
+
+  pub words-room : l .start + length tw ≤ length sw
+  words-room = omega (arith, ends, start-end (l .bucket) (s .within), s .words-long)
+
+  pub coefs-room : l .start + length tc ≤ length sc
+  coefs-room = omega (arith, ends, start-end (l .bucket) (s .within), s .coefs-long, s .long)
+
+  pub stored : {sw' sc' : List ℕ} → sw' ≡ sets sw (l .start) tw → sc' ≡ sets sc (l .start) tc → Stored b l (terms tw tc) sw sc sw' sc' (moved b (l .bucket) (l .start) (length tw))
+  stored {sw'} {sc'} ew ec =
+      let i = l .bucket in
+      let h = l .start in
+      let n = length tw in
+      let b' = moved b i h n in
+      let mh = moved-head b i h n (s .laid) (s .within) in
+      let mn = moved-len b i h n (s .laid) (s .within) in
+      record {
+        laid = laid-moved b i h n (s .laid) (s .within) from-start ends;
+        words-long = ap length ew ∙ (length-sets sw h tw ∙ s .words-long);
+        coefs-long = ap length ec ∙ (length-sets sc h tc ∙ s .coefs-long);
+        here =
+            ap₂ (λ (x y : ℕ). terms (part x y sw') (part x y sc')) mh mn
+            ∙ ap₂ terms (ap (part h n) ew ∙ part-put sw h tw words-room) (ap₂ (λ (m : ℕ) (x : List ℕ). part h m x) (sym (s .long)) ec ∙ part-put sc h tc coefs-room);
+        others = λ j k ne. ap₂ (λ (x y : List ℕ). bucketAt b' x y j) ew ec ∙ bucket-other b i h n (s .laid) (s .within) sw sc h h tw tc from-start ends from-start (omega (arith, ends, s .long)) j k ne;
+      }

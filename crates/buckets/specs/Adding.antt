@@ -1,0 +1,79 @@
+-- What an addition and its parts ask and leave. Assumes nothing.
+use Prim.Native.Nat.{ℕ, suc, _+_, _-_, _*_, _<_, _≤_, Ordering}
+use mathlib.Core.Path.{_≡_}
+use mathlib.Core.Bool.{true, false}
+use mathlib.Core.List.{List, [], _∷_, _++_}
+use lib.Dec.{leb}
+use lib.ListN.{length}
+use Rattle.polynomial.specs.Terms.{Term, terms, Canonical}
+use Rattle.merge.specs.Lent.{part}
+use Rattle.geobucket.specs.Buckets.{held, carry, carryCompared, add, addCompared}
+use Rattle.space.specs.Space.{capacity, start, listFrom, bucketAt, bucketsIn, Laid, Stands}
+use Rattle.space.specs.declared.state.Buckets.{Buckets}
+use Rattle.buckets.specs.declared.level.Level.{Level}
+use Rattle.buckets.specs.declared.add.Carried.{Carried}
+use Rattle.buckets.specs.Levels.{levelAt}
+
+-- a polynomial f to be added, and no more terms in all than the geobucket takes
+pub record Addition (cmp : ℕ → ℕ → Ordering) (p : ℕ) (b : Buckets) (fw fc sw sc ww wc : List ℕ) : Type 0 where
+  pub stands : Stands cmp p b sw sc
+  pub long : length fc ≡ length fw
+  pub canonical : Canonical cmp p (terms fw fc)
+  pub room : length fw + held (bucketsIn b sw sc) ≤ 4096
+  pub work-words : length ww ≡ 8192
+  pub work-coefs : length wc ≡ 8192
+
+-- the buckets are those of the published addition, with its comparisons
+pub record AddDone (cmp : ℕ → ℕ → Ordering) (p : ℕ) (b : Buckets) (f : List (Term ℕ)) (sw sc sw' sc' : List ℕ) (b' : Buckets) (comparisons : ℕ) : Type 0 where
+  pub lists-are : bucketsIn b' sw' sc' ≡ add cmp p f (bucketsIn b sw sc)
+  pub count-is : comparisons ≡ length (addCompared cmp p f (bucketsIn b sw sc))
+  pub stands : Stands cmp p b' sw' sc'
+
+module _ (cmp : ℕ → ℕ → Ordering) (p : ℕ) where
+  -- f merged with a bucket of capacity cap is m; bs are the buckets above
+  unfoldable pub landed : ℕ → List (Term ℕ) → List (List (Term ℕ)) → List (List (Term ℕ))
+  landed cap m bs = elim (leb (length m) cap) [ true ↦ m ∷ bs | false ↦ [] ∷ carry cmp p (4 * cap) m bs ]
+
+  unfoldable pub landedCompared : ℕ → List (Term ℕ) → List (List (Term ℕ)) → List (ℕ × ℕ)
+  landedCompared cap m bs = elim (leb (length m) cap) [ true ↦ [] | false ↦ carryCompared cmp p (4 * cap) m bs ]
+
+-- the len terms at the front of the work space are a polynomial that was merged with bucket l
+pub record Carry (cmp : ℕ → ℕ → Ordering) (p : ℕ) (b : Buckets) (l : Level) (sw sc ww wc : List ℕ) (len comparisons : ℕ) : Type 0 where
+  pub stands : Stands cmp p b sw sc
+  pub level-is : l ≡ levelAt (l .bucket)
+  pub within : l .bucket < 6
+  pub work-words : length ww ≡ 8192
+  pub work-coefs : length wc ≡ 8192
+  pub canonical : Canonical cmp p (terms (part 0 len ww) (part 0 len wc))
+  pub room : len + held (listFrom (bucketAt b sw sc) (suc (l .bucket)) (5 - l .bucket)) ≤ 4096
+  pub few : comparisons ≤ 4096
+
+-- the result m lies in the work space, and fits into the bucket that it goes to: with m in it, the buckets are those of the published carry
+pub record CarryDone (cmp : ℕ → ℕ → Ordering) (p : ℕ) (b : Buckets) (l : Level) (sw sc ww wc : List ℕ) (len comparisons : ℕ) (ww' wc' : List ℕ) (r : Carried) : Type 0 where
+  pub laid : Laid (r .buckets)
+  pub level-is : r .level ≡ levelAt (r .level .bucket)
+  pub within : r .level .bucket < 6
+  pub fits : r .len ≤ capacity (r .level .bucket)
+  pub in-work : r .from + r .len ≤ 8192
+  pub lists-are :
+      listFrom (bucketAt (r .buckets) sw sc) 0 (r .level .bucket) ++ (terms (part (r .from) (r .len) ww') (part (r .from) (r .len) wc') ∷ listFrom (bucketAt (r .buckets) sw sc) (suc (r .level .bucket)) (5 - r .level .bucket))
+      ≡ listFrom (bucketAt b sw sc) 0 (l .bucket) ++ landed cmp p (capacity (l .bucket)) (terms (part 0 len ww) (part 0 len wc)) (listFrom (bucketAt b sw sc) (suc (l .bucket)) (5 - l .bucket))
+  pub count-is : r .comparisons ≡ comparisons + length (landedCompared cmp p (capacity (l .bucket)) (terms (part 0 len ww) (part 0 len wc)) (listFrom (bucketAt b sw sc) (suc (l .bucket)) (5 - l .bucket)))
+
+-- terms that a bucket takes
+pub record Store (b : Buckets) (l : Level) (tw tc sw sc : List ℕ) : Type 0 where
+  pub laid : Laid b
+  pub level-is : l ≡ levelAt (l .bucket)
+  pub within : l .bucket < 6
+  pub long : length tc ≡ length tw
+  pub fits : length tw ≤ capacity (l .bucket)
+  pub words-long : length sw ≡ 5460
+  pub coefs-long : length sc ≡ 5460
+
+-- bucket l holds ts, and the others what they held
+pub record Stored (b : Buckets) (l : Level) (ts : List (Term ℕ)) (sw sc sw' sc' : List ℕ) (b' : Buckets) : Type 0 where
+  pub laid : Laid b'
+  pub words-long : length sw' ≡ 5460
+  pub coefs-long : length sc' ≡ 5460
+  pub here : bucketAt b' sw' sc' (l .bucket) ≡ ts
+  pub others : (j : ℕ) → j < 6 → (j ≡ l .bucket → ⊥) → bucketAt b' sw' sc' j ≡ bucketAt b sw sc j

@@ -1,0 +1,41 @@
+// A bucket by its number, with its start and its capacity.
+ghost use mathlib.Core.Path.{_≡_};
+ghost use Prim.Native.Nat.{suc, _<_, _≤_};
+ghost use Rattle.buckets.specs.Levels.{levelAt, LevelFor};
+
+pub struct Level {
+    pub bucket: usize,
+    pub start: usize,
+    pub cap: usize,
+}
+
+impl Level {
+    // The next bucket.
+    pub fn next(self) -> Self
+        requires { ⌜ (self ≡ levelAt (self .bucket)) × (self .bucket < 6) ⌝ }
+        ensures { λ r. ⌜ r ≡ levelAt (suc (self .bucket)) ⌝ }
+    {
+        let cap = self.cap;
+        Level {
+            bucket: self.bucket + 1,
+            start: self.start + cap,
+            cap: cap * 4,
+        }
+    }
+}
+
+// The lowest bucket whose capacity is at least n.
+pub fn level_for(n: usize) -> Level
+    requires { ⌜ n ≤ 4096 ⌝ }
+    ensures { λ r. ⌜ LevelFor n r ⌝ }
+{
+    let mut l = Level {
+        bucket: 0,
+        start: 0,
+        cap: 4,
+    };
+    while l.cap < n {
+        l = l.next();
+    }
+    l
+}

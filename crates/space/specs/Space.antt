@@ -1,0 +1,64 @@
+-- The lent bucket space (document 01, "Buckets"): "The bucket space has 5,460 places for words and for coefficients; bucket i starts at place (4^i − 4)/3." Buckets are numbered from 0 here, so that document 01's bucket i is bucket i - 1. Assumes nothing.
+use Prim.Native.Nat.{ℕ, zero, suc, _+_, _-_, _*_, _^_, _≤_, _<_, Ordering}
+use mathlib.Core.Path.{_≡_}
+use mathlib.Core.List.{List, [], _∷_, _++_, map}
+use lib.ListN.{length, getD, replicate}
+use Rattle.residue.specs.Modular.{Modulus}
+use Rattle.polynomial.specs.Terms.{Term, terms, words, coefs}
+use Rattle.merge.specs.Lent.{part}
+use Rattle.geobucket.specs.Buckets.{Good}
+use Rattle.space.specs.declared.state.Buckets.{Buckets}
+
+-- "buckets 1 to 6 of capacity 4, 16, 64, 256, 1,024 and 4,096"
+unfoldable pub capacity : ℕ → ℕ
+capacity i = 4 * 4 ^ i
+
+-- each bucket starts where the one before it ends (theorem `starts-are`: at (4^i − 4)/3)
+unfoldable pub start : ℕ → ℕ
+unfolding capacity
+start zero = 0
+start (suc i) = start i + capacity i
+
+-- f of i, of i + 1, and so on, k in all
+unfoldable pub listFrom : {A : Type 0} → (ℕ → A) → (i k : ℕ) → List A
+listFrom f i zero = []
+listFrom f i (suc k) = f i ∷ listFrom f (suc i) k
+
+-- the numbers of bucket i in a slice of the bucket space
+abbrev pub rowAt : Buckets → List ℕ → ℕ → List ℕ
+rowAt b s i = part (getD (b .head) i 0) (getD (b .len) i 0) s
+
+-- the terms of bucket i
+abbrev pub bucketAt : Buckets → List ℕ → List ℕ → ℕ → List (Term ℕ)
+bucketAt b sw sc i = terms (rowAt b sw i) (rowAt b sc i)
+
+-- the six buckets
+abbrev pub bucketsIn : Buckets → List ℕ → List ℕ → List (List (Term ℕ))
+bucketsIn b sw sc = listFrom (bucketAt b sw sc) 0 6
+
+-- each bucket's terms lie between its start and the next one's
+pub record Laid (b : Buckets) : Type 0 where
+  pub six-heads : length (b .head) ≡ 6
+  pub six-lens : length (b .len) ≡ 6
+  pub low : (i : ℕ) → i < 6 → start i ≤ getD (b .head) i 0
+  pub high : (i : ℕ) → i < 6 → getD (b .head) i 0 + getD (b .len) i 0 ≤ start (suc i)
+
+-- good buckets lie in the bucket space
+pub record Stands (cmp : ℕ → ℕ → Ordering) (p : ℕ) (b : Buckets) (sw sc : List ℕ) : Type 0 where
+  pub modulus : Modulus p
+  pub words-long : length sw ≡ 5460
+  pub coefs-long : length sc ≡ 5460
+  pub laid : Laid b
+  pub good : Good cmp p 4 (bucketsIn b sw sc)
+
+abbrev pub noBuckets : Buckets
+noBuckets = record { head = 0 ∷ 4 ∷ 20 ∷ 84 ∷ 340 ∷ 1364 ∷ []; len = 0 ∷ 0 ∷ 0 ∷ 0 ∷ 0 ∷ 0 ∷ [] }
+
+-- each row from its start on, the first of capacity cap, and 0 past it: "Places past a bucket's terms are 0 at return."
+unfoldable pub laidOut : ℕ → List (List ℕ) → List ℕ
+laidOut cap [] = []
+laidOut cap (l ∷ ls) = l ++ (replicate (cap - length l) 0 ++ laidOut (4 * cap) ls)
+
+-- a slice of the bucket space at return
+abbrev pub settled : Buckets → List ℕ → List ℕ
+settled b s = laidOut 4 (listFrom (rowAt b s) 0 6)
