@@ -25,9 +25,9 @@ use Rattle.buckets.specs.declared.level.Level.{Level}
 use Rattle.buckets.specs.declared.add.Carried.{Carried}
 use Rattle.buckets.specs.Levels.{levelAt, LevelFor}
 use Rattle.buckets.specs.Adding.{Addition, AddDone, landed, landedCompared, Carry, CarryDone, Store, Stored}
-use Rattle.buckets.proofs.SpaceLaws.{cap-suc, cap-zero, from-same, from-next, from-split, from-at, from-long}
-use Rattle.buckets.proofs.CarryLaws.{made-terms, held-cons, held-append}
-use Rattle.buckets.proofs.CarryState.{good-at, row-end, row-long, bucket-long, bucket-poly}
+use Rattle.space.proofs.Starts.{next-capacity, cap-zero}
+use Rattle.space.proofs.SpaceLaws.{good-at, row-end, row-long, bucket-long, bucket-poly, held-cons, held-append, from-same, from-next, from-split, from-at, from-long}
+use Rattle.buckets.proofs.CarryLaws.{made-terms}
 
 -- ---- the bucket that an addition begins with
 module _ (cmp : ℕ → ℕ → Ordering) (p : ℕ) (f : List (Term ℕ)) (g : ℕ → List (Term ℕ)) where
@@ -63,8 +63,8 @@ module _ (cmp : ℕ → ℕ → Ordering) (p : ℕ) (f : List (Term ℕ)) (g : �
       let h : capacity a < length f = subst (λ (x : ℕ). capacity x < length f) (let z : a + 0 ≡ a = omega arith in z) (small 0 (omega arith)) in
       let r = place-at i (suc a) k (λ j l. subst (λ (x : ℕ). capacity x < length f) (let z : a + suc j ≡ suc a + j = omega arith in z) (small (suc j) (omega arith))) (subst (λ (x : ℕ). length f ≤ capacity x) (sym e) fits) in
       rw (← e, n) (
-        place-on (capacity a) (g a) (listFrom g (suc a) (i + suc k)) h ∙ ap (λ (x : List (List (Term ℕ))). g a ∷ x) (ap (λ (q : ℕ). place cmp p q f (listFrom g (suc a) (i + suc k))) (sym (cap-suc a)) ∙ r .0),
-        compared-on (capacity a) (g a) (listFrom g (suc a) (i + suc k)) h ∙ (ap (λ (q : ℕ). placeCompared cmp p q f (listFrom g (suc a) (i + suc k))) (sym (cap-suc a)) ∙ r .1),
+        place-on (capacity a) (g a) (listFrom g (suc a) (i + suc k)) h ∙ ap (λ (x : List (List (Term ℕ))). g a ∷ x) (ap (λ (q : ℕ). place cmp p q f (listFrom g (suc a) (i + suc k))) (sym (next-capacity a)) ∙ r .0),
+        compared-on (capacity a) (g a) (listFrom g (suc a) (i + suc k)) h ∙ (ap (λ (q : ℕ). placeCompared cmp p q f (listFrom g (suc a) (i + suc k))) (sym (next-capacity a)) ∙ r .1),
       )
 
 add-some : (cmp : ℕ → ℕ → Ordering) (p : ℕ) (f : List (Term ℕ)) (bs : List (List (Term ℕ))) → 0 < length f → (add cmp p f bs ≡ place cmp p 4 f bs) × (addCompared cmp p f bs ≡ placeCompared cmp p 4 f bs)

@@ -18,12 +18,13 @@ use Rattle.merge.specs.Lent.{Poly, part, Apart}
 use Rattle.merge.specs.Merging.{Made, Within}
 use Rattle.merge.proofs.Lists.{length-part}
 use Rattle.geobucket.specs.Buckets.{held, Good, carry, carryCompared}
-use Rattle.space.specs.Space.{capacity, start, listFrom, rowAt, bucketAt, bucketsIn, Laid, Stands}
+use Rattle.space.specs.Space.{capacity, start, listFrom, rowAt, bucketAt, bucketsIn, Laid, Stands, moved}
 use Rattle.space.specs.declared.state.Buckets.{Buckets}
 use Rattle.buckets.specs.declared.level.Level.{Level}
 use Rattle.buckets.specs.Levels.{levelAt}
 use Rattle.buckets.specs.Adding.{landed, landedCompared, Carry, CarryDone}
-use Rattle.buckets.proofs.SpaceLaws.{cap-suc, cap-small, start-suc, start-end, from-same, from-next, from-last, part-put, moved, laid-moved, bucket-other}
+use Rattle.space.proofs.Starts.{next-capacity, cap-small, next-start, start-end}
+use Rattle.space.proofs.SpaceLaws.{held-cons, from-same, from-next, from-last, part-put, laid-moved, bucket-other}
 use Rattle.buckets.proofs.LevelLaws.{cap-is, not-last}
 
 -- ---- the equations of a landing
@@ -43,15 +44,6 @@ module _ (cmp : ℕ → ℕ → Ordering) (p : ℕ) where
   pub compared-over : (cap : ℕ) (m b : List (Term ℕ)) (bs : List (List (Term ℕ))) → cap < length m → landedCompared cmp p cap m (b ∷ bs) ≡ compared cmp m b ++ landedCompared cmp p (4 * cap) (merge cmp p m b) bs
   unfolding landedCompared carryCompared
   compared-over cap m b bs h = rw (lt-leb (length m) cap h, landedCompared)
-
-pub held-append : (as' bs : List (List (Term ℕ))) → held (as' ++ bs) ≡ held as' + held bs
-unfolding held
-held-append [] bs = omega arith
-held-append (a ∷ as') bs = omega (arith, held-append as' bs)
-
-pub held-cons : (b : List (Term ℕ)) (bs : List (List (Term ℕ))) → held (b ∷ bs) ≡ length b + held bs
-unfolding held
-held-cons b bs = refl
 
 -- ---- over lists: m was merged with bucket i of the buckets g; G is what the whole carry makes, with N comparisons
 pub record Carrying (cmp : ℕ → ℕ → Ordering) (p : ℕ) (G : List (List (Term ℕ))) (N : ℕ) (g : ℕ → List (Term ℕ)) (i : ℕ) (m : List (Term ℕ)) (n : ℕ) : Type 0 where
@@ -91,10 +83,10 @@ module _ {cmp : ℕ → ℕ → Ordering} {p : ℕ} {G : List (List (Term ℕ))}
           lists =
               ap₂ (λ (l r : List (List (Term ℕ))). l ++ landed cmp p (capacity (suc i)) M r) low high
               ∙ (append-snoc (listFrom g 0 i) [] (landed cmp p (capacity (suc i)) M bs)
-              ∙ (ap (λ (q : ℕ). listFrom g 0 i ++ ([] ∷ landed cmp p q M bs)) (cap-suc i)
+              ∙ (ap (λ (q : ℕ). listFrom g 0 i ++ ([] ∷ landed cmp p q M bs)) (next-capacity i)
               ∙ (ap (λ (l : List (List (Term ℕ))). listFrom g 0 i ++ l) (sym (ap (landed cmp p (capacity i) m) above ∙ landed-over cmp p (capacity i) m b bs over)) ∙ c .lists)));
           count =
-              let e1 : length (landedCompared cmp p (capacity (suc i)) M (listFrom g' (suc (suc i)) (5 - suc i))) ≡ length (landedCompared cmp p (4 * capacity i) M bs) = ap₂ (λ (q : ℕ) (r : List (List (Term ℕ))). length (landedCompared cmp p q M r)) (cap-suc i) high in
+              let e1 : length (landedCompared cmp p (capacity (suc i)) M (listFrom g' (suc (suc i)) (5 - suc i))) ≡ length (landedCompared cmp p (4 * capacity i) M bs) = ap₂ (λ (q : ℕ) (r : List (List (Term ℕ))). length (landedCompared cmp p q M r)) (next-capacity i) high in
               let e2 : length (landedCompared cmp p (capacity i) m (listFrom g (suc i) (5 - i))) ≡ mergeCount cmp m b + length (landedCompared cmp p (4 * capacity i) M bs) = ap length (ap (landedCompared cmp p (capacity i) m) above ∙ compared-over cmp p (capacity i) m b bs over) ∙ length-append (compared cmp m b) (landedCompared cmp p (4 * capacity i) M bs) in
               omega (arith, c .count, e1, e2);
           canonical = merge-canonical cmp O p pos m b (c .canonical) (c .ahead (suc i) (omega arith) up);
@@ -139,7 +131,7 @@ module _ (b : Buckets) (i : ℕ) (laid : Laid b) (in-six : i < 6) where
   pub without-other : (sw sc : List ℕ) (j : ℕ) → j < 6 → (j ≡ i → ⊥) → bucketAt (without b i) sw sc j ≡ bucketAt b sw sc j
   without-other sw sc j k ne =
       ap (λ (x : Buckets). bucketAt x sw sc j) without-moved
-      ∙ bucket-other b i (getD (b .head) i 0) 0 laid in-six sw sc (start i) (start i) [] [] (omega arith) (omega (arith, start-suc i)) (omega arith) (omega (arith, start-suc i)) j k ne
+      ∙ bucket-other b i (getD (b .head) i 0) 0 laid in-six sw sc (start i) (start i) [] [] (omega arith) (omega (arith, next-start i)) (omega arith) (omega (arith, next-start i)) j k ne
 
   pub without-here : (sw sc : List ℕ) → bucketAt (without b i) sw sc i ≡ []
   without-here sw sc = ap (λ (n : ℕ). terms (part (getD (b .head) i 0) n sw) (part (getD (b .head) i 0) n sc)) (getD-set-same' (b .len) i (let z : i < length (b .len) = omega (arith, laid .six-lens) in z))

@@ -23,34 +23,9 @@ use Rattle.buckets.specs.declared.level.Level.{Level}
 use Rattle.buckets.specs.declared.add.Carried.{Carried}
 use Rattle.buckets.specs.Levels.{levelAt}
 use Rattle.buckets.specs.Adding.{landed, landedCompared, Carry, CarryDone}
-use Rattle.buckets.proofs.SpaceLaws.{start-suc, start-end, cap-small, from-next}
+use Rattle.space.proofs.SpaceLaws.{good-at, row-end, row-long, bucket-long, bucket-poly}
 use Rattle.buckets.proofs.LevelLaws.{cap-is}
 use Rattle.buckets.proofs.CarryLaws.{Carrying, up, same-carrying, pair-room, pair-count, carry-on, carry-ends, carry-count, made-terms, without, without-laid, without-other, without-here}
-
--- ---- the buckets of the bucket space
--- of good buckets, the one at i is canonical
-pub good-at : (cmp : ℕ → ℕ → Ordering) (p : ℕ) (g : ℕ → List (Term ℕ)) (k i cap : ℕ) → Good cmp p cap (listFrom g i k) → (j : ℕ) → i ≤ j → j < i + k → Canonical cmp p (g j)
-unfolding Good listFrom
-good-at cmp p g zero i cap h j l u = absurd (let z : ⊥ = omega arith in z)
-good-at cmp p g (suc k) i cap h j l u = by (decLe j i) (λ v. good-at cmp p g k (suc i) (4 * cap) (h .1) j v (omega arith))
-  where
-    by : Dec (j ≤ i) → (suc i ≤ j → Canonical cmp p (g j)) → Canonical cmp p (g j)
-    by (yes v) r = subst (λ (x : ℕ). Canonical cmp p (g x)) (let e : i ≡ j = omega arith in e) (h .0 .0)
-    by (no v) r = r (omega arith)
-
-module _ (b : Buckets) (laid : Laid b) (i : ℕ) (in-six : i < 6) where
-  -- bucket i lies within the bucket space
-  pub row-end : getD (b .head) i 0 + getD (b .len) i 0 ≤ 5460
-  row-end = omega (arith, laid .high i in-six, start-end i in-six)
-
-  pub row-long : (s : List ℕ) → length s ≡ 5460 → length (rowAt b s i) ≡ getD (b .len) i 0
-  row-long s h = length-part (getD (b .head) i 0) (getD (b .len) i 0) s (omega (arith, row-end, h))
-
-  pub bucket-long : (sw sc : List ℕ) → length sw ≡ 5460 → length sc ≡ 5460 → length (bucketAt b sw sc i) ≡ getD (b .len) i 0
-  bucket-long sw sc hw hc = length-terms (rowAt b sw i) (rowAt b sc i) (row-long sc hc ∙ sym (row-long sw hw)) ∙ row-long sw hw
-
-  pub bucket-poly : (p : ℕ) (cmp : ℕ → ℕ → Ordering) (sw sc : List ℕ) → length sw ≡ 5460 → length sc ≡ 5460 → Canonical cmp p (bucketAt b sw sc i) → Poly p (rowAt b sw i) (rowAt b sc i)
-  bucket-poly p cmp sw sc hw hc c = record { long = row-long sc hc ∙ sym (row-long sw hw); reduced = c .reduced }
 
 -- ---- the loop
 pub record Carries (cmp : ℕ → ℕ → Ordering) (p : ℕ) (G : List (List (Term ℕ))) (N : ℕ) (sw sc : List ℕ) (b : Buckets) (l : Level) (ww wc : List ℕ) (from len n : ℕ) : Type 0 where

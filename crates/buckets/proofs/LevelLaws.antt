@@ -6,7 +6,7 @@ use native.Mathlib.Omega.{arith}
 use Rattle.space.specs.Space.{capacity, start}
 use Rattle.buckets.specs.declared.level.Level.{Level}
 use Rattle.buckets.specs.Levels.{levelAt, LevelFor}
-use Rattle.buckets.proofs.SpaceLaws.{cap-suc, cap-small, cap-last, cap-zero, start-suc, start-end, start-up}
+use Rattle.space.proofs.Starts.{next-capacity, cap-small, cap-last, cap-zero, next-start, start-end, start-up}
 
 pub start-is : (l : Level) → l ≡ levelAt (l .bucket) → l .start ≡ start (l .bucket)
 start-is l e = ap (λ (k : Level). k .start) e
@@ -14,8 +14,8 @@ start-is l e = ap (λ (k : Level). k .start) e
 pub cap-is : (l : Level) → l ≡ levelAt (l .bucket) → l .cap ≡ capacity (l .bucket)
 cap-is l e = ap (λ (k : Level). k .cap) e
 
-pub next-start : (l : Level) → l ≡ levelAt (l .bucket) → l .bucket < 6 → l .start + l .cap ≤ 5460
-next-start l e h = omega (arith, start-is l e, cap-is l e, start-suc (l .bucket), start-end (l .bucket) h)
+pub next-fits : (l : Level) → l ≡ levelAt (l .bucket) → l .bucket < 6 → l .start + l .cap ≤ 5460
+next-fits l e h = omega (arith, start-is l e, cap-is l e, next-start (l .bucket), start-end (l .bucket) h)
 
 pub next-cap : (l : Level) → l ≡ levelAt (l .bucket) → l .bucket < 6 → l .cap * 4 ≤ 16384
 next-cap l e h = omega (arith, cap-is l e, cap-small (l .bucket) h)
@@ -23,8 +23,8 @@ next-cap l e h = omega (arith, cap-is l e, cap-small (l .bucket) h)
 pub next-is : (l : Level) → l ≡ levelAt (l .bucket) → _≡_ {A = Level} (record { bucket = l .bucket + 1; start = l .start + l .cap; cap = l .cap * 4 }) (levelAt (suc (l .bucket)))
 next-is l e =
     let eb : l .bucket + 1 ≡ suc (l .bucket) = omega arith in
-    let es : l .start + l .cap ≡ start (suc (l .bucket)) = omega (arith, start-is l e, cap-is l e, start-suc (l .bucket)) in
-    let ec : l .cap * 4 ≡ capacity (suc (l .bucket)) = omega (arith, cap-is l e, cap-suc (l .bucket)) in
+    let es : l .start + l .cap ≡ start (suc (l .bucket)) = omega (arith, start-is l e, cap-is l e, next-start (l .bucket)) in
+    let ec : l .cap * 4 ≡ capacity (suc (l .bucket)) = omega (arith, cap-is l e, next-capacity (l .bucket)) in
     cc
 
 -- a bucket that is too small is not the last

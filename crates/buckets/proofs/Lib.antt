@@ -1,4 +1,3 @@
-pub mod SpaceLaws
 pub mod LevelLaws
 pub mod StoreLaws
 pub mod CarryLaws

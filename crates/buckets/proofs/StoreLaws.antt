@@ -7,17 +7,18 @@ use lib.ListN.{length, getD}
 use lib.Seq.{sets, length-sets}
 use Rattle.polynomial.specs.Terms.{terms}
 use Rattle.merge.specs.Lent.{part}
-use Rattle.space.specs.Space.{capacity, start, bucketAt, Laid}
+use Rattle.space.specs.Space.{capacity, start, bucketAt, Laid, moved}
 use Rattle.space.specs.declared.state.Buckets.{Buckets}
 use Rattle.buckets.specs.declared.level.Level.{Level}
 use Rattle.buckets.specs.Adding.{Store, Stored}
-use Rattle.buckets.proofs.SpaceLaws.{start-suc, start-end, part-put, moved, moved-head, moved-len, laid-moved, bucket-other}
+use Rattle.space.proofs.Starts.{next-start, start-end}
+use Rattle.space.proofs.SpaceLaws.{part-put, moved-head, moved-len, laid-moved, bucket-other}
 use Rattle.buckets.proofs.LevelLaws.{start-is}
 
 module _ {b : Buckets} {l : Level} {tw tc sw sc : List ℕ} (s : Store b l tw tc sw sc) where
   -- the terms end within the bucket
   ends : l .start + length tw ≤ start (suc (l .bucket))
-  ends = omega (arith, start-is l (s .level-is), start-suc (l .bucket), s .fits)
+  ends = omega (arith, start-is l (s .level-is), next-start (l .bucket), s .fits)
 
   from-start : start (l .bucket) ≤ l .start
   from-start = omega (arith, start-is l (s .level-is))

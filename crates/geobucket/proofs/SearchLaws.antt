@@ -256,15 +256,15 @@ module _ {A : Type 0} (cmp : A → A → Ordering) (p : ℕ) where
     pub leads : Leads (s .answer) (s .buckets)
     pub fewer : Fewer (s .answer) (s .buckets) bs
 
-  ended-none : (s : Searched A) (again : List (List (Term A)) → Searched A) → s .answer ≡ none → ended cmp p (s .answer) s again ≡ s
+  pub ended-none : (s : Searched A) (again : List (List (Term A)) → Searched A) → s .answer ≡ none → ended cmp p (s .answer) s again ≡ s
   unfolding ended
   ended-none s again h = ap (λ (a : Lead A). ended cmp p a s again) h
 
-  ended-lead : (s : Searched A) (again : List (List (Term A)) → Searched A) (at c : ℕ) (t : Term A) → s .answer ≡ lead at t → t .coef ≡ suc c → ended cmp p (s .answer) s again ≡ s
+  pub ended-lead : (s : Searched A) (again : List (List (Term A)) → Searched A) (at c : ℕ) (t : Term A) → s .answer ≡ lead at t → t .coef ≡ suc c → ended cmp p (s .answer) s again ≡ s
   unfolding ended onward
   ended-lead s again at c t h k = ap (λ (a : Lead A). ended cmp p a s again) h ∙ ap (λ (n : ℕ). onward cmp p n s again) k
 
-  ended-again : (s : Searched A) (again : List (List (Term A)) → Searched A) (at : ℕ) (t : Term A) → s .answer ≡ lead at t → t .coef ≡ 0 → ended cmp p (s .answer) s again ≡ after cmp p (s .pairs) (again (s .buckets))
+  pub ended-again : (s : Searched A) (again : List (List (Term A)) → Searched A) (at : ℕ) (t : Term A) → s .answer ≡ lead at t → t .coef ≡ 0 → ended cmp p (s .answer) s again ≡ after cmp p (s .pairs) (again (s .buckets))
   unfolding ended onward
   ended-again s again at t h k = ap (λ (a : Lead A). ended cmp p a s again) h ∙ ap (λ (n : ℕ). onward cmp p n s again) k
 
@@ -315,7 +315,7 @@ module _ {A : Type 0} (cmp : A → A → Ordering) (p : ℕ) where
   higher-within none cs h = tt
   higher-within (lead at t) cs h = omega arith
 
-  pass-within : (bs : List (List (Term A))) → Within (pass cmp p bs .answer) (pass cmp p bs .buckets)
+  pub pass-within : (bs : List (List (Term A))) → Within (pass cmp p bs .answer) (pass cmp p bs .buckets)
   unfolding pass
   pass-within [] = tt
   pass-within ([] ∷ bs) = higher-within (pass cmp p bs .answer) (pass cmp p bs .buckets) (pass-within bs)

@@ -2,7 +2,7 @@
 use Prim.Native.Nat.{ℕ, zero, suc, _+_, _-_, _*_, _^_, _≤_, _<_, Ordering}
 use mathlib.Core.Path.{_≡_}
 use mathlib.Core.List.{List, [], _∷_, _++_, map}
-use lib.ListN.{length, getD, replicate}
+use lib.ListN.{length, getD, set, replicate}
 use Rattle.residue.specs.Modular.{Modulus}
 use Rattle.polynomial.specs.Terms.{Term, terms, words, coefs}
 use Rattle.merge.specs.Lent.{part}
@@ -51,6 +51,14 @@ pub record Stands (cmp : ℕ → ℕ → Ordering) (p : ℕ) (b : Buckets) (sw s
   pub laid : Laid b
   pub good : Good cmp p 4 (bucketsIn b sw sc)
 
+-- bucket i has its head at h and n terms
+abbrev pub moved : Buckets → (i h n : ℕ) → Buckets
+moved b i h n = record { head = set (b .head) i h; len = set (b .len) i n }
+
+-- bucket i without its lead: nothing is shifted
+abbrev pub dropped : Buckets → ℕ → Buckets
+dropped b i = moved b i (getD (b .head) i 0 + 1) (getD (b .len) i 0 - 1)
+
 abbrev pub noBuckets : Buckets
 noBuckets = record { head = 0 ∷ 4 ∷ 20 ∷ 84 ∷ 340 ∷ 1364 ∷ []; len = 0 ∷ 0 ∷ 0 ∷ 0 ∷ 0 ∷ 0 ∷ [] }
 
@@ -62,3 +70,10 @@ laidOut cap (l ∷ ls) = l ++ (replicate (cap - length l) 0 ++ laidOut (4 * cap)
 -- a slice of the bucket space at return
 abbrev pub settled : Buckets → List ℕ → List ℕ
 settled b s = laidOut 4 (listFrom (rowAt b s) 0 6)
+
+-- the spaces at return: the buckets as laid out, and "The work space is all 0 at return."
+pub record AtReturn (bs : List (List (Term ℕ))) (sw sc ww wc : List ℕ) : Type 0 where
+  pub words-are : sw ≡ laidOut 4 (map words bs)
+  pub coefs-are : sc ≡ laidOut 4 (map coefs bs)
+  pub work-words : ww ≡ replicate 8192 0
+  pub work-coefs : wc ≡ replicate 8192 0

@@ -10,7 +10,7 @@ use Rattle.monomial.specs.Words.{compareWords}
 use Rattle.monomial.proofs.OrderLaws.{words-order}
 use Rattle.merge.specs.Lent.{part}
 use Rattle.space.specs.Space.{rowAt}
-use Rattle.buckets.proofs.SpaceLaws.{part-to}
+use Rattle.space.proofs.SpaceLaws.{part-to}
 use Rattle.buckets.proofs.AddLaws.{add-zero-done, f-short, first-end, sides, carry-asks, store-asks, add-done}
 use Rattle.buckets.proofs.add.add.Statement.{statement}
 use Rattle.buckets.proofs.add.add.Tie as tie

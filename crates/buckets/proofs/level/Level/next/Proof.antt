@@ -1,7 +1,7 @@
 -- `buckets::level::Level::next` meets its contract. Assumes nothing.
 use borrow.Author.Needs.{needs}
 use native.Mathlib.Omega.{arith}
-use Rattle.buckets.proofs.LevelLaws.{next-start, next-cap, next-is}
+use Rattle.buckets.proofs.LevelLaws.{next-fits, next-cap, next-is}
 use Rattle.buckets.proofs.level.Level.next.Statement.{statement}
 use Rattle.buckets.proofs.level.Level.next.Tie as tie
 
@@ -11,7 +11,7 @@ add-t3 c = search needs
 
 -- src/level.rt:21:20
 add-t4 : tie.Need-add-t4
-add-t4 c = let k = c .before .before in omega (arith, next-start _ (k .pre .0) (k .pre .1))
+add-t4 c = let k = c .before .before in omega (arith, next-fits _ (k .pre .0) (k .pre .1))
 
 -- src/level.rt:22:18
 mul-t5 : tie.Need-mul-t5

@@ -1,0 +1,5 @@
+pub mod SeekLaws
+pub mod SeekState
+pub mod FirstLaws
+pub mod FindLaws
+pub mod FindState

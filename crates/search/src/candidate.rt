@@ -1,0 +1,69 @@
+// What a search keeps on its way through the buckets.
+use residue::arithmetic::add;
+ghost use mathlib.Core.Path.{_≡_};
+ghost use Prim.Native.Nat.{_<_, _≤_};
+ghost use Rattle.residue.specs.Modular.{Modulus};
+ghost use Rattle.search.specs.Candidates.{candidateOf, joined, passedBy, replacedBy};
+ghost use Rattle.geobucket.specs.Search.{none};
+
+// The largest lead so far: its bucket (6 for none), its monomial, its coefficient with those of the
+// like leads, and the comparisons made.
+pub struct Candidate {
+    pub bucket: usize,
+    pub word: u64,
+    pub coef: u32,
+    pub count: u64,
+}
+
+impl Candidate {
+    // No candidate, after so many comparisons.
+    pub fn none(count: u64) -> Self
+        ensures { λ r. ⌜ r ≡ candidateOf none count ⌝ }
+    {
+        Candidate {
+            bucket: 6,
+            word: 0,
+            coef: 0,
+            count,
+        }
+    }
+
+    // A smaller lead is passed by.
+    pub fn pass_by(self) -> Self
+        requires { ⌜ self .count ≤ 1000000 ⌝ }
+        ensures { λ r. ⌜ r ≡ passedBy self ⌝ }
+    {
+        Candidate {
+            bucket: self.bucket,
+            word: self.word,
+            coef: self.coef,
+            count: self.count + 1,
+        }
+    }
+
+    // The coefficient of a like lead is added.
+    pub fn join(self, coef: u32, p: u32) -> Self
+        requires { ⌜ Modulus p × (self .coef < p) × (coef < p) × (self .count ≤ 1000000) ⌝ }
+        ensures { λ r. ⌜ r ≡ joined self coef p ⌝ }
+    {
+        Candidate {
+            bucket: self.bucket,
+            word: self.word,
+            coef: add(self.coef, coef, p),
+            count: self.count + 1,
+        }
+    }
+
+    // A larger lead replaces it.
+    pub fn replace(self, bucket: usize, word: u64, coef: u32) -> Self
+        requires { ⌜ self .count ≤ 1000000 ⌝ }
+        ensures { λ r. ⌜ r ≡ replacedBy self bucket word coef ⌝ }
+    {
+        Candidate {
+            bucket,
+            word,
+            coef,
+            count: self.count + 1,
+        }
+    }
+}

@@ -1,0 +1,92 @@
+-- `space::settle::settle_words` meets its contract: after i turns the first i buckets are settled. Assumes nothing.
+use Prim.Native.Nat.{_-_}
+use native.Mathlib.Omega.{arith}
+use borrow.Author.Needs.{needs}
+use Rattle.space.proofs.SettleLaws.{Settling, settling-none, settling-more, settling-all, Fits, fits}
+use Rattle.space.proofs.settle.settle_words.Statement.{statement}
+use Rattle.space.proofs.settle.settle_words.Tie as tie
+use Rattle.space.proofs.settle.settle_words.Reads as reads
+use Rattle.space.proofs.settle.settle_words.Lts as lts
+use Rattle.space.proofs.settle.clear_words.Reads as clear-words-reads
+use Rattle.space.proofs.settle.pull_words.Reads as pull-words-reads
+
+abbrev Inv-loop : tie.InvT-loop
+Inv-loop s₀ b i₀ start₀ cap₀ s i start cap = Settling b s₀ s i start cap
+
+abbrev μ-loop : tie.MeasureT-loop
+μ-loop s₀ b i₀ start₀ cap₀ s i start cap = 6 - i
+
+-- bucket i fits where it is settled
+room : (t : tie.In-loop Inv-loop μ-loop) → let h = t .before in let x = h .before .before .args in Fits (x .t1) (h .loop .s) (h .loop .i) (h .loop .start) (h .loop .cap)
+room t = let h = t .before in let z = h .before .before in fits (h .loop .inv) (z .pre .1) (z .pre .0) (t .loop-test .taken)
+
+loop-holds : tie.Need-loop-holds Inv-loop μ-loop
+loop-holds c = settling-none _ _
+
+mul-n : tie.Need-mul-n Inv-loop μ-loop
+mul-n c = search needs
+
+element-copy-out-n : tie.Need-element-copy-out-n Inv-loop μ-loop
+element-copy-out-n c = search needs
+
+mul-pull-words : tie.Need-mul-pull-words Inv-loop μ-loop
+mul-pull-words c = search needs
+
+element-copy-out-pull-words : tie.Need-element-copy-out-pull-words Inv-loop μ-loop
+element-copy-out-pull-words c = search needs
+
+pull-words-requires : tie.Need-pull-words-requires Inv-loop μ-loop
+pull-words-requires c κs = let r = room (c .before .before .before) in (r .within, r .low)
+
+add-clear-words : tie.Need-add-clear-words Inv-loop μ-loop
+add-clear-words c = omega (arith, room (c .before .before .before .before .before .before .before))
+
+sub-clear-words : tie.Need-sub-clear-words Inv-loop μ-loop
+sub-clear-words c = omega (arith, room (c .before .before .before .before .before .before .before))
+
+clear-words-requires : tie.Need-clear-words-requires Inv-loop μ-loop
+clear-words-requires c κs = let r = room (c .before .before .before .before .before .before .before) in omega (arith, r .room, r .ends)
+
+add-start : tie.Need-add-start Inv-loop μ-loop
+add-start c = omega (arith, room (c .before .before .before .before .before .before .before .before .before .before))
+
+mul-cap : tie.Need-mul-cap Inv-loop μ-loop
+mul-cap c = omega (arith, room (c .before .before .before .before .before .before .before .before .before .before))
+
+add-i : tie.Need-add-i Inv-loop μ-loop
+add-i c = search needs
+
+loop-less : tie.Need-loop-less Inv-loop μ-loop
+loop-less c = search needs
+
+loop-again : tie.Need-loop-again Inv-loop μ-loop
+loop-again c = let t = c .before .before .before .before .before .before .before .before .before .before in let h = t .before in let z = h .before .before in settling-more (h .loop .inv) (z .pre .1) (z .pre .0) (t .loop-test .taken) (c .before .before .before .before .before .before .pull-words .ensures) (c .before .before .clear-words .ensures)
+
+same-length : tie.Need-same-length Inv-loop μ-loop
+same-length c = search needs
+
+returns : tie.Need-returns Inv-loop μ-loop
+returns c = let h = c .before in let z = h .before .before in settling-all (h .loop .inv) (z .pre .1) (omega arith)
+
+pub settle-words-spec : {M : Type 1} → statement M
+settle-words-spec =
+    tie.close
+    (tie.spec
+    Inv-loop
+    μ-loop
+    loop-holds
+    mul-n
+    element-copy-out-n
+    mul-pull-words
+    element-copy-out-pull-words
+    pull-words-requires
+    add-clear-words
+    sub-clear-words
+    clear-words-requires
+    add-start
+    mul-cap
+    add-i
+    loop-less
+    loop-again
+    same-length
+    returns)

@@ -1,0 +1,106 @@
+// The spaces as they are at return: "Places past a bucket's terms are 0 at return. The work space is
+// all 0 at return."
+use crate::state::Buckets;
+ghost use mathlib.Core.Path.{_≡_};
+ghost use Prim.Native.Nat.{_+_, _≤_};
+ghost use lib.ListN.{length, replicate};
+ghost use lib.Seq.{sets};
+ghost use Rattle.merge.specs.Lent.{part};
+ghost use Rattle.space.specs.Space.{Laid, settled, bucketsIn, AtReturn};
+
+// Leaves the spaces as document 01 has them at return: each bucket's terms from its start on and 0
+// past them, the work space all 0.
+pub fn settle(b: Buckets, sw: &mut [u64], sc: &mut [u32], ww: &mut [u64], wc: &mut [u32])
+    requires { ⌜ Laid b × (length (now sw) ≡ 5460) × (length (now sc) ≡ 5460) × (length (now ww) ≡ 8192) × (length (now wc) ≡ 8192) ⌝ }
+    ensures { λ _. ⌜ AtReturn (bucketsIn b (now (sw .entry)) (now (sc .entry))) (now (sw .exit)) (now (sc .exit)) (now (ww .exit)) (now (wc .exit)) ⌝ }
+{
+    settle_words(b, sw);
+    settle_coefs(b, sc);
+    clear_words(ww, 0, 8192);
+    clear_coefs(wc, 0, 8192);
+}
+
+// Moves each bucket's words to the bucket's start, and sets the words past them to 0.
+pub fn settle_words(b: Buckets, s: &mut [u64])
+    requires { ⌜ Laid b × (length (now s) ≡ 5460) ⌝ }
+    ensures { λ _. ⌜ now (s .exit) ≡ settled b (now (s .entry)) ⌝ }
+{
+    let mut i = 0;
+    let mut start = 0;
+    let mut cap = 4;
+    while i < 6 {
+        let n = b.len[i];
+        pull_words(s, b.head[i], start, n);
+        clear_words(s, start + n, cap - n);
+        start += cap;
+        cap *= 4;
+        i += 1;
+    }
+}
+
+// The same for coefficients.
+pub fn settle_coefs(b: Buckets, s: &mut [u32])
+    requires { ⌜ Laid b × (length (now s) ≡ 5460) ⌝ }
+    ensures { λ _. ⌜ now (s .exit) ≡ settled b (now (s .entry)) ⌝ }
+{
+    let mut i = 0;
+    let mut start = 0;
+    let mut cap = 4;
+    while i < 6 {
+        let n = b.len[i];
+        pull_coefs(s, b.head[i], start, n);
+        clear_coefs(s, start + n, cap - n);
+        start += cap;
+        cap *= 4;
+        i += 1;
+    }
+}
+
+// Puts the n words from place `from` on also from `to` on, which is no later place. The two may
+// overlap.
+pub fn pull_words(s: &mut [u64], from: usize, to: usize, n: usize)
+    requires { ⌜ (from + n ≤ length (now s)) × (to ≤ from) ⌝ }
+    ensures { λ _. ⌜ now (s .exit) ≡ sets (now (s .entry)) to (part from n (now (s .entry))) ⌝ }
+{
+    let mut i = 0;
+    while i < n {
+        s[to + i] = s[from + i];
+        i += 1;
+    }
+}
+
+// The same for coefficients.
+pub fn pull_coefs(s: &mut [u32], from: usize, to: usize, n: usize)
+    requires { ⌜ (from + n ≤ length (now s)) × (to ≤ from) ⌝ }
+    ensures { λ _. ⌜ now (s .exit) ≡ sets (now (s .entry)) to (part from n (now (s .entry))) ⌝ }
+{
+    let mut i = 0;
+    while i < n {
+        s[to + i] = s[from + i];
+        i += 1;
+    }
+}
+
+// Sets the n words from place `at` on to 0.
+pub fn clear_words(s: &mut [u64], at: usize, n: usize)
+    requires { ⌜ at + n ≤ length (now s) ⌝ }
+    ensures { λ _. ⌜ now (s .exit) ≡ sets (now (s .entry)) at (replicate n 0) ⌝ }
+{
+    let mut k = 0;
+    while k < n {
+        s[at + k] = 0;
+        k += 1;
+    }
+}
+
+// The same for coefficients.
+pub fn clear_coefs(s: &mut [u32], at: usize, n: usize)
+    requires { ⌜ at + n ≤ length (now s) ⌝ }
+    ensures { λ _. ⌜ now (s .exit) ≡ sets (now (s .entry)) at (replicate n 0) ⌝ }
+{
+    let mut i = 0;
+    while i < n {
+        s[at + i] = 0;
+        i += 1;
+    }
+}
