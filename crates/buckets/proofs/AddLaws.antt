@@ -27,7 +27,7 @@ use Rattle.buckets.specs.Levels.{levelAt, LevelFor}
 use Rattle.buckets.specs.Adding.{Addition, AddDone, landed, landedCompared, Carry, CarryDone, Store, Stored}
 use Rattle.space.proofs.Starts.{next-capacity, cap-zero}
 use Rattle.space.proofs.SpaceLaws.{good-at, row-end, row-long, bucket-long, bucket-poly, held-cons, held-append, from-same, from-next, from-split, from-at, from-long}
-use Rattle.buckets.proofs.CarryLaws.{made-terms}
+use Rattle.buckets.proofs.WorkLaws.{made-terms}
 
 -- ---- the bucket that an addition begins with
 module _ (cmp : ℕ → ℕ → Ordering) (p : ℕ) (f : List (Term ℕ)) (g : ℕ → List (Term ℕ)) where

@@ -107,16 +107,6 @@ pub same-carrying : {cmp : ℕ → ℕ → Ordering} {p : ℕ} {G : List (List (
 same-carrying {cmp} {p} {G} {N} {g} {i} {m} {n} {i'} {m'} {n'} c ei em en =
     subst (λ (x : ℕ). Carrying cmp p G N g x m' n') (sym ei) (subst (λ (x : List (Term ℕ)). Carrying cmp p G N g i x n') (sym em) (subst (λ (x : ℕ). Carrying cmp p G N g i m x) (sym en) c))
 
--- ---- what a merge made, read back
-pub made-terms : {cmp : ℕ → ℕ → Ordering} {p : ℕ} {f g : List (Term ℕ)} {to : ℕ} {ow oc ow' oc' : List ℕ} {len n : ℕ} → Made cmp p f g to ow oc ow' oc' len n → to + length (merge cmp p f g) ≤ length ow → to + length (merge cmp p f g) ≤ length oc → terms (part to len ow') (part to len oc') ≡ merge cmp p f g
-made-terms {cmp} {p} {f} {g} {to} {ow} {oc} {ow'} {oc'} {len} d hw hc =
-    let M = merge cmp p f g in
-    let lw : length (words M) ≡ length M = length-map M (λ t. t .mono) in
-    let lc : length (coefs M) ≡ length M = length-map M (λ t. t .coef) in
-    let w : part to len ow' ≡ words M = ap₂ (λ (n : ℕ) (l : List ℕ). part to n l) (d .len-is ∙ sym lw) (d .words-are) ∙ part-put ow to (words M) (omega arith) in
-    let v : part to len oc' ≡ coefs M = ap₂ (λ (n : ℕ) (l : List ℕ). part to n l) (d .len-is ∙ sym lc) (d .coefs-are) ∙ part-put oc to (coefs M) (omega arith) in
-    ap₂ terms w v ∙ terms-of M
-
 -- ---- a bucket in the bucket space is emptied
 abbrev pub without : Buckets → ℕ → Buckets
 without b i = record { head = b .head; len = set (b .len) i 0 }

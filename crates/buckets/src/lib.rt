@@ -1,3 +1,4 @@
-// The geobucket in lent space: additions, the search for the lead, and the full sum.
+// Additions to the geobucket in lent space, and its full sum.
 pub mod add; // an addition
 pub mod level; // the bucket that a number of terms goes to
+pub mod sum; // the full sum

@@ -82,7 +82,7 @@ fronted g (suc k) a (suc j) t (c ∷ cs) e h l =
       back = λ g' f o. ap₂ (λ (x : List (Term ℕ)) (y : List (List (Term ℕ))). x ∷ y) (o a (omega arith) (omega arith) (λ q. let w : ⊥ = omega arith in w) ∙ ap list-head e) (r .back g' (ap g' z ∙ f) (λ m u v ne. o m (omega arith) (omega arith) (λ q. ne (q ∙ sym z))));
     }
 
-shrunk-long : (cs bs : List (List (Term ℕ))) → Shrunk cs bs → length cs ≡ length bs
+pub shrunk-long : (cs bs : List (List (Term ℕ))) → Shrunk cs bs → length cs ≡ length bs
 unfolding Shrunk
 shrunk-long [] [] h = refl
 shrunk-long [] (b ∷ bs) h = absurd h

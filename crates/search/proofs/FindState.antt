@@ -28,6 +28,10 @@ pub record Finds (cmp : ℕ → ℕ → Ordering) (p : ℕ) (bs : List (List (Te
   pub first : FirstHeld b i
   pub state : Finding cmp p (search cmp p bs) (bucketsIn b sw sc) n
 
+-- good buckets are canonical
+pub stands-canon : {cmp : ℕ → ℕ → Ordering} {p : ℕ} {b : Buckets} {sw sc : List ℕ} → Stands cmp p b sw sc → Canon cmp p (bucketsIn b sw sc)
+stands-canon {cmp} {p} {b} {sw} {sc} s = canon-from cmp p (bucketAt b sw sc) 6 0 (λ j u w. good-at cmp p (bucketAt b sw sc) 6 0 4 (s .good) j u w)
+
 -- ---- the start
 pub finds-start : {cmp : ℕ → ℕ → Ordering} {p : ℕ} {b : Buckets} {sw sc : List ℕ} {i : ℕ} → Stands cmp p b sw sc → FirstHeld b i → Finds cmp p (bucketsIn b sw sc) sw b 0 sc i
 finds-start {cmp} {p} {b} {sw} {sc} s f = record {
@@ -37,12 +41,12 @@ finds-start {cmp} {p} {b} {sw} {sc} s f = record {
   laid = s .laid;
   first = f;
   state =
-      finding-start cmp p (bucketsIn b sw sc) (canon-from cmp p (bucketAt b sw sc) 6 0 (λ j u w. good-at cmp p (bucketAt b sw sc) 6 0 4 (s .good) j u w))
+      finding-start cmp p (bucketsIn b sw sc) (stands-canon s)
       (let e = held-short (bucketAt b sw sc) 6 0 (λ j u w. bucket-short b (s .laid) sw sc (s .words-long) (s .coefs-long) j (omega arith)) in omega (arith, e, six));
 }
 
 -- buckets that are canonical and lie in the bucket space are good
-stands-by : {cmp : ℕ → ℕ → Ordering} {p : ℕ} {b : Buckets} {sw sc : List ℕ} → Modulus p → length sw ≡ 5460 → length sc ≡ 5460 → Laid b → Canon cmp p (bucketsIn b sw sc) → Stands cmp p b sw sc
+pub stands-by : {cmp : ℕ → ℕ → Ordering} {p : ℕ} {b : Buckets} {sw sc : List ℕ} → Modulus p → length sw ≡ 5460 → length sc ≡ 5460 → Laid b → Canon cmp p (bucketsIn b sw sc) → Stands cmp p b sw sc
 stands-by {cmp} {p} {b} {sw} {sc} m hw hc l c = record {
   modulus = m;
   words-long = hw;

@@ -3,3 +3,4 @@ pub mod SeekState
 pub mod FirstLaws
 pub mod FindLaws
 pub mod FindState
+pub mod TakeLaws

@@ -17,6 +17,12 @@ pub record FindDone (cmp : ℕ → ℕ → Ordering) (p : ℕ) (bs : List (List 
   pub lists-are : bucketsIn b sw sc ≡ withLead (search cmp p bs .answer) (search cmp p bs .buckets)
   pub stands : Stands cmp p b sw sc
 
+-- the same, with the lead removed
+pub record TakeDone (cmp : ℕ → ℕ → Ordering) (p : ℕ) (bs : List (List (Term ℕ))) (b : Buckets) (sw sc : List ℕ) (c : Candidate) : Type 0 where
+  pub candidate-is : c ≡ candidateOf (search cmp p bs .answer) (length (search cmp p bs .pairs))
+  pub lists-are : bucketsIn b sw sc ≡ search cmp p bs .buckets
+  pub stands : Stands cmp p b sw sc
+
 -- a bucket that has a lead
 pub record Removal (b : Buckets) (i : ℕ) : Type 0 where
   pub laid : Laid b

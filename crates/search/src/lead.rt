@@ -7,7 +7,7 @@ use space::state::Buckets;
 ghost use mathlib.Core.Path.{_≡_};
 ghost use Rattle.monomial.specs.Words.{compareWords};
 ghost use Rattle.space.specs.Space.{bucketsIn, Stands, dropped};
-ghost use Rattle.search.specs.Searching.{Removal, Seek, SeekDone, FirstHeld, FindDone};
+ghost use Rattle.search.specs.Searching.{Removal, Seek, SeekDone, FirstHeld, FindDone, TakeDone};
 
 // The buckets, and the candidate that the search ended with.
 pub struct Found {
@@ -44,6 +44,23 @@ pub fn find_lead(order: Order, p: u32, buckets: Buckets, sw: &[u64], sc: &mut [u
     Found {
         buckets: b,
         candidate: Candidate::none(n),
+    }
+}
+
+// Searches for the lead, and removes it.
+pub fn take_lead(order: Order, p: u32, buckets: Buckets, sw: &[u64], sc: &mut [u32]) -> Found
+    requires { ⌜ Stands (compareWords order) p buckets (now sw) (now sc) ⌝ }
+    ensures { λ r. ⌜ TakeDone (compareWords order) p (bucketsIn buckets (now (sw .entry)) (now (sc .entry))) (r .buckets) (now (sw .entry)) (now (sc .exit)) (r .candidate) ⌝ }
+{
+    let f = find_lead(order, p, buckets, sw, sc);
+    let c = f.candidate;
+    if c.bucket == 6 {
+        return f;
+    }
+    let b = remove_lead(f.buckets, c.bucket);
+    Found {
+        buckets: b,
+        candidate: c,
     }
 }
 

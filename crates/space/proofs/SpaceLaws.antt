@@ -12,9 +12,10 @@ use Rattle.merge.specs.Lent.{Poly, part, Apart}
 use Rattle.merge.proofs.Lists.{getD-sets-other, getD-part, length-part}
 use Rattle.polynomial.specs.Terms.{Term, term, terms, Canonical}
 use Rattle.polynomial.proofs.TermLists.{length-terms}
-use Rattle.geobucket.specs.Buckets.{held, Good}
+use Rattle.residue.specs.Modular.{Modulus}
+use Rattle.geobucket.specs.Buckets.{empty, held, Good}
 use Rattle.geobucket.proofs.SearchLaws.{Canon}
-use Rattle.space.specs.Space.{capacity, start, listFrom, rowAt, bucketAt, bucketsIn, Laid, moved, dropped}
+use Rattle.space.specs.Space.{capacity, start, listFrom, rowAt, bucketAt, bucketsIn, Laid, Stands, moved, dropped, noBuckets}
 use Rattle.space.specs.declared.state.Buckets.{Buckets}
 use Rattle.space.proofs.Starts.{next-start, next-capacity, start-up, start-end}
 
@@ -261,3 +262,40 @@ pub held-short : (g : ℕ → List (Term ℕ)) (k i : ℕ) → ((j : ℕ) → i 
 unfolding held listFrom
 held-short g zero i h = omega (arith, ap start (let e : i + 0 ≡ i = omega arith in e))
 held-short g (suc k) i h = omega (arith, h i (omega arith) (omega arith), held-short g k (suc i) (λ j u w. h j (omega arith) (omega arith)), next-start i, ap start (let e : i + suc k ≡ suc i + k = omega arith in e))
+
+-- ---- six empty buckets, whatever the bucket space holds
+pub laid-none : Laid noBuckets
+unfolding start capacity
+laid-none = record { six-heads = refl; six-lens = refl; low = lows; high = highs }
+  where
+    lows : (i : ℕ) → i < 6 → start i ≤ getD (noBuckets .head) i 0
+    lows zero h = omega arith
+    lows (suc zero) h = omega arith
+    lows (suc (suc zero)) h = omega arith
+    lows (suc (suc (suc zero))) h = omega arith
+    lows (suc (suc (suc (suc zero)))) h = omega arith
+    lows (suc (suc (suc (suc (suc zero))))) h = omega arith
+    lows (suc (suc (suc (suc (suc (suc i)))))) h = absurd (let z : ⊥ = omega arith in z)
+
+    highs : (i : ℕ) → i < 6 → getD (noBuckets .head) i 0 + getD (noBuckets .len) i 0 ≤ start (suc i)
+    highs zero h = omega arith
+    highs (suc zero) h = omega arith
+    highs (suc (suc zero)) h = omega arith
+    highs (suc (suc (suc zero))) h = omega arith
+    highs (suc (suc (suc (suc zero)))) h = omega arith
+    highs (suc (suc (suc (suc (suc zero))))) h = omega arith
+    highs (suc (suc (suc (suc (suc (suc i)))))) h = absurd (let z : ⊥ = omega arith in z)
+
+pub lists-none : (sw sc : List ℕ) → bucketsIn noBuckets sw sc ≡ empty
+unfolding listFrom
+lists-none sw sc = refl
+
+good-none : (cmp : ℕ → ℕ → Ordering) (p : ℕ) → Good cmp p 4 empty
+unfolding Good
+good-none cmp p = (blank 4, (blank (4 * 4), (blank (4 * (4 * 4)), (blank (4 * (4 * (4 * 4))), (blank (4 * (4 * (4 * (4 * 4)))), (blank (4 * (4 * (4 * (4 * (4 * 4))))), tt))))))
+  where
+    blank : (cap : ℕ) → Canonical cmp p [] × (length {A = Term ℕ} [] ≤ cap)
+    blank cap = (record { falling = tt; reduced = tt }, let z : 0 ≤ cap = omega arith in z)
+
+pub stands-none : (cmp : ℕ → ℕ → Ordering) (p : ℕ) (sw sc : List ℕ) → Modulus p → length sw ≡ 5460 → length sc ≡ 5460 → Stands cmp p noBuckets sw sc
+stands-none cmp p sw sc m hw hc = record { modulus = m; words-long = hw; coefs-long = hc; laid = laid-none; good = subst (Good cmp p 4) (sym (lists-none sw sc)) (good-none cmp p) }

@@ -15,7 +15,8 @@ use Rattle.space.specs.Space.{capacity, listFrom, bucketAt, rowAt}
 use Rattle.space.specs.declared.state.Buckets.{Buckets}
 use Rattle.buckets.specs.declared.level.Level.{Level}
 use Rattle.buckets.specs.Adding.{landed, landedCompared}
-use Rattle.buckets.proofs.CarryState.{Carries, carries-start, carries-end, in-work, to-work, next-bucket, next-six, next-len, next-end, within, next-count, again}
+use Rattle.buckets.proofs.WorkLaws.{to-work}
+use Rattle.buckets.proofs.CarryState.{Carries, carries-start, carries-end, next-bucket, next-six, next-len, next-end, within, next-count, again}
 use Rattle.buckets.proofs.add.carry.Statement.{statement}
 use Rattle.buckets.proofs.add.carry.Tie as tie
 
@@ -93,7 +94,7 @@ add-e c = omega (arith, end (c .before .before))
 
 -- src/add.rt:96:18
 sub-to : tie.Need-sub-to Inv-loop μ-loop
-sub-to c = omega (arith, to-work (head (c .before .before) .loop .inv))
+sub-to c = omega (arith, to-work (head (c .before .before) .loop .inv .work))
 
 -- src/add.rt:97:63
 mul-merge-within : tie.Need-mul-merge-within Inv-loop μ-loop

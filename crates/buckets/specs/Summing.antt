@@ -1,0 +1,26 @@
+-- What a full sum asks and leaves. Assumes nothing.
+use Prim.Native.Nat.{ℕ, _+_, _≤_, Ordering}
+use mathlib.Core.Path.{_≡_}
+use mathlib.Core.List.{List, []}
+use lib.ListN.{length}
+use Rattle.polynomial.specs.Terms.{terms}
+use Rattle.merge.specs.Lent.{part}
+use Rattle.geobucket.specs.Buckets.{held, fullSum, sumCompared, emptied}
+use Rattle.space.specs.Space.{bucketsIn, Stands}
+use Rattle.space.specs.declared.state.Buckets.{Buckets}
+use Rattle.buckets.specs.declared.sum.Summed.{Summed}
+
+pub record Summation (cmp : ℕ → ℕ → Ordering) (p : ℕ) (b : Buckets) (sw sc ww wc : List ℕ) : Type 0 where
+  pub stands : Stands cmp p b sw sc
+  pub room : held (bucketsIn b sw sc) ≤ 4096
+  pub work-words : length ww ≡ 8192
+  pub work-coefs : length wc ≡ 8192
+
+-- the sum in the work space is the published one, with its comparisons, and the buckets are empty
+pub record SumDone (cmp : ℕ → ℕ → Ordering) (p : ℕ) (b : Buckets) (sw sc ww wc : List ℕ) (r : Summed) : Type 0 where
+  pub in-work : r .from + r .len ≤ 8192
+  pub sum-is : terms (part (r .from) (r .len) ww) (part (r .from) (r .len) wc) ≡ fullSum cmp p (bucketsIn b sw sc)
+  pub len-is : r .len ≡ length (fullSum cmp p (bucketsIn b sw sc))
+  pub count-is : r .comparisons ≡ length (sumCompared cmp p [] (bucketsIn b sw sc))
+  pub lists-are : bucketsIn (r .buckets) sw sc ≡ emptied (bucketsIn b sw sc)
+  pub stands : Stands cmp p (r .buckets) sw sc
