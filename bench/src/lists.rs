@@ -2,10 +2,32 @@
 use crate::random::Random;
 
 /// Words and coefficients.
-#[derive(Clone, Default)]
+#[derive(Clone, Default, PartialEq, Eq)]
 pub struct List {
     pub words: Vec<u64>,
     pub coefs: Vec<u32>,
+}
+
+/// The words and coefficients of some terms, and of places for terms.
+pub type Terms<'a> = (&'a [u64], &'a [u32]);
+pub type Places<'a> = (&'a mut [u64], &'a mut [u32]);
+
+impl List {
+    /// A list of so many places.
+    pub fn of(places: usize) -> Self {
+        List {
+            words: vec![0; places],
+            coefs: vec![0; places],
+        }
+    }
+
+    pub fn terms(&self) -> Terms<'_> {
+        (&self.words, &self.coefs)
+    }
+
+    pub fn places(&mut self) -> Places<'_> {
+        (&mut self.words, &mut self.coefs)
+    }
 }
 
 #[derive(Clone, Copy, Debug, PartialEq, Eq)]
@@ -63,14 +85,15 @@ pub fn deg_rev_lex_key(w: u64) -> u64 {
     w ^ 0xffff_ffff_ffff
 }
 
-fn words(random: &mut Random, order: Order, len: usize) -> Vec<u64> {
+/// Words with any exponents.
+pub fn words(random: &mut Random, order: Order, len: usize) -> Vec<u64> {
     let exponent = |random: &mut Random| random.below(128) as u8;
     let word = |_| order.word(std::array::from_fn(|_| exponent(random)));
     (0..len).map(word).collect()
 }
 
 /// Falling words, each once, with random coefficients.
-fn list(random: &mut Random, order: Order, p: u32, mut words: Vec<u64>) -> List {
+pub fn list(random: &mut Random, order: Order, p: u32, mut words: Vec<u64>) -> List {
     words.sort_unstable_by_key(|&w| std::cmp::Reverse(order.key(w)));
     words.dedup();
     let coef = |_| 1 + random.below(u64::from(p - 1)) as u32;

@@ -1,5 +1,6 @@
-//! Times the proved merge beside two in plain Rust, and prints a table. It fails only where results
-//! differ.
+//! Times the proved functions beside the same in plain Rust, and prints the table that is asked for
+//! by its name. It fails only where results differ.
+use bench::buckets;
 use bench::lists::{pair, List, Order};
 use bench::merge::{branching, masks, Counts, Merge};
 use bench::proved;
@@ -27,6 +28,17 @@ struct Row {
 }
 
 fn main() {
+    match std::env::args().nth(1).as_deref() {
+        Some("merges") => merges(),
+        Some("buckets") => buckets::operations(),
+        Some("leads") => buckets::leads(),
+        Some("settling") => buckets::settling(),
+        _ => panic!("no such table: merges, buckets, leads or settling"),
+    }
+}
+
+/// The proved merge beside two in plain Rust.
+fn merges() {
     let mut rows = Vec::new();
     for order in [Order::DegRevLex, Order::Lex] {
         for like in [0, 60] {
@@ -53,10 +65,7 @@ fn main() {
 
 /// An output for lists of these lengths.
 fn output((a, b): (usize, usize)) -> List {
-    List {
-        words: vec![0; a + b],
-        coefs: vec![0; a + b],
-    }
+    List::of(a + b)
 }
 
 impl Row {

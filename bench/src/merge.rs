@@ -1,5 +1,5 @@
 //! The merge in plain Rust, with the order taken out of the loop.
-use crate::lists::{deg_rev_lex_key, lex_key, List, Order};
+use crate::lists::{deg_rev_lex_key, lex_key, List, Order, Places, Terms};
 
 /// The terms of the result, and the comparisons.
 #[repr(C)]
@@ -15,60 +15,61 @@ pub type Merge = fn(Order, u32, &List, &List, &mut List) -> Counts;
 /// With a branch for each outcome of a comparison.
 pub fn branching(order: Order, p: u32, a: &List, b: &List, out: &mut List) -> Counts {
     match order {
-        Order::Lex => branching_by(lex_key, p, a, b, out),
-        Order::DegRevLex => branching_by(deg_rev_lex_key, p, a, b, out),
+        Order::Lex => branching_by(lex_key, p, a.terms(), b.terms(), out.places()),
+        Order::DegRevLex => branching_by(deg_rev_lex_key, p, a.terms(), b.terms(), out.places()),
     }
 }
 
 #[inline(always)]
-fn branching_by(key: impl Fn(u64) -> u64, p: u32, a: &List, b: &List, out: &mut List) -> Counts {
-    let (aw, ac) = (&a.words[..], &a.coefs[..a.words.len()]);
-    let (bw, bc) = (&b.words[..], &b.coefs[..b.words.len()]);
+fn branching_by(key: impl Fn(u64) -> u64, p: u32, a: Terms, b: Terms, out: Places) -> Counts {
+    let (aw, ac) = (a.0, &a.1[..a.0.len()]);
+    let (bw, bc) = (b.0, &b.1[..b.0.len()]);
+    let (ow, oc) = out;
     let (mut i, mut j, mut k) = (0, 0, 0);
     let mut comparisons = 0;
     while i < aw.len() && j < bw.len() {
         let (x, y) = (aw[i], bw[j]);
         comparisons += 1;
         if key(x) > key(y) {
-            out.words[k] = x;
-            out.coefs[k] = ac[i];
+            ow[k] = x;
+            oc[k] = ac[i];
             i += 1;
             k += 1;
         } else if x != y {
-            out.words[k] = y;
-            out.coefs[k] = bc[j];
+            ow[k] = y;
+            oc[k] = bc[j];
             j += 1;
             k += 1;
         } else {
             let sum = ac[i] + bc[j];
             let sum = if sum >= p { sum - p } else { sum };
             if sum != 0 {
-                out.words[k] = x;
-                out.coefs[k] = sum;
+                ow[k] = x;
+                oc[k] = sum;
                 k += 1;
             }
             i += 1;
             j += 1;
         }
     }
-    let len = rest(a, i, b, j, out, k);
+    let len = rest((aw, ac), i, (bw, bc), j, (ow, oc), k);
     Counts { len, comparisons }
 }
 
 /// Without branches in the loop: each outcome is a mask.
 pub fn masks(order: Order, p: u32, a: &List, b: &List, out: &mut List) -> Counts {
     match order {
-        Order::Lex => masks_by(lex_key, p, a, b, out),
-        Order::DegRevLex => masks_by(deg_rev_lex_key, p, a, b, out),
+        Order::Lex => masks_by(lex_key, p, a.terms(), b.terms(), out.places()),
+        Order::DegRevLex => masks_by(deg_rev_lex_key, p, a.terms(), b.terms(), out.places()),
     }
 }
 
 #[inline(always)]
-fn masks_by(key: impl Fn(u64) -> u64, p: u32, a: &List, b: &List, out: &mut List) -> Counts {
-    let (aw, ac) = (&a.words[..], &a.coefs[..a.words.len()]);
-    let (bw, bc) = (&b.words[..], &b.coefs[..b.words.len()]);
+fn masks_by(key: impl Fn(u64) -> u64, p: u32, a: Terms, b: Terms, out: Places) -> Counts {
+    let (aw, ac) = (a.0, &a.1[..a.0.len()]);
+    let (bw, bc) = (b.0, &b.1[..b.0.len()]);
     let room = aw.len() + bw.len();
-    let (ow, oc) = (&mut out.words[..room], &mut out.coefs[..room]);
+    let (ow, oc) = (&mut out.0[..room], &mut out.1[..room]);
     let (mut i, mut j, mut k) = (0, 0, 0);
     let mut comparisons = 0;
     while i < aw.len() && j < bw.len() {
@@ -91,16 +92,30 @@ fn masks_by(key: impl Fn(u64) -> u64, p: u32, a: &List, b: &List, out: &mut List
         k += usize::from(sum != 0);
         comparisons += 1;
     }
-    let len = rest(a, i, b, j, out, k);
+    let len = rest((aw, ac), i, (bw, bc), j, (ow, oc), k);
     Counts { len, comparisons }
 }
 
+/// A list is much longer than another where it has over so many times as many terms.
+const MUCH_LONGER: usize = 4;
+
+/// With branches where one list is much longer, since they are foreseen then, and else without.
+#[inline(always)]
+pub fn best_by(key: impl Fn(u64) -> u64, p: u32, a: Terms, b: Terms, out: Places) -> Counts {
+    let (short, long) = (a.0.len().min(b.0.len()), a.0.len().max(b.0.len()));
+    if long / MUCH_LONGER > short {
+        branching_by(key, p, a, b, out)
+    } else {
+        masks_by(key, p, a, b, out)
+    }
+}
+
 /// Copies what is left of the one list that has terms, and gives the length of the result.
-fn rest(a: &List, i: usize, b: &List, j: usize, out: &mut List, k: usize) -> usize {
-    let (list, at) = if i < a.words.len() { (a, i) } else { (b, j) };
-    let (words, coefs) = (&list.words[at..], &list.coefs[at..]);
+fn rest(a: Terms, i: usize, b: Terms, j: usize, out: Places, k: usize) -> usize {
+    let (list, at) = if i < a.0.len() { (a, i) } else { (b, j) };
+    let (words, coefs) = (&list.0[at..], &list.1[at..]);
     let len = k + words.len();
-    out.words[k..len].copy_from_slice(words);
-    out.coefs[k..len].copy_from_slice(coefs);
+    out.0[k..len].copy_from_slice(words);
+    out.1[k..len].copy_from_slice(coefs);
     len
 }

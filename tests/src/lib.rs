@@ -1,8 +1,13 @@
-//! A second program for what the proved crates compute. `monomial`, `residue` and `polynomial` are
-//! plain models, which share no code with the proved crates; `probe` calls the proved functions.
+//! A second program for what the proved crates compute. `monomial`, `residue`, `polynomial` and
+//! `geobucket` are plain models, which share no code with the proved crates; `probe` and
+//! `probe_buckets` call the proved functions; `generate` and `operations` make what they are given.
+pub mod generate;
+pub mod geobucket;
 pub mod monomial;
+pub mod operations;
 pub mod polynomial;
 pub mod probe;
+pub mod probe_buckets;
 pub mod random;
 pub mod residue;
 

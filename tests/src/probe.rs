@@ -207,7 +207,7 @@ pub type Lent<'a> = (&'a [u64], &'a [u32]);
 pub type LentMut<'a> = (&'a mut [u64], &'a mut [u32]);
 
 /// What every merge and multiple asks of a modulus and a polynomial.
-fn ask_polynomial(p: u32, (words, coefs): Lent) {
+pub(crate) fn ask_polynomial(p: u32, (words, coefs): Lent) {
     assert!((2..=residue::LIMIT).contains(&p), "not a modulus");
     assert_eq!(words.len(), coefs.len());
     assert!(coefs.iter().all(|c| (1..p).contains(c)), "not reduced");

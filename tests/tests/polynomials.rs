@@ -1,13 +1,14 @@
 //! Generated polynomials: checks, starts, parts, merges and multiples against the model. The variable
 //! SECOND_CASES sets the size, as for the other generated tests.
 use second::cases;
+use second::generate::{
+    coef, falling, monomial, monomials, negative, places, setting, up_to, with_coefs,
+};
 use second::monomial::{Order, FIELDS, LIMIT};
 use second::polynomial::{lent, merge, multiple, part, refusal, starts_good, sum, Term};
 use second::probe::{self, Counts};
 use second::random::Random;
 use second::residue;
-
-const PRIMES: [u32; 6] = [2, 3, 7, 32_003, 65_521, residue::LIMIT];
 
 /// The work space has this many places, in two halves.
 const SPACE: usize = 8_192;
@@ -16,54 +17,6 @@ const HALF: usize = SPACE / 2;
 /// The most terms of a list, but for one of so many cases.
 const SHORT: usize = 60;
 const LONG_EVERY: u64 = 64;
-
-/// A number from 0 to n.
-fn up_to(random: &mut Random, n: usize) -> usize {
-    random.below(n as u64 + 1) as usize
-}
-
-/// An order, a number of variables and a prime: all 108 in turn.
-fn setting(case: u64) -> (Order, usize, u32) {
-    let order = Order::ALL[(case % 3) as usize];
-    let n = 1 + (case / 3 % FIELDS as u64) as usize;
-    let p = PRIMES[(case / 18 % PRIMES.len() as u64) as usize];
-    (order, n, p)
-}
-
-/// A coefficient from 1 to p - 1, often one of the ends.
-fn coef(random: &mut Random, p: u32) -> u32 {
-    match random.below(4) {
-        0 => random.pick(&[1, p - 1, 1 + (p - 1) / 2]),
-        _ => 1 + random.below(u64::from(p - 1)) as u32,
-    }
-}
-
-/// A monomial with exponents up to a limit.
-fn monomial(random: &mut Random, n: usize, limit: u8) -> Vec<u8> {
-    (0..n)
-        .map(|_| up_to(random, usize::from(limit)) as u8)
-        .collect()
-}
-
-/// Monomials put in falling order, each once.
-fn falling(order: Order, mut monomials: Vec<Vec<u8>>) -> Vec<Vec<u8>> {
-    monomials.sort_by(|x, y| order.compare(y, x));
-    monomials.dedup();
-    monomials
-}
-
-/// About `len` falling monomials; fewer where so few have exponents up to the limit.
-fn monomials(random: &mut Random, order: Order, n: usize, len: usize, limit: u8) -> Vec<Vec<u8>> {
-    falling(
-        order,
-        (0..len).map(|_| monomial(random, n, limit)).collect(),
-    )
-}
-
-fn with_coefs(random: &mut Random, p: u32, monomials: Vec<Vec<u8>>) -> Vec<Term> {
-    let term = |m| (m, coef(random, p));
-    monomials.into_iter().map(term).collect()
-}
 
 /// A polynomial of up to `len` terms, dense or scattered.
 fn polynomial(random: &mut Random, order: Order, n: usize, p: u32, len: usize) -> Vec<Term> {
@@ -109,7 +62,6 @@ fn pair(
 ) -> (Vec<Term>, Vec<Term>) {
     let a = polynomial(random, order, n, p, len);
     let b = polynomial(random, order, n, p, len);
-    let negative = |(m, c): &Term| (m.clone(), residue::negate(*c, p));
     match likeness {
         Likeness::Any => (a, b),
         Likeness::Many => {
@@ -127,12 +79,12 @@ fn pair(
             (a, b)
         }
         Likeness::Cancelling => {
-            let b = a.iter().map(negative).collect();
+            let b = negative(p, &a);
             (a, b)
         }
         Likeness::SomeCancelling => {
             let some = |t: &Term| match random.below(2) {
-                0 => negative(t),
+                0 => (t.0.clone(), residue::negate(t.1, p)),
                 _ => (t.0.clone(), coef(random, p)),
             };
             let b = a.iter().map(some).collect();
@@ -158,13 +110,6 @@ fn list_len(random: &mut Random, case: u64) -> usize {
         0 => 500 + up_to(random, 1_500),
         _ => SHORT,
     }
-}
-
-/// Places with any contents.
-fn places(random: &mut Random, words: usize, coefs: usize) -> (Vec<u64>, Vec<u32>) {
-    let ow = (0..words).map(|_| random.word()).collect();
-    let oc = (0..coefs).map(|_| random.word() as u32).collect();
-    (ow, oc)
 }
 
 /// Puts terms from place `to` on.
@@ -292,10 +237,7 @@ fn merges_between_halves() {
         let len = list_len(random, case).min(1_300);
         let (mut a, up) = pair(random, (order, n, p), likeness, len);
         let down = match random.below(2) {
-            0 => up
-                .iter()
-                .map(|(m, c)| (m.clone(), residue::negate(*c, p)))
-                .collect(),
+            0 => negative(p, &up),
             _ => polynomial(random, order, n, p, len),
         };
         put(order, &a, &mut space, 0);

@@ -1,0 +1,167 @@
+// The geobucket in lent space, one operation at a time. Between the operations the caller keeps the
+// state as twelve numbers: the six heads, and then the six lengths. Each function asks what the one
+// that it calls asks: whoever calls it keeps to that.
+use buckets::add::add;
+use buckets::sum::full_sum;
+use monomial::order::order_of;
+use search::lead::find_lead;
+use search::lead::remove_lead;
+use search::lead::take_lead;
+use space::settle::settle;
+use space::state::Buckets;
+use space::state::empty;
+ghost use mathlib.Core.Path.{_≡_};
+ghost use Prim.Native.Nat.{_<_};
+ghost use lib.ListN.{length};
+ghost use Rattle.monomial.specs.Exponents.{orderOf};
+ghost use Rattle.monomial.specs.Words.{compareWords};
+ghost use Rattle.space.specs.Space.{Laid, Stands};
+ghost use Rattle.buckets.specs.Adding.{Addition};
+ghost use Rattle.buckets.specs.Summing.{Summation};
+ghost use Rattle.search.specs.Searching.{Removal};
+ghost use Rattle.probe.specs.States.{loaded, Settlement};
+
+fn load(s: &[usize]) -> Buckets
+    requires { ⌜ length (now s) ≡ 12 ⌝ }
+    ensures { λ r. ⌜ r ≡ loaded (now (s .entry)) ⌝ }
+{
+    Buckets {
+        head: [s[0], s[1], s[2], s[3], s[4], s[5]],
+        len: [s[6], s[7], s[8], s[9], s[10], s[11]],
+    }
+}
+
+fn save(b: Buckets, s: &mut [usize])
+    requires { ⌜ length (now s) ≡ 12 ⌝ }
+{
+    let mut i = 0;
+    while i < 6 {
+        put_place(s, i, b.head[i]);
+        put_place(s, 6 + i, b.len[i]);
+        i += 1;
+    }
+}
+
+fn put_place(s: &mut [usize], i: usize, n: usize)
+    requires { ⌜ i < length (now s) ⌝ }
+{
+    s[i] = n;
+}
+
+fn put_number(s: &mut [u64], i: usize, n: u64)
+    requires { ⌜ i < length (now s) ⌝ }
+{
+    s[i] = n;
+}
+
+#[no_mangle]
+pub extern "C" fn probe_buckets_empty(state: &mut [usize])
+    requires { ⌜ length (now state) ≡ 12 ⌝ }
+{
+    save(empty(), state);
+}
+
+// Gives the comparisons.
+#[no_mangle]
+pub extern "C" fn probe_buckets_add<'a>(
+    order: u32,
+    p: u32,
+    state: &mut [usize],
+    fw: &'a [u64],
+    fc: &'a [u32],
+    sw: &mut [u64],
+    sc: &mut [u32],
+    ww: &mut [u64],
+    wc: &mut [u32],
+) -> u64
+    requires { ⌜ (length (now state) ≡ 12) × Addition (compareWords (orderOf order)) p (loaded (now state)) (now fw) (now fc) (now sw) (now sc) (now ww) (now wc) ⌝ }
+{
+    let r = add(order_of(order), p, load(state), fw, fc, sw, sc, ww, wc);
+    save(r.buckets, state);
+    r.comparisons
+}
+
+// Finds the lead and leaves it: its bucket (6 for zero), word and coefficient. Gives the comparisons.
+#[no_mangle]
+pub extern "C" fn probe_buckets_lead(
+    order: u32,
+    p: u32,
+    state: &mut [usize],
+    sw: &[u64],
+    sc: &mut [u32],
+    lead: &mut [u64],
+) -> u64
+    requires { ⌜ (length (now state) ≡ 12) × Stands (compareWords (orderOf order)) p (loaded (now state)) (now sw) (now sc) × (length (now lead) ≡ 3) ⌝ }
+{
+    let f = find_lead(order_of(order), p, load(state), sw, sc);
+    save(f.buckets, state);
+    let c = f.candidate;
+    put_number(lead, 0, c.bucket as u64);
+    put_number(lead, 1, c.word);
+    put_number(lead, 2, c.coef as u64);
+    c.count
+}
+
+// The same, with the lead removed.
+#[no_mangle]
+pub extern "C" fn probe_buckets_take_lead(
+    order: u32,
+    p: u32,
+    state: &mut [usize],
+    sw: &[u64],
+    sc: &mut [u32],
+    lead: &mut [u64],
+) -> u64
+    requires { ⌜ (length (now state) ≡ 12) × Stands (compareWords (orderOf order)) p (loaded (now state)) (now sw) (now sc) × (length (now lead) ≡ 3) ⌝ }
+{
+    let f = take_lead(order_of(order), p, load(state), sw, sc);
+    save(f.buckets, state);
+    let c = f.candidate;
+    put_number(lead, 0, c.bucket as u64);
+    put_number(lead, 1, c.word);
+    put_number(lead, 2, c.coef as u64);
+    c.count
+}
+
+// Removes the lead of a bucket that is not empty.
+#[no_mangle]
+pub extern "C" fn probe_buckets_take(state: &mut [usize], bucket: usize)
+    requires { ⌜ (length (now state) ≡ 12) × Removal (loaded (now state)) bucket ⌝ }
+{
+    let b = remove_lead(load(state), bucket);
+    save(b, state);
+}
+
+// Where the full sum lies in the work space, and its terms. Gives the comparisons.
+#[no_mangle]
+pub extern "C" fn probe_buckets_sum(
+    order: u32,
+    p: u32,
+    state: &mut [usize],
+    sw: &[u64],
+    sc: &[u32],
+    ww: &mut [u64],
+    wc: &mut [u32],
+    at: &mut [usize],
+) -> u64
+    requires { ⌜ (length (now state) ≡ 12) × Summation (compareWords (orderOf order)) p (loaded (now state)) (now sw) (now sc) (now ww) (now wc) × (length (now at) ≡ 2) ⌝ }
+{
+    let r = full_sum(order_of(order), p, load(state), sw, sc, ww, wc);
+    save(r.buckets, state);
+    put_place(at, 0, r.from);
+    put_place(at, 1, r.len);
+    r.comparisons
+}
+
+#[no_mangle]
+pub extern "C" fn probe_buckets_settle(
+    state: &[usize],
+    sw: &mut [u64],
+    sc: &mut [u32],
+    ww: &mut [u64],
+    wc: &mut [u32],
+)
+    requires { ⌜ (length (now state) ≡ 12) × Settlement (loaded (now state)) (length (now sw)) (length (now sc)) (length (now ww)) (length (now wc)) ⌝ }
+{
+    settle(load(state), sw, sc, ww, wc);
+}

@@ -1,0 +1,74 @@
+//! Generated settings, terms and contents, for the tests that need any.
+use crate::monomial::{Order, FIELDS};
+use crate::polynomial::Term;
+use crate::random::Random;
+use crate::residue;
+
+pub const PRIMES: [u32; 6] = [2, 3, 7, 32_003, 65_521, residue::LIMIT];
+
+/// A number from 0 to n.
+pub fn up_to(random: &mut Random, n: usize) -> usize {
+    random.below(n as u64 + 1) as usize
+}
+
+/// An order, a number of variables and a prime: all 108 in turn.
+pub fn setting(case: u64) -> (Order, usize, u32) {
+    let order = Order::ALL[(case % 3) as usize];
+    let n = 1 + (case / 3 % FIELDS as u64) as usize;
+    let p = PRIMES[(case / 18 % PRIMES.len() as u64) as usize];
+    (order, n, p)
+}
+
+/// A coefficient from 1 to p - 1, often one of the ends.
+pub fn coef(random: &mut Random, p: u32) -> u32 {
+    match random.below(4) {
+        0 => random.pick(&[1, p - 1, 1 + (p - 1) / 2]),
+        _ => 1 + random.below(u64::from(p - 1)) as u32,
+    }
+}
+
+/// A monomial with exponents up to a limit.
+pub fn monomial(random: &mut Random, n: usize, limit: u8) -> Vec<u8> {
+    (0..n)
+        .map(|_| up_to(random, usize::from(limit)) as u8)
+        .collect()
+}
+
+/// Monomials put in falling order, each once.
+pub fn falling(order: Order, mut monomials: Vec<Vec<u8>>) -> Vec<Vec<u8>> {
+    monomials.sort_by(|x, y| order.compare(y, x));
+    monomials.dedup();
+    monomials
+}
+
+/// About `len` falling monomials; fewer where so few have exponents up to the limit.
+pub fn monomials(
+    random: &mut Random,
+    order: Order,
+    n: usize,
+    len: usize,
+    limit: u8,
+) -> Vec<Vec<u8>> {
+    falling(
+        order,
+        (0..len).map(|_| monomial(random, n, limit)).collect(),
+    )
+}
+
+pub fn with_coefs(random: &mut Random, p: u32, monomials: Vec<Vec<u8>>) -> Vec<Term> {
+    let term = |m| (m, coef(random, p));
+    monomials.into_iter().map(term).collect()
+}
+
+/// The terms times -1.
+pub fn negative(p: u32, terms: &[Term]) -> Vec<Term> {
+    let negated = |(m, c): &Term| (m.clone(), residue::negate(*c, p));
+    terms.iter().map(negated).collect()
+}
+
+/// Places with any contents.
+pub fn places(random: &mut Random, words: usize, coefs: usize) -> (Vec<u64>, Vec<u32>) {
+    let ow = (0..words).map(|_| random.word()).collect();
+    let oc = (0..coefs).map(|_| random.word() as u32).collect();
+    (ow, oc)
+}
