@@ -177,8 +177,8 @@ module _ {cmp : ℕ → ℕ → Ordering} {p : ℕ} {b : Buckets} {fw fc sw sc w
           stands = a .stands;
           level-is = v .is;
           within = v .within;
-          work-words = ap length (d .words-are) ∙ (length-sets ww 0 (words (merge cmp p (terms fw fc) (terms bw bc))) ∙ a .work-words);
-          work-coefs = ap length (d .coefs-are) ∙ (length-sets wc 0 (coefs (merge cmp p (terms fw fc) (terms bw bc))) ∙ a .work-coefs);
+          work-words = ap length (d .words-are) ∙ (length-sets ww 0 (words (merge cmp p (terms fw fc) (terms bw bc)) ++ d .past-words) ∙ a .work-words);
+          work-coefs = ap length (d .coefs-are) ∙ (length-sets wc 0 (coefs (merge cmp p (terms fw fc) (terms bw bc)) ++ d .past-coefs) ∙ a .work-coefs);
           canonical = subst (λ (x : List (Term ℕ)). Canonical cmp p x) (sym read) (merge-canonical cmp O p pos (terms fw fc) (bucketAt b sw sc (l .bucket)) (a .canonical) bucket-canonical);
           room = omega (arith, len-is, M-size, a .room, parted);
           few = omega (arith, cnt-is, count-size cmp p (terms fw fc) (bucketAt b sw sc (l .bucket)), f-long, a .room, parted);

@@ -1,6 +1,6 @@
 -- A polynomial in one half of the work space, and its merge with a bucket into the other half. Assumes nothing.
 use mathlib.Core.Path.{_≡_, refl, sym, ap, ap₂, _∙_}
-use mathlib.Core.List.{List}
+use mathlib.Core.List.{List, _++_}
 use mathlib.Core.Logic.{_⊎_, inl, inr, ⊎-elim}
 use Prim.Native.Nat.{ℕ, _+_, _-_, _<_, _≤_, Ordering}
 use native.Mathlib.Omega.{arith}
@@ -14,7 +14,7 @@ use Rattle.polynomial.proofs.TermLists.{length-terms, terms-of}
 use Rattle.merge.specs.Lent.{Poly, part}
 use Rattle.merge.specs.Merging.{Made, Within}
 use Rattle.merge.proofs.Lists.{length-part}
-use Rattle.space.proofs.SpaceLaws.{part-put}
+use Rattle.space.proofs.SpaceLaws.{part-front}
 
 pub record InHalf (ww wc : List ℕ) (from len : ℕ) : Type 0 where
   pub half : (from ≡ 0) ⊎ (from ≡ 4096)
@@ -64,8 +64,8 @@ made-terms {cmp} {p} {f} {g} {to} {ow} {oc} {ow'} {oc'} {len} d hw hc =
     let M = merge cmp p f g in
     let lw : length (words M) ≡ length M = length-map M (λ t. t .mono) in
     let lc : length (coefs M) ≡ length M = length-map M (λ t. t .coef) in
-    let w : part to len ow' ≡ words M = ap₂ (λ (n : ℕ) (l : List ℕ). part to n l) (d .len-is ∙ sym lw) (d .words-are) ∙ part-put ow to (words M) (omega arith) in
-    let v : part to len oc' ≡ coefs M = ap₂ (λ (n : ℕ) (l : List ℕ). part to n l) (d .len-is ∙ sym lc) (d .coefs-are) ∙ part-put oc to (coefs M) (omega arith) in
+    let w : part to len ow' ≡ words M = ap₂ (λ (n : ℕ) (l : List ℕ). part to n l) (d .len-is ∙ sym lw) (d .words-are) ∙ part-front ow to (words M) (d .past-words) (omega arith) in
+    let v : part to len oc' ≡ coefs M = ap₂ (λ (n : ℕ) (l : List ℕ). part to n l) (d .len-is ∙ sym lc) (d .coefs-are) ∙ part-front oc to (coefs M) (d .past-coefs) (omega arith) in
     ap₂ terms w v ∙ terms-of M
 
 -- into the other half
@@ -78,8 +78,8 @@ module _ {cmp : ℕ → ℕ → Ordering} {p : ℕ} {ww wc : List ℕ} {from len
       let M = merge cmp p (termsAt ww wc from len) g in
       record {
         half = ⊎-elim (λ e. inr (omega arith)) (λ e. inl (omega arith)) (v .half);
-        work-words = ap length (d .words-are) ∙ (length-sets ww (4096 - from) (words M) ∙ v .work-words);
-        work-coefs = ap length (d .coefs-are) ∙ (length-sets wc (4096 - from) (coefs M) ∙ v .work-coefs);
+        work-words = ap length (d .words-are) ∙ (length-sets ww (4096 - from) (words M ++ d .past-words) ∙ v .work-words);
+        work-coefs = ap length (d .coefs-are) ∙ (length-sets wc (4096 - from) (coefs M ++ d .past-coefs) ∙ v .work-coefs);
         short = omega (arith, d .len-is, size);
       }
 

@@ -1,7 +1,7 @@
 -- A merge under way, over lists alone: what each turn of the loop does to it. All merges have this state. Assumes nothing.
 use mathlib.Core.Path.{_≡_, refl, sym, ap, ap₂, _∙_, subst}
 use mathlib.Core.Bool.{Bool, true, false, not}
-use mathlib.Core.List.{List, [], _∷_, _++_, map}
+use mathlib.Core.List.{List, [], _∷_, _++_, map, append-nil}
 use mathlib.Core.Logic.{_⊎_, inl, inr, ⊎-elim}
 use Prim.Native.Nat.{ℕ, zero, suc, _+_, _-_, _%_, _<_, _≤_, Ordering, Ordering·lt, Ordering·eq, Ordering·gt}
 use native.Mathlib.Nat.{add-zero, zero-add, add-assoc, mod-eq-of-lt}
@@ -10,7 +10,7 @@ use borrow.Author.Tests.{eq-eqb, ne-eqb, eqb-true}
 use lib.Dec.{eqb}
 use native.Mathlib.Omega.{arith}
 use lib.ListN.{length, drop, set, getD, length-append, length-map, drop-of-length-le, length-drop}
-use lib.Seq.{sets, set-getD, append-snoc, length-sets, ext-getD, getD-drop}
+use lib.Seq.{sets, set-set, append-snoc, length-sets, ext-getD, getD-drop}
 use Rattle.monomial.specs.TotalOrder.{TotalOrder}
 use Rattle.polynomial.specs.Terms.{Term, term, terms, words, coefs, All}
 use Rattle.polynomial.specs.Merge.{keep, into, merge, comparedInto, compared, mergeCount}
@@ -30,11 +30,16 @@ pub record State (cmp : ℕ → ℕ → Ordering) (p : ℕ) (M : List (Term ℕ)
   pub at : to + length done ≡ k
   pub whole : done ++ merge cmp p xs ys ≡ M
   pub count : n + mergeCount cmp xs ys ≡ N
-  pub words-are : ow ≡ sets ow₀ to (words done)
-  pub coefs-are : oc ≡ sets oc₀ to (coefs done)
+  -- what cancelled terms have left at place k
+  pub past-words : List ℕ
+  pub past-coefs : List ℕ
+  pub one-word : length past-words ≤ 1
+  pub one-coef : length past-coefs ≤ 1
+  pub words-are : ow ≡ sets ow₀ to (words done ++ past-words)
+  pub coefs-are : oc ≡ sets oc₀ to (coefs done ++ past-coefs)
 
 pub state-start : (cmp : ℕ → ℕ → Ordering) (p : ℕ) (xs ys : List (Term ℕ)) (to : ℕ) (ow oc : List ℕ) → State cmp p (merge cmp p xs ys) (mergeCount cmp xs ys) to ow oc xs ys ow oc to 0
-state-start cmp p xs ys to ow oc = record { done = []; at = omega arith; whole = refl; count = omega arith; words-are = refl; coefs-are = refl }
+state-start cmp p xs ys to ow oc = record { done = []; at = omega arith; whole = refl; count = omega arith; past-words = []; past-coefs = []; one-word = omega arith; one-coef = omega arith; words-are = refl; coefs-are = refl }
 
 map-snoc : (f : Term ℕ → ℕ) (ts : List (Term ℕ)) (t : Term ℕ) → map f (ts ++ (t ∷ [])) ≡ map f ts ++ (f t ∷ [])
 map-snoc f [] t = refl
@@ -44,12 +49,35 @@ map-append : (f : Term ℕ → ℕ) (ts us : List (Term ℕ)) → map f (ts ++ u
 map-append f [] us = refl
 map-append f (t ∷ ts) us = ap (λ (l : List ℕ). f t ∷ l) (map-append f ts us)
 
+-- a store at the place past us, where at most one number js has been left
+put-past : (l : List ℕ) (to k : ℕ) (us js : List ℕ) (v : ℕ) → to + length us ≡ k → length js ≤ 1 → set (sets l to (us ++ js)) k v ≡ sets l to (us ++ (v ∷ []))
+put-past l to k us [] v e h = ap₂ (λ (x : List ℕ) (n : ℕ). set (sets l to x) n v) (append-nil us) (sym e) ∙ sym (sets-snoc l to us v)
+put-past l to k us (j ∷ []) v e h =
+    ap₂ (λ (x : List ℕ) (n : ℕ). set x n v) (sets-snoc l to us j) (sym e) ∙ (set-set (sets l to us) (to + length us) j v ∙ sym (sets-snoc l to us v))
+put-past l to k us (j ∷ (i ∷ js)) v e h = absurd (let z : ⊥ = omega arith in z)
+
+-- what is left past us once rs is put there too
+abbrev pub leftPast : List ℕ → List ℕ → List ℕ
+leftPast js [] = js
+leftPast js (r ∷ rs) = []
+
+left-one : (js rs : List ℕ) → length js ≤ 1 → length (leftPast js rs) ≤ 1
+left-one js [] h = h
+left-one js (r ∷ rs) h = omega arith
+
+puts-past : (l : List ℕ) (to k : ℕ) (us js rs : List ℕ) → to + length us ≡ k → length js ≤ 1 → sets (sets l to (us ++ js)) k rs ≡ sets l to ((us ++ rs) ++ leftPast js rs)
+puts-past l to k us js [] e h = ap (λ (x : List ℕ). sets l to (x ++ js)) (sym (append-nil us))
+puts-past l to k us js (r ∷ rs) e h =
+    ap (λ (x : List ℕ). sets x (suc k) rs) (put-past l to k us js r e h)
+    ∙ (ap (λ (n : ℕ). sets (sets l to (us ++ (r ∷ []))) n rs) (let z : suc k ≡ to + length (us ++ (r ∷ [])) = omega (arith, e, length-append us (r ∷ [])) in z)
+    ∙ (sym (sets-append l to (us ++ (r ∷ [])) rs)
+    ∙ ap (sets l to) (append-snoc us r rs ∙ sym (append-nil (us ++ (r ∷ rs))))))
+
 -- a store of f of the next term at place k
-stored : (f : Term ℕ → ℕ) (l : List ℕ) (to k : ℕ) (ts : List (Term ℕ)) (t : Term ℕ) (o : List ℕ) → to + length ts ≡ k → o ≡ sets l to (map f ts) → set o k (f t) ≡ sets l to (map f (ts ++ (t ∷ [])))
-stored f l to k ts t o e q =
+stored : (f : Term ℕ → ℕ) (l : List ℕ) (to k : ℕ) (ts : List (Term ℕ)) (t : Term ℕ) (o js : List ℕ) → to + length ts ≡ k → length js ≤ 1 → o ≡ sets l to (map f ts ++ js) → set o k (f t) ≡ sets l to (map f (ts ++ (t ∷ [])) ++ [])
+stored f l to k ts t o js e h q =
     ap (λ (x : List ℕ). set x k (f t)) q
-    ∙ (ap (λ (m : ℕ). set (sets l to (map f ts)) m (f t)) (sym e ∙ ap (λ (m : ℕ). to + m) (sym (length-map ts f)))
-    ∙ (sym (sets-snoc l to (map f ts) (f t)) ∙ ap (sets l to) (sym (map-snoc f ts t))))
+    ∙ (put-past l to k (map f ts) js (f t) (ap (λ (m : ℕ). to + m) (length-map ts f) ∙ e) h ∙ ap (sets l to) (sym (map-snoc f ts t) ∙ sym (append-nil (map f (ts ++ (t ∷ []))))))
 
 keep-some : (m c : ℕ) (ts : List (Term ℕ)) → (c ≡ 0 → ⊥) → keep m c ts ≡ term m c ∷ ts
 unfolding keep
@@ -76,8 +104,12 @@ module _ {cmp : ℕ → ℕ → Ordering} {p : ℕ} {M : List (Term ℕ)} {N to 
     at = omega (arith, s .at, length-append (s .done) (t ∷ []));
     whole = append-snoc (s .done) t (merge cmp p xs' ys') ∙ (ap (λ (l : List (Term ℕ)). s .done ++ l) (sym e) ∙ s .whole);
     count = omega (arith, f, s .count);
-    words-are = stored (λ t. t .mono) ow₀ to k (s .done) t ow (s .at) (s .words-are);
-    coefs-are = stored (λ t. t .coef) oc₀ to k (s .done) t oc (s .at) (s .coefs-are);
+    past-words = [];
+    past-coefs = [];
+    one-word = omega arith;
+    one-coef = omega arith;
+    words-are = stored (λ t. t .mono) ow₀ to k (s .done) t ow (s .past-words) (s .at) (s .one-word) (s .words-are);
+    coefs-are = stored (λ t. t .coef) oc₀ to k (s .done) t oc (s .past-coefs) (s .at) (s .one-coef) (s .coefs-are);
   }
 
   -- nothing is stored
@@ -87,8 +119,27 @@ module _ {cmp : ℕ → ℕ → Ordering} {p : ℕ} {M : List (Term ℕ)} {N to 
     at = s .at;
     whole = ap (λ (l : List (Term ℕ)). s .done ++ l) (sym e) ∙ s .whole;
     count = omega (arith, f, s .count);
+    past-words = s .past-words;
+    past-coefs = s .past-coefs;
+    one-word = s .one-word;
+    one-coef = s .one-coef;
     words-are = s .words-are;
     coefs-are = s .coefs-are;
+  }
+
+  -- a word and a coefficient are left at place k, and are no term
+  state-past : (w c : ℕ) (xs' ys' : List (Term ℕ)) → merge cmp p xs ys ≡ merge cmp p xs' ys' → mergeCount cmp xs ys ≡ suc (mergeCount cmp xs' ys') → State cmp p M N to ow₀ oc₀ xs' ys' (set ow k w) (set oc k c) k (n + 1)
+  state-past w c xs' ys' e f = record {
+    done = s .done;
+    at = s .at;
+    whole = ap (λ (l : List (Term ℕ)). s .done ++ l) (sym e) ∙ s .whole;
+    count = omega (arith, f, s .count);
+    past-words = w ∷ [];
+    past-coefs = c ∷ [];
+    one-word = omega arith;
+    one-coef = omega arith;
+    words-are = ap (λ (x : List ℕ). set x k w) (s .words-are) ∙ put-past ow₀ to k (words (s .done)) (s .past-words) w (ap (λ (m : ℕ). to + m) (length-map (s .done) (λ t. t .mono)) ∙ s .at) (s .one-word);
+    coefs-are = ap (λ (x : List ℕ). set x k c) (s .coefs-are) ∙ put-past oc₀ to k (coefs (s .done)) (s .past-coefs) c (ap (λ (m : ℕ). to + m) (length-map (s .done) (λ t. t .coef)) ∙ s .at) (s .one-coef);
   }
 
   module _ (O : TotalOrder ℕ cmp) (x y : Term ℕ) (xs' ys' : List (Term ℕ)) (ex : xs ≡ x ∷ xs') (ey : ys ≡ y ∷ ys') where
@@ -105,6 +156,10 @@ module _ {cmp : ℕ → ℕ → Ordering} {p : ℕ} {M : List (Term ℕ)} {N to 
     pub after-cancel : cmp (x .mono) (y .mono) ≡ Ordering·eq → 0 ≡ (x .coef + y .coef) % p → State cmp p M N to ow₀ oc₀ xs' ys' ow oc k (n + 1)
     after-cancel h e = state-skip xs' ys' (rw (ex, ey) (merge-same cmp p x xs' y ys' h ∙ rw (← e) (keep-none (x .mono) (merge cmp p xs' ys')))) (rw (ex, ey) (ap length (compared-same cmp x xs' y ys' h)))
 
+    -- by flags: what cancelled is left at place k
+    pub after-past : cmp (x .mono) (y .mono) ≡ Ordering·eq → 0 ≡ (x .coef + y .coef) % p → (w c : ℕ) → State cmp p M N to ow₀ oc₀ xs' ys' (set ow k w) (set oc k c) k (n + 1)
+    after-past h e w c = state-past w c xs' ys' (rw (ex, ey) (merge-same cmp p x xs' y ys' h ∙ rw (← e) (keep-none (x .mono) (merge cmp p xs' ys')))) (rw (ex, ey) (ap length (compared-same cmp x xs' y ys' h)))
+
 -- the same state, written in other words
 same-state : {cmp : ℕ → ℕ → Ordering} {p : ℕ} {M : List (Term ℕ)} {N to : ℕ} {ow₀ oc₀ : List ℕ} {xs ys : List (Term ℕ)} {ow oc : List ℕ} {k n : ℕ} {xs' ys' : List (Term ℕ)} {ow' oc' : List ℕ} {k' : ℕ}
     → State cmp p M N to ow₀ oc₀ xs ys ow oc k n → xs' ≡ xs → ys' ≡ ys → ow' ≡ ow → oc' ≡ oc → k' ≡ k → State cmp p M N to ow₀ oc₀ xs' ys' ow' oc' k' n
@@ -113,6 +168,10 @@ same-state {cmp} {p} {n = n} s ex ey ew ec ek = record {
   at = s .at ∙ sym ek;
   whole = ap₂ (λ (a b : List (Term ℕ)). s .done ++ merge cmp p a b) ex ey ∙ s .whole;
   count = ap₂ (λ (a b : List (Term ℕ)). n + mergeCount cmp a b) ex ey ∙ s .count;
+  past-words = s .past-words;
+  past-coefs = s .past-coefs;
+  one-word = s .one-word;
+  one-coef = s .one-coef;
   words-are = ew ∙ s .words-are;
   coefs-are = ec ∙ s .coefs-are;
 }
@@ -125,7 +184,7 @@ module _ {cmp : ℕ → ℕ → Ordering} {p : ℕ} {M : List (Term ℕ)} {N to 
     (l q c z : ℕ) (el : l ≡ flag (isLarger (cmp (x .mono) (y .mono)))) (eq : q ≡ flag (eqb (x .mono) (y .mono)))
     (ec : c ≡ (chosen (l + q) (x .coef) 0 + chosen (1 - l) (y .coef) 0) % p) (ez : z ≡ flag (not (eqb c 0))) where
   pub Turned : Type 0
-  Turned = State cmp p M N to ow₀ oc₀ (drop (i + (l + q)) L) (drop (j + (1 - l)) R) (set ow k (chosen z (chosen (l + q) (x .mono) (y .mono)) (getD ow k 0))) (set oc k (chosen z c (getD oc k 0))) (k + z) (n + 1)
+  Turned = State cmp p M N to ow₀ oc₀ (drop (i + (l + q)) L) (drop (j + (1 - l)) R) (set ow k (chosen (l + q) (x .mono) (y .mono))) (set oc k c) (k + z) (n + 1)
 
   unlike : (cmp (x .mono) (y .mono) ≡ Ordering·eq → ⊥) → q ≡ 0
   unlike h = eq ∙ ap flag (ne-eqb (x .mono) (y .mono) (λ e. h (ap (cmp (x .mono)) (sym e) ∙ O .like (x .mono))))
@@ -147,8 +206,8 @@ module _ {cmp : ℕ → ℕ → Ordering} {p : ℕ} {M : List (Term ℕ)} {N to 
       let z1 : z ≡ 1 = stored-flag (λ e. let w : ⊥ = omega (arith, hx .0) in w) in
       same-state (after-more s O x y (drop (i + 1) L) (drop (j + 1) R) ex ey h)
       (ap (λ (m : ℕ). drop (i + m) L) f1) (ap (λ (m : ℕ). drop (j + m) R) g0 ∙ ap (λ (m : ℕ). drop m R) (add-zero j))
-      (ap₂ (λ (u v : ℕ). set ow k (chosen u (chosen v (x .mono) (y .mono)) (getD ow k 0))) z1 f1)
-      (ap₂ (λ (u v : ℕ). set oc k (chosen u v (getD oc k 0))) z1 c1)
+      (ap (λ (v : ℕ). set ow k (chosen v (x .mono) (y .mono))) f1)
+      (ap (set oc k) c1)
       (ap (λ (m : ℕ). k + m) z1)
     where
       clash : {B : Type 0} → _≡_ {A = Ordering} Ordering·gt Ordering·eq → B
@@ -165,8 +224,8 @@ module _ {cmp : ℕ → ℕ → Ordering} {p : ℕ} {M : List (Term ℕ)} {N to 
       let z1 : z ≡ 1 = stored-flag (λ e. let w : ⊥ = omega (arith, hy .0) in w) in
       same-state (after-less s O x y (drop (i + 1) L) (drop (j + 1) R) ex ey h)
       (ap (λ (m : ℕ). drop (i + m) L) f0 ∙ ap (λ (m : ℕ). drop m L) (add-zero i)) (ap (λ (m : ℕ). drop (j + m) R) g1)
-      (ap₂ (λ (u v : ℕ). set ow k (chosen u (chosen v (x .mono) (y .mono)) (getD ow k 0))) z1 f0)
-      (ap₂ (λ (u v : ℕ). set oc k (chosen u v (getD oc k 0))) z1 c1)
+      (ap (λ (v : ℕ). set ow k (chosen v (x .mono) (y .mono))) f0)
+      (ap (set oc k) c1)
       (ap (λ (m : ℕ). k + m) z1)
     where
       clash : {B : Type 0} → _≡_ {A = Ordering} Ordering·lt Ordering·eq → B
@@ -197,22 +256,22 @@ module _ {cmp : ℕ → ℕ → Ordering} {p : ℕ} {M : List (Term ℕ)} {N to 
           let z1 : z ≡ 1 = stored-flag ne in
           same-state (after-sum s O x y (drop (i + 1) L) (drop (j + 1) R) ex ey h c c1 ne)
           (ap (λ (m : ℕ). drop (i + m) L) f1) (ap (λ (m : ℕ). drop (j + m) R) g1)
-          (ap₂ (λ (u v : ℕ). set ow k (chosen u (chosen v (x .mono) (y .mono)) (getD ow k 0))) z1 f1)
-          (ap (λ (u : ℕ). set oc k (chosen u c (getD oc k 0))) z1)
+          (ap (λ (v : ℕ). set ow k (chosen v (x .mono) (y .mono))) f1)
+          refl
           (ap (λ (m : ℕ). k + m) z1)
       go (yes u) =
           let c0 : c ≡ 0 = omega arith in
           let z0 : z ≡ 0 = ez ∙ ap (λ (b : Bool). flag (not b)) (eq-eqb c 0 c0) in
-          same-state (after-cancel s O x y (drop (i + 1) L) (drop (j + 1) R) ex ey h (sym c0 ∙ c1))
+          same-state (after-past s O x y (drop (i + 1) L) (drop (j + 1) R) ex ey h (sym c0 ∙ c1) (chosen (l + q) (x .mono) (y .mono)) c)
           (ap (λ (m : ℕ). drop (i + m) L) f1) (ap (λ (m : ℕ). drop (j + m) R) g1)
-          (ap (λ (u : ℕ). set ow k (chosen u (chosen (l + q) (x .mono) (y .mono)) (getD ow k 0))) z0 ∙ set-getD ow k 0)
-          (ap (λ (u : ℕ). set oc k (chosen u c (getD oc k 0))) z0 ∙ set-getD oc k 0)
+          refl
+          refl
           (ap (λ (m : ℕ). k + m) z0 ∙ add-zero k)
 
   -- what the code stores is what the flags choose
-  pub turn : (w v : ℕ) → w ≡ chosen z (chosen (l + q) (x .mono) (y .mono)) (getD ow k 0) → v ≡ chosen z c (getD oc k 0) → State cmp p M N to ow₀ oc₀ (drop (i + (l + q)) L) (drop (j + (1 - l)) R) (set ow k w) (set oc k v) (k + z) (n + 1)
+  pub turn : (w : ℕ) → w ≡ chosen (l + q) (x .mono) (y .mono) → State cmp p M N to ow₀ oc₀ (drop (i + (l + q)) L) (drop (j + (1 - l)) R) (set ow k w) (set oc k c) (k + z) (n + 1)
   unfolding Turned
-  turn w v ew ev = same-state (go (stands cmp (x .mono) (y .mono))) refl refl (ap (set ow k) ew) (ap (set oc k) ev) refl
+  turn w ew = same-state (go (stands cmp (x .mono) (y .mono))) refl refl (ap (set ow k) ew) refl refl
     where
       go : Stands cmp (x .mono) (y .mono) → Turned
       go (less h) = turned-less h
@@ -249,18 +308,30 @@ one-flag cmp O a b l q el eq = go (eqb a b) refl (isLarger (cmp a b)) refl
 
 module _ {cmp : ℕ → ℕ → Ordering} {p : ℕ} {M : List (Term ℕ)} {N to : ℕ} {ow₀ oc₀ : List ℕ} {xs ys : List (Term ℕ)} {ow oc : List ℕ} {k n : ℕ} (s : State cmp p M N to ow₀ oc₀ xs ys ow oc k n) where
   -- the rest is put from k on
-  rest-put : (f : Term ℕ → ℕ) (l o : List ℕ) → o ≡ sets l to (map f (s .done)) → sets o k (map f (merge cmp p xs ys)) ≡ sets l to (map f M)
-  rest-put f l o q =
+  rest-put : (f : Term ℕ → ℕ) (l o js : List ℕ) → length js ≤ 1 → o ≡ sets l to (map f (s .done) ++ js) → sets o k (map f (merge cmp p xs ys)) ≡ sets l to (map f M ++ leftPast js (map f (merge cmp p xs ys)))
+  rest-put f l o js h q =
       ap (λ (x : List ℕ). sets x k (map f (merge cmp p xs ys))) q
-      ∙ (ap (λ (m : ℕ). sets (sets l to (map f (s .done))) m (map f (merge cmp p xs ys))) (sym (s .at) ∙ ap (λ (m : ℕ). to + m) (sym (length-map (s .done) f)))
-      ∙ (sym (sets-append l to (map f (s .done)) (map f (merge cmp p xs ys)))
-      ∙ ap (sets l to) (sym (map-append f (s .done) (merge cmp p xs ys)) ∙ ap (map f) (s .whole))))
+      ∙ (puts-past l to k (map f (s .done)) js (map f (merge cmp p xs ys)) (ap (λ (m : ℕ). to + m) (length-map (s .done) f) ∙ s .at) h
+      ∙ ap (λ (x : List ℕ). sets l to (x ++ leftPast js (map f (merge cmp p xs ys)))) (sym (map-append f (s .done) (merge cmp p xs ys)) ∙ ap (map f) (s .whole)))
 
-  pub end-words : sets ow k (words (merge cmp p xs ys)) ≡ sets ow₀ to (words M)
-  end-words = rest-put (λ t. t .mono) ow₀ ow (s .words-are)
+  -- what is left past the result
+  abbrev pub word-past : List ℕ
+  word-past = leftPast (s .past-words) (words (merge cmp p xs ys))
 
-  pub end-coefs : sets oc k (coefs (merge cmp p xs ys)) ≡ sets oc₀ to (coefs M)
-  end-coefs = rest-put (λ t. t .coef) oc₀ oc (s .coefs-are)
+  abbrev pub coef-past : List ℕ
+  coef-past = leftPast (s .past-coefs) (coefs (merge cmp p xs ys))
+
+  pub word-one : length word-past ≤ 1
+  word-one = left-one (s .past-words) (words (merge cmp p xs ys)) (s .one-word)
+
+  pub coef-one : length coef-past ≤ 1
+  coef-one = left-one (s .past-coefs) (coefs (merge cmp p xs ys)) (s .one-coef)
+
+  pub end-words : sets ow k (words (merge cmp p xs ys)) ≡ sets ow₀ to (words M ++ word-past)
+  end-words = rest-put (λ t. t .mono) ow₀ ow (s .past-words) (s .one-word) (s .words-are)
+
+  pub end-coefs : sets oc k (coefs (merge cmp p xs ys)) ≡ sets oc₀ to (coefs M ++ coef-past)
+  end-coefs = rest-put (λ t. t .coef) oc₀ oc (s .past-coefs) (s .one-coef) (s .coefs-are)
 
   pub end-length : k + length (merge cmp p xs ys) ≡ to + length M
   end-length = omega (arith, s .at, length-append (s .done) (merge cmp p xs ys), ap length (s .whole))
@@ -296,30 +367,30 @@ module _ (aw ac bw bc : List ℕ) (i j : ℕ) (ea : length ac ≡ length aw) (eb
 -- ---- an operand in the slices that the result is written to
 
 -- an operand's number stands where it stood, if the place is not one of those written
-pub stays : (f : Term ℕ → ℕ) (l o : List ℕ) (to : ℕ) (ts : List (Term ℕ)) (from len i k : ℕ) → o ≡ sets l to (map f ts) → to + length ts ≡ k → i < len → (from + i < to) ⊎ (k ≤ from + i)
+pub stays : (f : Term ℕ → ℕ) (l o : List ℕ) (to : ℕ) (ts : List (Term ℕ)) (js : List ℕ) (from len i k : ℕ) → o ≡ sets l to (map f ts ++ js) → length js ≤ 1 → to + length ts ≡ k → i < len → (from + i < to) ⊎ (k < from + i)
     → getD (part from len l) i 0 ≡ getD o (from + i) 0
-stays f l o to ts from len i k q e h out =
+stays f l o to ts js from len i k q one e h out =
     getD-part from len l i h
-    ∙ sym (ap (λ (x : List ℕ). getD x (from + i) 0) q ∙ getD-sets-other l to (map f ts) (from + i) (⊎-elim (λ u. inl u) (λ u. inr (omega (arith, length-map ts f))) out))
+    ∙ sym (ap (λ (x : List ℕ). getD x (from + i) 0) q ∙ getD-sets-other l to (map f ts ++ js) (from + i) (⊎-elim (λ u. inl u) (λ u. inr (omega (arith, length-map ts f, length-append (map f ts) js))) out))
 
 -- what is left of the operand begins with the term that stands in the slices now
 pub lead-within : {cmp : ℕ → ℕ → Ordering} {p : ℕ} {M : List (Term ℕ)} {N to : ℕ} {xs ys : List (Term ℕ)} {k n : ℕ} (ww₀ wc₀ ww wc : List ℕ) (from len i : ℕ)
     → State cmp p M N to ww₀ wc₀ xs ys ww wc k n
-    → from + len ≤ length ww₀ → from + len ≤ length wc₀ → i < len → (from + i < to) ⊎ (k ≤ from + i)
+    → from + len ≤ length ww₀ → from + len ≤ length wc₀ → i < len → (from + i < to) ⊎ (k < from + i)
     → drop i (terms (part from len ww₀) (part from len wc₀)) ≡ term (getD ww (from + i) 0) (getD wc (from + i) 0) ∷ drop (i + 1) (terms (part from len ww₀) (part from len wc₀))
 lead-within {to} {k} ww₀ wc₀ ww wc from len i s hw hc h out =
     let lw : length (part from len ww₀) ≡ len = length-part from len ww₀ hw in
     let lc : length (part from len wc₀) ≡ len = length-part from len wc₀ hc in
     lead-at (part from len ww₀) (part from len wc₀) i (lc ∙ sym lw) (omega arith)
     ∙ ap₂ (λ (w c : ℕ). term w c ∷ drop (i + 1) (terms (part from len ww₀) (part from len wc₀)))
-    (stays (λ t. t .mono) ww₀ ww to (s .done) from len i k (s .words-are) (s .at) h out) (stays (λ t. t .coef) wc₀ wc to (s .done) from len i k (s .coefs-are) (s .at) h out)
+    (stays (λ t. t .mono) ww₀ ww to (s .done) (s .past-words) from len i k (s .words-are) (s .one-word) (s .at) h out) (stays (λ t. t .coef) wc₀ wc to (s .done) (s .past-coefs) from len i k (s .coefs-are) (s .one-coef) (s .at) h out)
 
 -- what is left of the operand, read where it stands now
-pub part-within : (f : Term ℕ → ℕ) (l o : List ℕ) (to : ℕ) (ts : List (Term ℕ)) (from len i k : ℕ) → o ≡ sets l to (map f ts) → to + length ts ≡ k → from + len ≤ length l → i ≤ len → (from + len ≤ to) ⊎ (k ≤ from + i)
+pub part-within : (f : Term ℕ → ℕ) (l o : List ℕ) (to : ℕ) (ts : List (Term ℕ)) (js : List ℕ) (from len i k : ℕ) → o ≡ sets l to (map f ts ++ js) → length js ≤ 1 → to + length ts ≡ k → from + len ≤ length l → i ≤ len → (from + len ≤ to) ⊎ (k < from + i)
     → part (from + i) (len - i) o ≡ drop i (part from len l)
-part-within f l o to ts from len i k q e h hi out =
-    let vs : List ℕ = map f ts in
-    let lv : length vs ≡ length ts = length-map ts f in
+part-within f l o to ts js from len i k q one e h hi out =
+    let vs : List ℕ = map f ts ++ js in
+    let lv : length vs ≡ length ts + length js = length-append (map f ts) js ∙ ap (λ (m : ℕ). m + length js) (length-map ts f) in
     let lo : length o ≡ length l = ap length q ∙ length-sets l to vs in
     let lp : length (part (from + i) (len - i) o) ≡ len - i = length-part (from + i) (len - i) o (omega arith) in
     ext-getD 0 (part (from + i) (len - i) o) (drop i (part from len l))

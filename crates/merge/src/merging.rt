@@ -44,7 +44,7 @@ pub fn merge<'a>(
 }
 
 // The merge where it cannot be foreseen which lead is larger and whether like terms cancel, so that a
-// turn has no branch: it goes by flags, and a sum that is 0 leaves its place as it was.
+// turn has no branch: it goes by flags, and a sum that is 0 is written over by the next term.
 fn merge_by_flags<'a>(
     order: Order,
     p: u32,
@@ -70,8 +70,8 @@ fn merge_by_flags<'a>(
         let g = 1 - l;
         let s = add(choose_coef(f, ac[i], 0), choose_coef(g, bc[j], 0), p);
         let z = not_zero(s);
-        ow[k] = choose_word(z, choose_word(f, x, y), ow[k]);
-        oc[k] = choose_coef(z, s, oc[k]);
+        ow[k] = choose_word(f, x, y);
+        oc[k] = s;
         i += f;
         j += g;
         k += z;

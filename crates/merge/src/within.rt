@@ -44,8 +44,8 @@ pub fn merge_within(
         let g = 1 - l;
         let s = add(choose_coef(f, wc[from + i], 0), choose_coef(g, bc[j], 0), p);
         let z = not_zero(s);
-        ww[k] = choose_word(z, choose_word(f, x, y), ww[k]);
-        wc[k] = choose_coef(z, s, wc[k]);
+        ww[k] = choose_word(f, x, y);
+        wc[k] = s;
         i += f;
         j += g;
         k += z;

@@ -9,7 +9,7 @@ use native.Mathlib.Omega.{arith}
 use lib.ListN.{length, take, drop, set, getD, length-take, length-drop, length-set}
 use lib.Seq.{sets, ext-getD, length-sets, sets-eq, take-at, drop-at, length-take-le, getD-set-same, getD-set-other, set-getD, drop-cons}
 use Rattle.merge.specs.Lent.{Poly, part, Apart}
-use Rattle.merge.proofs.Lists.{getD-sets-other, getD-part, length-part}
+use Rattle.merge.proofs.Lists.{sets-append, getD-sets-other, getD-part, length-part}
 use Rattle.polynomial.specs.Terms.{Term, term, terms, Canonical}
 use Rattle.polynomial.proofs.TermLists.{length-terms}
 use Rattle.residue.specs.Modular.{Modulus}
@@ -73,6 +73,12 @@ part-put s a vs h =
     ap (λ (l : List ℕ). part a (length vs) l) (sets-eq vs s a h ∙ append-assoc (take a s) vs (drop (a + length vs) s))
     ∙ (ap (take (length vs)) (drop-at (take a s) (vs ++ drop (a + length vs) s) a (length-take-le a s (omega arith)))
     ∙ take-at vs (drop (a + length vs) s) (length vs) refl)
+
+-- what is put is read back, whatever is put past it
+pub part-front : (s : List ℕ) (a : ℕ) (vs js : List ℕ) → a + length vs ≤ length s → part a (length vs) (sets s a (vs ++ js)) ≡ vs
+part-front s a vs js h =
+    ap (λ (l : List ℕ). part a (length vs) l) (sets-append s a vs js)
+    ∙ (part-frame (sets s a vs) (a + length vs) js a (length vs) (inl (omega arith)) ∙ part-put s a vs h)
 
 -- ---- one bucket is moved or changed
 module _ (b : Buckets) (i h n : ℕ) (laid : Laid b) (in-six : i < 6) where

@@ -14,7 +14,7 @@ use Rattle.polynomial.specs.Terms.{Term, term, terms, words, coefs}
 use Rattle.polynomial.specs.Merge.{merge, mergeCount}
 use Rattle.polynomial.proofs.TermLists.{lead-at}
 use Rattle.merge.proofs.Lists.{rest-room}
-use Rattle.merge.proofs.State.{State, state-start, after-more, after-less, after-sum, after-cancel, more-by, less-by, same-by, rest-words, rest-coefs, used-up, end-words, end-coefs, end-length, end-count}
+use Rattle.merge.proofs.State.{State, state-start, after-more, after-less, after-sum, after-cancel, more-by, less-by, same-by, rest-words, rest-coefs, used-up, word-past, coef-past, word-one, coef-one, end-words, end-coefs, end-length, end-count}
 use Rattle.merge.proofs.Steps.{Bounds, coef-within}
 use Rattle.merge.proofs.merging.merge_by_branches.Statement.{statement}
 use Rattle.merge.proofs.merging.merge_by_branches.Tie as tie
@@ -320,6 +320,10 @@ returns c =
     let u = used-up (aw h) (ac h) (bw h) (bc h) (h .loop .i) (h .loop .j) (entry h .pre .a .long) (entry h .pre .b .long) (used (r .before)) in
     record {
       len-is = omega (arith, ap length (tail-words r), length-map (merge (compareWords (entry h .args .order)) (entry h .args .p) (a-left h) (b-left h)) (λ t. t .mono), end-length s);
+      past-words = word-past s;
+      past-coefs = coef-past s;
+      one-word = word-one s;
+      one-coef = coef-one s;
       words-are = pw .put-words .ensures ∙ (ap (sets (h .loop .ow) (h .loop .k)) (tail-words r) ∙ end-words s);
       coefs-are = pc .put-coefs .ensures ∙ (ap (sets (h .loop .oc) (h .loop .k)) (tail-coefs rc) ∙ end-coefs s);
       count-is = end-count s u;

@@ -15,7 +15,7 @@ use Rattle.polynomial.specs.Merge.{merge, mergeCount}
 use Rattle.polynomial.proofs.TermLists.{lead-at}
 use Rattle.merge.specs.Lent.{chosen}
 use Rattle.merge.proofs.Lists.{rest-room}
-use Rattle.merge.proofs.State.{State, state-start, turn, one-flag, rest-words, rest-coefs, used-up, end-words, end-coefs, end-length, end-count}
+use Rattle.merge.proofs.State.{State, state-start, turn, one-flag, rest-words, rest-coefs, used-up, word-past, coef-past, word-one, coef-one, end-words, end-coefs, end-length, end-count}
 use Rattle.merge.proofs.Steps.{Bounds, next-bounds, coef-within, chosen-below}
 use Rattle.merge.proofs.merging.merge_by_flags.Statement.{statement}
 use Rattle.merge.proofs.merging.merge_by_flags.Tie as tie
@@ -200,63 +200,43 @@ not-zero-requires c κs = tt
 choose-word-requires : tie.Need-choose-word-requires Inv-loop μ-loop
 choose-word-requires c κs = one (flags-of c)
 
-mul-choose-word : tie.Need-mul-choose-word Inv-loop μ-loop
-mul-choose-word c = let g = c .before .before .before .before .before .before .before in let t = turn-of g in let h = head t in omega (arith, one g, in-a t, in-b t, h .loop .inv .0, h)
-
-slice-read-choose-word : tie.Need-slice-read-choose-word Inv-loop μ-loop
-slice-read-choose-word c = let g = c .before .before .before .before .before .before .before .before in let t = turn-of g in let h = head t in omega (arith, one g, in-a t, in-b t, h .loop .inv .0, h)
-
-choose-word-requires-2 : tie.Need-choose-word-requires-2 Inv-loop μ-loop
-choose-word-requires-2 c κs = c .before .before .not-zero .ensures .1
-
 mul-ow : tie.Need-mul-ow Inv-loop μ-loop
-mul-ow c = let g = c .before .before .before .before .before .before .before .before .before in let t = turn-of g in let h = head t in omega (arith, one g, in-a t, in-b t, h .loop .inv .0, h)
+mul-ow c = let g = c .before .before .before .before .before .before .before in let t = turn-of g in let h = head t in omega (arith, one g, in-a t, in-b t, h .loop .inv .0, h)
 
 slice-write-ow : tie.Need-slice-write-ow Inv-loop μ-loop
-slice-write-ow c = let g = c .before .before .before .before .before .before .before .before .before in let t = turn-of g in let h = head t in omega (arith, one g, in-a t, in-b t, h .loop .inv .0, h)
-
-mul-choose-coef-3 : tie.Need-mul-choose-coef-3 Inv-loop μ-loop
-mul-choose-coef-3 c = let g = c .before .before .before .before .before .before .before .before .before in let t = turn-of g in let h = head t in omega (arith, one g, in-a t, in-b t, h .loop .inv .0, h)
-
-slice-read-choose-coef : tie.Need-slice-read-choose-coef Inv-loop μ-loop
-slice-read-choose-coef c = let g = c .before .before .before .before .before .before .before .before .before .before in let t = turn-of g in let h = head t in omega (arith, one g, in-a t, in-b t, h .loop .inv .0, h)
-
-choose-coef-requires-3 : tie.Need-choose-coef-requires-3 Inv-loop μ-loop
-choose-coef-requires-3 c κs = c .before .before .before .before .not-zero .ensures .1
+slice-write-ow c = let g = c .before .before .before .before .before .before .before in let t = turn-of g in let h = head t in omega (arith, one g, in-a t, in-b t, h .loop .inv .0, h)
 
 mul-oc : tie.Need-mul-oc Inv-loop μ-loop
-mul-oc c = let g = c .before .before .before .before .before .before .before .before .before .before .before in let t = turn-of g in let h = head t in omega (arith, one g, in-a t, in-b t, h .loop .inv .0, h)
+mul-oc c = let g = c .before .before .before .before .before .before .before in let t = turn-of g in let h = head t in omega (arith, one g, in-a t, in-b t, h .loop .inv .0, h)
 
 slice-write-oc : tie.Need-slice-write-oc Inv-loop μ-loop
-slice-write-oc c = let g = c .before .before .before .before .before .before .before .before .before .before .before in let t = turn-of g in let h = head t in omega (arith, one g, in-a t, in-b t, h .loop .inv .0, h)
+slice-write-oc c = let g = c .before .before .before .before .before .before .before in let t = turn-of g in let h = head t in omega (arith, one g, in-a t, in-b t, h .loop .inv .0, h)
 
 add-i : tie.Need-add-i Inv-loop μ-loop
-add-i c = let g = c .before .before .before .before .before .before .before .before .before .before .before in let t = turn-of g in let h = head t in omega (arith, one g, in-a t, in-b t, h .loop .inv .0, h)
+add-i c = let g = c .before .before .before .before .before .before .before in let t = turn-of g in let h = head t in omega (arith, one g, in-a t, in-b t, h .loop .inv .0, h)
 
 add-j : tie.Need-add-j Inv-loop μ-loop
-add-j c = let g = c .before .before .before .before .before .before .before .before .before .before .before in let t = turn-of g in let h = head t in omega (arith, one g, in-a t, in-b t, h .loop .inv .0, h)
+add-j c = let g = c .before .before .before .before .before .before .before in let t = turn-of g in let h = head t in omega (arith, one g, in-a t, in-b t, h .loop .inv .0, h)
 
 add-k : tie.Need-add-k Inv-loop μ-loop
-add-k c = let g = c .before .before .before .before .before .before .before .before .before .before .before in let t = turn-of g in let h = head t in omega (arith, one g, in-a t, in-b t, h .loop .inv .0, h, c .before .before .before .before .before .not-zero .ensures .1)
+add-k c = let g = c .before .before .before .before .before .before .before in let t = turn-of g in let h = head t in omega (arith, one g, in-a t, in-b t, h .loop .inv .0, h, c .before .not-zero .ensures .1)
 
 add-n : tie.Need-add-n Inv-loop μ-loop
-add-n c = let g = c .before .before .before .before .before .before .before .before .before .before .before in let t = turn-of g in let h = head t in omega (arith, one g, in-a t, in-b t, h .loop .inv .0, h)
+add-n c = let g = c .before .before .before .before .before .before .before in let t = turn-of g in let h = head t in omega (arith, one g, in-a t, in-b t, h .loop .inv .0, h)
 
 loop-less : tie.Need-loop-less Inv-loop μ-loop
-loop-less c = let g = c .before .before .before .before .before .before .before .before .before .before .before in let t = turn-of g in let h = head t in omega (arith, one g, in-a t, in-b t, h .loop .inv .0, h)
+loop-less c = let g = c .before .before .before .before .before .before .before in let t = turn-of g in let h = head t in omega (arith, one g, in-a t, in-b t, h .loop .inv .0, h)
 
 loop-again : tie.Need-loop-again Inv-loop μ-loop
 loop-again c =
-    let s = c .before .before .before .before .before in
+    let s = c .before in
     let g = flags-of s in
     let t = turn-of g in
     let h = head t in (
-      next-bounds (h .loop .ow) (h .loop .oc) (c .before .before .choose-word2 .result) (c .choose-coef3 .result) (l g) (q g) (z s) (h .loop .inv .0) (in-a t) (in-b t) (one g) (s .not-zero .ensures .1),
+      next-bounds (h .loop .ow) (h .loop .oc) (c .choose-word .result) (s .before .add .result) (l g) (q g) (z s) (h .loop .inv .0) (in-a t) (in-b t) (one g) (s .not-zero .ensures .1),
       turn (terms (aw h) (ac h)) (terms (bw h) (bc h)) (h .loop .i) (h .loop .j) (h .loop .inv .1) (words-order (entry h .args .order)) (a-term h) (b-term h) (a-lead t) (b-lead t) (a-within t) (b-within t)
           (l g) (q g) (s .before .add .result) (z s) (g .before .larger .ensures .0) (g .like .ensures .0) (sum-is s) (s .not-zero .ensures .0)
-          (c .before .before .choose-word2 .result) (c .choose-coef3 .result)
-          (c .before .before .choose-word2 .ensures ∙ ap (λ (m : ℕ). chosen (z s) m (getD (h .loop .ow) (h .loop .k) 0)) (c .before .before .before .before .choose-word .ensures))
-          (c .choose-coef3 .ensures),
+          (c .choose-word .result) (c .choose-word .ensures),
     )
 
 rest-words-requires : tie.Need-rest-words-requires Inv-loop μ-loop
@@ -277,8 +257,8 @@ put-coefs-requires c κs =
     let h = r .before .before .before in
     omega (arith, ap length (r .rest-coefs .ensures), rest-room (ac h) (bc h) (h .loop .i) (h .loop .j), entry h .pre .a .long, entry h .pre .b .long, h)
 
-add-t48 : tie.Need-add-t48 Inv-loop μ-loop
-add-t48 c =
+add-t44 : tie.Need-add-t44 Inv-loop μ-loop
+add-t44 c =
     let r = c .before .before .before .before .before .before .before .before .before in
     let h = r .before .before in
     omega (arith, ap length (r .rest-words .ensures), rest-room (aw h) (bw h) (h .loop .i) (h .loop .j), h)
@@ -300,6 +280,10 @@ returns c =
     let u = used-up (aw h) (ac h) (bw h) (bc h) (h .loop .i) (h .loop .j) (entry h .pre .a .long) (entry h .pre .b .long) (used (r .before)) in
     record {
       len-is = omega (arith, ap length (tail-words r), length-map (merge (compareWords (entry h .args .order)) (entry h .args .p) (a-left h) (b-left h)) (λ t. t .mono), end-length s);
+      past-words = word-past s;
+      past-coefs = coef-past s;
+      one-word = word-one s;
+      one-coef = coef-one s;
       words-are = pw .put-words .ensures ∙ (ap (sets (h .loop .ow) (h .loop .k)) (tail-words r) ∙ end-words s);
       coefs-are = pc .put-coefs .ensures ∙ (ap (sets (h .loop .oc) (h .loop .k)) (tail-coefs rc) ∙ end-coefs s);
       count-is = end-count s u;
@@ -329,14 +313,8 @@ merge-by-flags-spec =
     add-requires
     not-zero-requires
     choose-word-requires
-    mul-choose-word
-    slice-read-choose-word
-    choose-word-requires-2
     mul-ow
     slice-write-ow
-    mul-choose-coef-3
-    slice-read-choose-coef
-    choose-coef-requires-3
     mul-oc
     slice-write-oc
     add-i
@@ -349,7 +327,7 @@ merge-by-flags-spec =
     rest-coefs-requires
     put-words-requires
     put-coefs-requires
-    add-t48
+    add-t44
     same-length
     same-length-2
     returns)

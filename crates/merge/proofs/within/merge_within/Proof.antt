@@ -15,7 +15,7 @@ use Rattle.polynomial.specs.Merge.{merge, mergeCount}
 use Rattle.polynomial.proofs.TermLists.{lead-at}
 use Rattle.merge.specs.Lent.{part, chosen}
 use Rattle.merge.proofs.Lists.{rest-left, rest-right, part-from, length-part}
-use Rattle.merge.proofs.State.{State, state-start, turn, one-flag, lead-within, part-within, stays, rest-words, rest-coefs, used-up, end-words, end-coefs, end-length, end-count}
+use Rattle.merge.proofs.State.{State, state-start, turn, one-flag, lead-within, part-within, stays, rest-words, rest-coefs, used-up, word-past, coef-past, word-one, coef-one, end-words, end-coefs, end-length, end-count}
 use Rattle.merge.proofs.Steps.{Bounds, next-bounds, coef-within, chosen-below}
 use Rattle.merge.proofs.within.merge_within.Statement.{statement}
 use Rattle.merge.proofs.within.merge_within.Tie as tie
@@ -83,8 +83,8 @@ abbrev b-next : Head → List (Term ℕ)
 b-next h = drop (h .loop .j + 1) (terms (bw h) (bc h))
 
 -- the operand's places are none of those written
-outside : (h : Head) → (entry h .args .from + entry h .args .len ≤ entry h .args .to) ⊎ (h .loop .k ≤ entry h .args .from + h .loop .i)
-outside h = ⊎-elim (λ u. inl u) (λ u. inr (omega arith)) (entry h .pre .apart)
+outside : (h : Head) → h .loop .i < entry h .args .len → (entry h .args .from + entry h .args .len ≤ entry h .args .to) ⊎ (h .loop .k < entry h .args .from + h .loop .i)
+outside h l = ⊎-elim (λ u. inl u) (λ u. inr (omega arith)) (entry h .pre .apart)
 
 in-a : (c : Turn) → head c .loop .i < entry (head c) .args .len
 in-a c = c .before .before .before .loop-test .taken
@@ -99,8 +99,8 @@ a-long : (h : Head) → length (ac h) ≡ length (aw h)
 a-long h = entry h .pre .a .long
 
 -- what is left of each side begins with its lead
-here-outside : (c : Turn) → let h = head c in (entry h .args .from + h .loop .i < entry h .args .to) ⊎ (h .loop .k ≤ entry h .args .from + h .loop .i)
-here-outside c = let h = head c in let l = in-a c in ⊎-elim (λ u. inl (omega arith)) (λ u. inr u) (outside h)
+here-outside : (c : Turn) → let h = head c in (entry h .args .from + h .loop .i < entry h .args .to) ⊎ (h .loop .k < entry h .args .from + h .loop .i)
+here-outside c = let h = head c in let l = in-a c in ⊎-elim (λ u. inl (omega arith)) (λ u. inr u) (outside h l)
 
 a-lead : (c : Turn) → a-left (head c) ≡ a-term (head c) ∷ a-next (head c)
 a-lead c =
@@ -115,7 +115,7 @@ a-coef c =
     let h = head c in
     let x = entry h .args in
     let s = h .loop .inv .1 in
-    stays (λ u. u .coef) (wc h) (h .loop .wc) (x .to) (s .done) (x .from) (x .len) (h .loop .i) (h .loop .k) (s .coefs-are) (s .at) (in-a c) (here-outside c)
+    stays (λ u. u .coef) (wc h) (h .loop .wc) (x .to) (s .done) (s .past-coefs) (x .from) (x .len) (h .loop .i) (h .loop .k) (s .coefs-are) (s .one-coef) (s .at) (in-a c) (here-outside c)
 
 -- after the loop, one of the two is used up
 used : (c : tie.Left-loop Inv-loop μ-loop) → (length (aw (c .before)) ≤ c .before .loop .i) ⊎ (length (bw (c .before)) ≤ c .before .loop .j)
@@ -130,7 +130,7 @@ tail-words c =
     let h = c .before .before in
     let x = entry h .args in
     let s = h .loop .inv .1 in
-    part-within (λ t. t .mono) (ww h) (h .loop .ww) (x .to) (s .done) (x .from) (x .len) (h .loop .i) (h .loop .k) (s .words-are) (s .at) (entry h .pre .words-from) (h .loop .inv .0 .in-a) (outside h)
+    part-within (λ t. t .mono) (ww h) (h .loop .ww) (x .to) (s .done) (s .past-words) (x .from) (x .len) (h .loop .i) (h .loop .k) (s .words-are) (s .one-word) (s .at) (entry h .pre .words-from) (h .loop .inv .0 .in-a) (outside h (c .if2 .taken))
     ∙ (sym (rest-left (aw h) (drop (h .loop .j) (bw h)) (h .loop .i) (omega (arith, c .if2 .taken, length-part (x .from) (x .len) (ww h) (entry h .pre .words-from))))
     ∙ rest-words (aw h) (ac h) (bw h) (bc h) (h .loop .i) (h .loop .j) (a-long h) (entry h .pre .b .long) (used (c .before)) (compareWords (x .order)) (x .p))
 
@@ -139,7 +139,7 @@ tail-coefs c =
     let h = c .before .before in
     let x = entry h .args in
     let s = h .loop .inv .1 in
-    part-within (λ t. t .coef) (wc h) (h .loop .wc) (x .to) (s .done) (x .from) (x .len) (h .loop .i) (h .loop .k) (s .coefs-are) (s .at) (entry h .pre .coefs-from) (h .loop .inv .0 .in-a) (outside h)
+    part-within (λ t. t .coef) (wc h) (h .loop .wc) (x .to) (s .done) (s .past-coefs) (x .from) (x .len) (h .loop .i) (h .loop .k) (s .coefs-are) (s .one-coef) (s .at) (entry h .pre .coefs-from) (h .loop .inv .0 .in-a) (outside h (c .if2 .taken))
     ∙ (sym (rest-left (ac h) (drop (h .loop .j) (bc h)) (h .loop .i) (omega (arith, c .if2 .taken, length-part (x .from) (x .len) (wc h) (entry h .pre .coefs-from))))
     ∙ rest-coefs (aw h) (ac h) (bw h) (bc h) (h .loop .i) (h .loop .j) (a-long h) (entry h .pre .b .long) (used (c .before)) (compareWords (x .order)) (x .p))
 
@@ -266,63 +266,43 @@ not-zero-requires c κs = tt
 choose-word-requires : tie.Need-choose-word-requires Inv-loop μ-loop
 choose-word-requires c κs = one (flags-of c)
 
-mul-choose-word : tie.Need-mul-choose-word Inv-loop μ-loop
-mul-choose-word c = let g = c .before .before .before .before .before .before .before in let t = turn-of g in let h = head t in omega (arith, one g, in-a t, in-b t, h .loop .inv .0, h)
-
-slice-read-choose-word : tie.Need-slice-read-choose-word Inv-loop μ-loop
-slice-read-choose-word c = let g = c .before .before .before .before .before .before .before .before in let t = turn-of g in let h = head t in omega (arith, one g, in-a t, in-b t, h .loop .inv .0, h)
-
-choose-word-requires-2 : tie.Need-choose-word-requires-2 Inv-loop μ-loop
-choose-word-requires-2 c κs = c .before .before .not-zero .ensures .1
-
 mul-ww : tie.Need-mul-ww Inv-loop μ-loop
-mul-ww c = let g = c .before .before .before .before .before .before .before .before .before in let t = turn-of g in let h = head t in omega (arith, one g, in-a t, in-b t, h .loop .inv .0, h)
+mul-ww c = let g = c .before .before .before .before .before .before .before in let t = turn-of g in let h = head t in omega (arith, one g, in-a t, in-b t, h .loop .inv .0, h)
 
 slice-write-ww : tie.Need-slice-write-ww Inv-loop μ-loop
-slice-write-ww c = let g = c .before .before .before .before .before .before .before .before .before in let t = turn-of g in let h = head t in omega (arith, one g, in-a t, in-b t, h .loop .inv .0, h)
-
-mul-choose-coef-3 : tie.Need-mul-choose-coef-3 Inv-loop μ-loop
-mul-choose-coef-3 c = let g = c .before .before .before .before .before .before .before .before .before in let t = turn-of g in let h = head t in omega (arith, one g, in-a t, in-b t, h .loop .inv .0, h)
-
-slice-read-choose-coef-2 : tie.Need-slice-read-choose-coef-2 Inv-loop μ-loop
-slice-read-choose-coef-2 c = let g = c .before .before .before .before .before .before .before .before .before .before in let t = turn-of g in let h = head t in omega (arith, one g, in-a t, in-b t, h .loop .inv .0, h)
-
-choose-coef-requires-3 : tie.Need-choose-coef-requires-3 Inv-loop μ-loop
-choose-coef-requires-3 c κs = c .before .before .before .before .not-zero .ensures .1
+slice-write-ww c = let g = c .before .before .before .before .before .before .before in let t = turn-of g in let h = head t in omega (arith, one g, in-a t, in-b t, h .loop .inv .0, h)
 
 mul-wc : tie.Need-mul-wc Inv-loop μ-loop
-mul-wc c = let g = c .before .before .before .before .before .before .before .before .before .before .before in let t = turn-of g in let h = head t in omega (arith, one g, in-a t, in-b t, h .loop .inv .0, h)
+mul-wc c = let g = c .before .before .before .before .before .before .before in let t = turn-of g in let h = head t in omega (arith, one g, in-a t, in-b t, h .loop .inv .0, h)
 
 slice-write-wc : tie.Need-slice-write-wc Inv-loop μ-loop
-slice-write-wc c = let g = c .before .before .before .before .before .before .before .before .before .before .before in let t = turn-of g in let h = head t in omega (arith, one g, in-a t, in-b t, h .loop .inv .0, h)
+slice-write-wc c = let g = c .before .before .before .before .before .before .before in let t = turn-of g in let h = head t in omega (arith, one g, in-a t, in-b t, h .loop .inv .0, h)
 
 add-i : tie.Need-add-i Inv-loop μ-loop
-add-i c = let g = c .before .before .before .before .before .before .before .before .before .before .before in let t = turn-of g in let h = head t in omega (arith, one g, in-a t, in-b t, h .loop .inv .0, h)
+add-i c = let g = c .before .before .before .before .before .before .before in let t = turn-of g in let h = head t in omega (arith, one g, in-a t, in-b t, h .loop .inv .0, h)
 
 add-j : tie.Need-add-j Inv-loop μ-loop
-add-j c = let g = c .before .before .before .before .before .before .before .before .before .before .before in let t = turn-of g in let h = head t in omega (arith, one g, in-a t, in-b t, h .loop .inv .0, h)
+add-j c = let g = c .before .before .before .before .before .before .before in let t = turn-of g in let h = head t in omega (arith, one g, in-a t, in-b t, h .loop .inv .0, h)
 
 add-k : tie.Need-add-k Inv-loop μ-loop
-add-k c = let g = c .before .before .before .before .before .before .before .before .before .before .before in let t = turn-of g in let h = head t in omega (arith, one g, in-a t, in-b t, h .loop .inv .0, h, c .before .before .before .before .before .not-zero .ensures .1)
+add-k c = let g = c .before .before .before .before .before .before .before in let t = turn-of g in let h = head t in omega (arith, one g, in-a t, in-b t, h .loop .inv .0, h, c .before .not-zero .ensures .1)
 
 add-n : tie.Need-add-n Inv-loop μ-loop
-add-n c = let g = c .before .before .before .before .before .before .before .before .before .before .before in let t = turn-of g in let h = head t in omega (arith, one g, in-a t, in-b t, h .loop .inv .0, h)
+add-n c = let g = c .before .before .before .before .before .before .before in let t = turn-of g in let h = head t in omega (arith, one g, in-a t, in-b t, h .loop .inv .0, h)
 
 loop-less : tie.Need-loop-less Inv-loop μ-loop
-loop-less c = let g = c .before .before .before .before .before .before .before .before .before .before .before in let t = turn-of g in let h = head t in omega (arith, one g, in-a t, in-b t, h .loop .inv .0, h)
+loop-less c = let g = c .before .before .before .before .before .before .before in let t = turn-of g in let h = head t in omega (arith, one g, in-a t, in-b t, h .loop .inv .0, h)
 
 loop-again : tie.Need-loop-again Inv-loop μ-loop
 loop-again c =
-    let s = c .before .before .before .before .before in
+    let s = c .before in
     let g = flags-of s in
     let t = turn-of g in
     let h = head t in (
-      next-bounds (h .loop .ww) (h .loop .wc) (c .before .before .choose-word2 .result) (c .choose-coef3 .result) (l g) (q g) (z s) (h .loop .inv .0) (in-a t) (in-b t) (one g) (s .not-zero .ensures .1),
+      next-bounds (h .loop .ww) (h .loop .wc) (c .choose-word .result) (s .before .add .result) (l g) (q g) (z s) (h .loop .inv .0) (in-a t) (in-b t) (one g) (s .not-zero .ensures .1),
       turn (terms (aw h) (ac h)) (terms (bw h) (bc h)) (h .loop .i) (h .loop .j) (h .loop .inv .1) (words-order (entry h .args .order)) (a-term h) (b-term h) (a-lead t) (b-lead t) (a-within t) (b-within t)
           (l g) (q g) (s .before .add .result) (z s) (g .before .larger .ensures .0) (g .like .ensures .0) (sum-is s) (s .not-zero .ensures .0)
-          (c .before .before .choose-word2 .result) (c .choose-coef3 .result)
-          (c .before .before .choose-word2 .ensures ∙ ap (λ (m : ℕ). chosen (z s) m (getD (h .loop .ww) (h .loop .k) 0)) (c .before .before .before .before .choose-word .ensures))
-          (c .choose-coef3 .ensures),
+          (c .choose-word .result) (c .choose-word .ensures),
     )
 
 sub-left : tie.Need-sub-left Inv-loop μ-loop
@@ -341,11 +321,11 @@ move-coefs-requires c κs =
     let h = c .before .before .before .before .before .before .before in
     (omega (arith, h), omega (arith, h), ⊎-elim (λ u. inl (omega (arith, h))) (λ u. inr (omega (arith, h))) (entry h .pre .apart))
 
-add-t52 : tie.Need-add-t52 Inv-loop μ-loop
-add-t52 c = let h = c .before .before .before .before .before .before .before .before .before .before in omega (arith, h)
+add-t48 : tie.Need-add-t48 Inv-loop μ-loop
+add-t48 c = let h = c .before .before .before .before .before .before .before .before .before .before in omega (arith, h)
 
-sub-t53 : tie.Need-sub-t53 Inv-loop μ-loop
-sub-t53 c = let h = c .before .before .before .before .before .before .before .before .before .before in omega (arith, h)
+sub-t49 : tie.Need-sub-t49 Inv-loop μ-loop
+sub-t49 c = let h = c .before .before .before .before .before .before .before .before .before .before in omega (arith, h)
 
 same-length : tie.Need-same-length Inv-loop μ-loop
 same-length c = search needs
@@ -363,6 +343,10 @@ returns c =
     let u = used-up (aw h) (ac h) (bw h) (bc h) (h .loop .i) (h .loop .j) (a-long h) (entry h .pre .b .long) (used (t .before)) in
     record {
       len-is = omega (arith, ap length (tail-words t), length-part (entry h .args .from + h .loop .i) (entry h .args .len - h .loop .i) (h .loop .ww) (omega (arith, h)), length-map (left h) (λ t. t .mono), end-length s);
+      past-words = word-past s;
+      past-coefs = coef-past s;
+      one-word = word-one s;
+      one-coef = coef-one s;
       words-are = mw .move-words .ensures ∙ (ap (sets (h .loop .ww) (h .loop .k)) (tail-words t) ∙ end-words s);
       coefs-are = mc .move-coefs .ensures ∙ (ap (sets (h .loop .wc) (h .loop .k)) (tail-coefs t) ∙ end-coefs s);
       count-is = end-count s u;
@@ -402,11 +386,11 @@ put-coefs-requires c κs =
     let h = c .before .before .before .before .before .before .before .before .before in
     omega (arith, h, entry h .pre .b .long, ap length (part-from (bc h) (h .loop .j)), length-drop (h .loop .j) (bc h))
 
-add-t56 : tie.Need-add-t56 Inv-loop μ-loop
-add-t56 c = search needs
+add-t52 : tie.Need-add-t52 Inv-loop μ-loop
+add-t52 c = search needs
 
-sub-t65 : tie.Need-sub-t65 Inv-loop μ-loop
-sub-t65 c = search needs
+sub-t61 : tie.Need-sub-t61 Inv-loop μ-loop
+sub-t61 c = search needs
 
 same-length-3 : tie.Need-same-length-3 Inv-loop μ-loop
 same-length-3 c = search needs
@@ -424,6 +408,10 @@ returns-2 c =
     let u = used-up (aw h) (ac h) (bw h) (bc h) (h .loop .i) (h .loop .j) (a-long h) (entry h .pre .b .long) (used (t .before)) in
     record {
       len-is = omega (arith, ap length (tail-words-b t), length-map (left h) (λ t. t .mono), end-length s);
+      past-words = word-past s;
+      past-coefs = coef-past s;
+      one-word = word-one s;
+      one-coef = coef-one s;
       words-are = mw .put-words .ensures ∙ (ap (sets (h .loop .ww) (h .loop .k)) (tail-words-b t) ∙ end-words s);
       coefs-are = mc .put-coefs .ensures ∙ (ap (sets (h .loop .wc) (h .loop .k)) (tail-coefs-b t) ∙ end-coefs s);
       count-is = end-count s u;
@@ -455,14 +443,8 @@ merge-within-spec =
     add-requires
     not-zero-requires
     choose-word-requires
-    mul-choose-word
-    slice-read-choose-word
-    choose-word-requires-2
     mul-ww
     slice-write-ww
-    mul-choose-coef-3
-    slice-read-choose-coef-2
-    choose-coef-requires-3
     mul-wc
     slice-write-wc
     add-i
@@ -475,8 +457,8 @@ merge-within-spec =
     add-at
     move-words-requires
     move-coefs-requires
-    add-t52
-    sub-t53
+    add-t48
+    sub-t49
     same-length
     same-length-2
     returns
@@ -490,8 +472,8 @@ merge-within-spec =
     part-tc-end
     put-words-requires
     put-coefs-requires
-    add-t56
-    sub-t65
+    add-t52
+    sub-t61
     same-length-3
     same-length-4
     returns-2)
