@@ -94,7 +94,7 @@ module _ (cmp : ℕ → ℕ → Ordering) (p : ℕ) (f : List (Term ℕ)) (g : �
 -- ---- a zero polynomial
 pub add-zero-done : {cmp : ℕ → ℕ → Ordering} {p : ℕ} {b : Buckets} {fw fc sw sc ww wc : List ℕ} → Addition cmp p b fw fc sw sc ww wc → length fw ≡ 0 → AddDone cmp p b (terms fw fc) sw sc sw sc b 0
 unfolding add addCompared
-add-zero-done {cmp} {p} {b} {fw} {fc} {sw} {sc} a e = record { lists-are = sym (none (terms fw fc) long .0); count-is = ap length (sym (none (terms fw fc) long .1)); stands = a .stands }
+add-zero-done {cmp} {p} {b} {fw} {fc} {sw} {sc} a e = record { lists-are = sym (none (terms fw fc) long .0); count-is = ap length (sym (none (terms fw fc) long .1)); few = omega arith; stands = a .stands }
   where
     long : length (terms fw fc) ≡ 0
     long = length-terms fw fc (a .long) ∙ e
@@ -232,6 +232,7 @@ module _ {cmp : ℕ → ℕ → Ordering} {p : ℕ} {b : Buckets} {fw fc sw sc w
             add-done = record {
               lists-are = lists;
               count-is = count;
+              few = e .few;
               stands = record {
                 modulus = a .stands .modulus;
                 words-long = s .words-long;

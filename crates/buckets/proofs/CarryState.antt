@@ -134,6 +134,7 @@ module _ {cmp : ℕ → ℕ → Ordering} {p : ℕ} {b : Buckets} {l : Level} {s
         within = v .state .in-six;
         fits = omega (arith, h, cap-is l' (v .level-is));
         in-work = in-work (v .work);
+        few = omega (arith, v .state .few, v .state .in-six);
         lists-are = carry-ends (v .state) fits;
         count-is = carry-count (v .state) fits;
       }

@@ -167,6 +167,7 @@ sums-end {cmp} {p} {sw} {sc} {b} {ww} {wc} {from} {len} v h {b'} e =
       sum-is = sum-ends (v .state) h;
       len-is = sym (terms-long (v .work)) ∙ ap length (sum-ends (v .state) h);
       count-is = count-ends (v .state) h;
+      few = omega (arith, v .state .few, v .state .most);
       lists-are = lists;
       stands = subst (λ (x : Buckets). Stands cmp p x sw sc) (sym e) (stands-none cmp p sw sc (v .stands .modulus) (v .stands .words-long) (v .stands .coefs-long));
     }

@@ -27,6 +27,7 @@ pub record Addition (cmp : ℕ → ℕ → Ordering) (p : ℕ) (b : Buckets) (fw
 pub record AddDone (cmp : ℕ → ℕ → Ordering) (p : ℕ) (b : Buckets) (f : List (Term ℕ)) (sw sc sw' sc' : List ℕ) (b' : Buckets) (comparisons : ℕ) : Type 0 where
   pub lists-are : bucketsIn b' sw' sc' ≡ add cmp p f (bucketsIn b sw sc)
   pub count-is : comparisons ≡ length (addCompared cmp p f (bucketsIn b sw sc))
+  pub few : comparisons ≤ 50000
   pub stands : Stands cmp p b' sw' sc'
 
 module _ (cmp : ℕ → ℕ → Ordering) (p : ℕ) where
@@ -55,6 +56,7 @@ pub record CarryDone (cmp : ℕ → ℕ → Ordering) (p : ℕ) (b : Buckets) (l
   pub within : r .level .bucket < 6
   pub fits : r .len ≤ capacity (r .level .bucket)
   pub in-work : r .from + r .len ≤ 8192
+  pub few : r .comparisons ≤ 50000
   pub lists-are :
       listFrom (bucketAt (r .buckets) sw sc) 0 (r .level .bucket) ++ (terms (part (r .from) (r .len) ww') (part (r .from) (r .len) wc') ∷ listFrom (bucketAt (r .buckets) sw sc) (suc (r .level .bucket)) (5 - r .level .bucket))
       ≡ listFrom (bucketAt b sw sc) 0 (l .bucket) ++ landed cmp p (capacity (l .bucket)) (terms (part 0 len ww) (part 0 len wc)) (listFrom (bucketAt b sw sc) (suc (l .bucket)) (5 - l .bucket))

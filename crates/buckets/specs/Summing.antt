@@ -22,5 +22,6 @@ pub record SumDone (cmp : ℕ → ℕ → Ordering) (p : ℕ) (b : Buckets) (sw 
   pub sum-is : terms (part (r .from) (r .len) ww) (part (r .from) (r .len) wc) ≡ fullSum cmp p (bucketsIn b sw sc)
   pub len-is : r .len ≡ length (fullSum cmp p (bucketsIn b sw sc))
   pub count-is : r .comparisons ≡ length (sumCompared cmp p [] (bucketsIn b sw sc))
+  pub few : r .comparisons ≤ 50000
   pub lists-are : bucketsIn (r .buckets) sw sc ≡ emptied (bucketsIn b sw sc)
   pub stands : Stands cmp p (r .buckets) sw sc

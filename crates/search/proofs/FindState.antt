@@ -74,6 +74,7 @@ module _ {cmp : ℕ → ℕ → Ordering} {p : ℕ} {bs : List (List (Term ℕ))
         let k : length (search cmp p bs .pairs) ≡ n = none-count O pos (v .state) P all-none refl ∙ (let z : n + 0 ≡ n = omega arith in z) in
         record {
           candidate-is = e ∙ ap₂ candidateOf (sym a) (sym k);
+          few = omega (arith, v .state .few, ap (λ (x : Candidate). x .count) e);
           lists-are = sym (ap₂ withLead a (none-buckets O pos (v .state) P all-none refl));
           stands = stands-by (v .modulus) (v .words-long) (v .coefs-long) (v .laid) (v .state .canon);
         }
@@ -142,6 +143,7 @@ module _ {cmp : ℕ → ℕ → Ordering} {p : ℕ} {bs : List (List (Term ℕ))
           let bk = lead-buckets O pos (v .state) P is-pass (i + S .at) (S .lead) refl ne' in
           record {
             candidate-is = same c (d .bucket-is) (d .term-is) (d .count-is ∙ sym k) ∙ ap (λ (l : Lead ℕ). candidateOf l (length (search cmp p bs .pairs))) (sym a);
+            few = omega (arith, v .state .few, d .count-is, few);
             lists-are = lists ∙ sym (ap₂ withLead a bk);
             stands = stands-by (v .modulus) (v .words-long) (d .coefs-long) (d .laid) (subst (Canon cmp p) (sym lists) (lead-canon O pos (v .state) P is-pass (i + S .at) (S .lead) refl ne'));
           }

@@ -42,7 +42,7 @@ module _ {cmp : ℕ → ℕ → Ordering} {p : ℕ} {bs : List (List (Term ℕ))
   take-none e = by (search cmp p bs .answer) refl
     where
       by : (a : Lead ℕ) → search cmp p bs .answer ≡ a → TakeDone cmp p bs b sw sc c
-      by none q = record { candidate-is = d .candidate-is; lists-are = d .lists-are ∙ ap (λ (a : Lead ℕ). withLead a (search cmp p bs .buckets)) q; stands = d .stands }
+      by none q = record { candidate-is = d .candidate-is; few = d .few; lists-are = d .lists-are ∙ ap (λ (a : Lead ℕ). withLead a (search cmp p bs .buckets)) q; stands = d .stands }
       by (lead at t) q = absurd (let z : ⊥ = omega (arith, inside at t q, bucket-of (lead at t) q) in z)
 
   module _ (ne : c .bucket ≡ 6 → ⊥) where
@@ -81,6 +81,7 @@ module _ {cmp : ℕ → ℕ → Ordering} {p : ℕ} {bs : List (List (Term ℕ))
         let lists : bucketsIn b' sw sc ≡ search cmp p bs .buckets = ap (λ (x : Buckets). bucketsIn x sw sc) e ∙ removed in
         record {
           candidate-is = d .candidate-is;
+          few = d .few;
           lists-are = lists;
           stands = stands-by (s .modulus) (s .words-long) (s .coefs-long) (subst Laid (sym e) (dropped-laid b (c .bucket) (s .laid) within (removal-asks .some))) (subst (Canon cmp p) (sym lists) (found .canon));
         }

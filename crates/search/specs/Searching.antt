@@ -14,12 +14,14 @@ use Rattle.search.specs.Candidates.{candidateOf}
 -- the lead is that of the published search, left in its bucket with like terms combined, with the search's comparisons
 pub record FindDone (cmp : ℕ → ℕ → Ordering) (p : ℕ) (bs : List (List (Term ℕ))) (b : Buckets) (sw sc : List ℕ) (c : Candidate) : Type 0 where
   pub candidate-is : c ≡ candidateOf (search cmp p bs .answer) (length (search cmp p bs .pairs))
+  pub few : c .count ≤ 50000
   pub lists-are : bucketsIn b sw sc ≡ withLead (search cmp p bs .answer) (search cmp p bs .buckets)
   pub stands : Stands cmp p b sw sc
 
 -- the same, with the lead removed
 pub record TakeDone (cmp : ℕ → ℕ → Ordering) (p : ℕ) (bs : List (List (Term ℕ))) (b : Buckets) (sw sc : List ℕ) (c : Candidate) : Type 0 where
   pub candidate-is : c ≡ candidateOf (search cmp p bs .answer) (length (search cmp p bs .pairs))
+  pub few : c .count ≤ 50000
   pub lists-are : bucketsIn b sw sc ≡ search cmp p bs .buckets
   pub stands : Stands cmp p b sw sc
 

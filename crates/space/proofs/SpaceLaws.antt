@@ -15,7 +15,7 @@ use Rattle.polynomial.proofs.TermLists.{length-terms}
 use Rattle.residue.specs.Modular.{Modulus}
 use Rattle.geobucket.specs.Buckets.{empty, held, Good}
 use Rattle.geobucket.proofs.SearchLaws.{Canon}
-use Rattle.space.specs.Space.{capacity, start, listFrom, rowAt, bucketAt, bucketsIn, Laid, Stands, moved, dropped, noBuckets}
+use Rattle.space.specs.Space.{capacity, start, listFrom, rowAt, bucketAt, bucketsIn, Laid, Stands, moved, dropped, noBuckets, heldIn}
 use Rattle.space.specs.declared.state.Buckets.{Buckets}
 use Rattle.space.proofs.Starts.{next-start, next-capacity, start-up, start-end}
 
@@ -305,3 +305,13 @@ good-none cmp p = (blank 4, (blank (4 * 4), (blank (4 * (4 * 4)), (blank (4 * (4
 
 pub stands-none : (cmp : ℕ → ℕ → Ordering) (p : ℕ) (sw sc : List ℕ) → Modulus p → length sw ≡ 5460 → length sc ≡ 5460 → Stands cmp p noBuckets sw sc
 stands-none cmp p sw sc m hw hc = record { modulus = m; words-long = hw; coefs-long = hc; laid = laid-none; good = subst (Good cmp p 4) (sym (lists-none sw sc)) (good-none cmp p) }
+
+-- ---- the terms held, by the lengths
+pub held-lens : (b : Buckets) → Laid b → (sw sc : List ℕ) → length sw ≡ 5460 → length sc ≡ 5460 → held (bucketsIn b sw sc) ≡ heldIn (b .len)
+unfolding held listFrom
+held-lens b laid sw sc hw hc =
+    let at : (i : ℕ) → i < 6 → length (bucketAt b sw sc i) ≡ getD (b .len) i 0 = λ i h. bucket-long b laid i h sw sc hw hc in
+    omega (arith, at 0 (omega arith), at 1 (omega arith), at 2 (omega arith), at 3 (omega arith), at 4 (omega arith), at 5 (omega arith))
+
+pub len-small : (b : Buckets) → Laid b → (i : ℕ) → i < 6 → getD (b .len) i 0 ≤ 5460
+len-small b laid i h = omega (arith, row-end b laid i h)

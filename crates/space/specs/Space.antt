@@ -36,6 +36,10 @@ bucketAt b sw sc i = terms (rowAt b sw i) (rowAt b sc i)
 abbrev pub bucketsIn : Buckets → List ℕ → List ℕ → List (List (Term ℕ))
 bucketsIn b sw sc = listFrom (bucketAt b sw sc) 0 6
 
+-- the terms of six buckets, by their lengths (theorem `held-lens`: the terms held)
+abbrev pub heldIn : List ℕ → ℕ
+heldIn l = getD l 0 0 + getD l 1 0 + getD l 2 0 + getD l 3 0 + getD l 4 0 + getD l 5 0
+
 -- each bucket's terms lie between its start and the next one's
 pub record Laid (b : Buckets) : Type 0 where
   pub six-heads : length (b .head) ≡ 6

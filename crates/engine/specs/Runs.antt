@@ -1,0 +1,99 @@
+-- A run's operations (document 01, "Runs"), over the six lists. Assumes nothing.
+use Prim.Native.Nat.{ℕ, zero, suc, _+_, _≤_, Ordering}
+use mathlib.Core.Bool.{Bool, true, false}
+use mathlib.Core.List.{List, [], _∷_, _++_}
+use lib.Dec.{leb, eqb}
+use lib.ListN.{length}
+use Rattle.polynomial.specs.Terms.{Term, term}
+use Rattle.geobucket.specs.Buckets.{empty, held, add, addCompared, fullSum, sumCompared, emptied}
+use Rattle.geobucket.specs.Search.{Lead, none, lead, Searched, search}
+use Rattle.geobucket.specs.Events.{leadTerms}
+
+-- "(1, k) adds polynomial k; (2, 0) takes the lead; (3, 0) gives the full sum."
+pub data Operation : Type 0 where
+  adds : List (Term ℕ) → Operation
+  leads : Operation
+  sums : Operation
+
+-- The buckets, the tally's first three counts, the output places written, the operations finished, and the refusal that stopped the run, 0 for none.
+pub record Running : Type 0 where
+  pub buckets : List (List (Term ℕ))
+  pub comparisons : ℕ
+  pub brought : ℕ
+  pub given : ℕ
+  pub output : List (Term ℕ)
+  pub finished : ℕ
+  pub stop : ℕ
+
+abbrev pub begun : Running
+begun = record { buckets = empty; comparisons = 0; brought = 0; given = 0; output = []; finished = 0; stop = 0 }
+
+-- a refused operation does nothing
+abbrev pub stopped : ℕ → Running → Running
+stopped r t = record { buckets = t .buckets; comparisons = t .comparisons; brought = t .brought; given = t .given; output = t .output; finished = t .finished; stop = r }
+
+-- "A lead goes to the next output place; for zero, word 0 and coefficient 0 go there."
+abbrev pub placeOf : Lead ℕ → Term ℕ
+placeOf none = term 0 0
+placeOf (lead at t) = t
+
+module _ (cmp : ℕ → ℕ → Ordering) (p : ℕ) where
+  abbrev pub added : List (Term ℕ) → Running → Running
+  added f t = record {
+    buckets = add cmp p f (t .buckets);
+    comparisons = t .comparisons + length (addCompared cmp p f (t .buckets));
+    brought = t .brought + length f;
+    given = t .given;
+    output = t .output;
+    finished = t .finished + 1;
+    stop = 0;
+  }
+
+  abbrev pub taken : Running → Running
+  taken t =
+      let s = search cmp p (t .buckets) in
+      record {
+        buckets = s .buckets;
+        comparisons = t .comparisons + length (s .pairs);
+        brought = t .brought;
+        given = t .given + length (leadTerms (s .answer));
+        output = t .output ++ (placeOf (s .answer) ∷ []);
+        finished = t .finished + 1;
+        stop = 0;
+      }
+
+  -- "A full sum is followed by one such zero place."
+  abbrev pub summed : Running → Running
+  summed t = record {
+    buckets = emptied (t .buckets);
+    comparisons = t .comparisons + length (sumCompared cmp p [] (t .buckets));
+    brought = t .brought;
+    given = t .given + length (fullSum cmp p (t .buckets));
+    output = t .output ++ (fullSum cmp p (t .buckets) ++ (term 0 0 ∷ []));
+    finished = t .finished + 1;
+    stop = 0;
+  }
+
+  -- "11: terms held + terms to add > 4,096"; "10: too little output: a lead needs one free place; a full sum needs terms held + 1"; by whether there is room
+  abbrev pub addedBy : Bool → List (Term ℕ) → Running → Running
+  addedBy true f t = added f t
+  addedBy false f t = stopped 11 t
+
+  abbrev pub takenBy : Bool → Running → Running
+  takenBy true t = taken t
+  takenBy false t = stopped 10 t
+
+  abbrev pub summedBy : Bool → Running → Running
+  summedBy true t = summed t
+  summedBy false t = stopped 10 t
+
+  -- one operation, with so many output places in all
+  unfoldable pub operate : (places : ℕ) → Operation → Running → Running
+  operate places (adds f) t = addedBy (leb (held (t .buckets) + length f) 4096) f t
+  operate places leads t = takenBy (leb (length (t .output) + 1) places) t
+  operate places sums t = summedBy (leb (length (t .output) + (held (t .buckets) + 1)) places) t
+
+  -- the operations in turn, up to one that is refused
+  unfoldable pub operateAll : (places : ℕ) → List Operation → Running → Running
+  operateAll places [] t = t
+  operateAll places (o ∷ os) t = elim (eqb (operate places o t .stop) 0) [ true ↦ operateAll places os (operate places o t) | false ↦ operate places o t ]

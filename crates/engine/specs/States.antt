@@ -1,0 +1,62 @@
+-- A run's state in the spaces: what it stands for, what an operation asks of it, and what it leaves. Assumes nothing.
+use Prim.Native.Nat.{ℕ, _+_, _*_, _<_, _≤_, Ordering}
+use mathlib.Core.Path.{_≡_}
+use mathlib.Core.List.{List}
+use lib.ListN.{length, drop}
+use Rattle.polynomial.specs.Terms.{Term, terms, Canonical}
+use Rattle.merge.specs.Lent.{part}
+use Rattle.geobucket.specs.Buckets.{held}
+use Rattle.space.specs.Space.{bucketsIn, Stands}
+use Rattle.engine.specs.declared.state.State.{State}
+use Rattle.engine.specs.Runs.{Operation, adds, Running, operate}
+
+abbrev pub halted : State → ℕ → State
+halted s refusal = record { buckets = s .buckets; comparisons = s .comparisons; brought = s .brought; given = s .given; places = s .places; finished = s .finished; stop = refusal }
+
+-- what the state and the slices stand for
+abbrev pub standsFor : State → (bw bc ow oc : List ℕ) → Running
+standsFor s bw bc ow oc = record {
+  buckets = bucketsIn (s .buckets) bw bc;
+  comparisons = s .comparisons;
+  brought = s .brought;
+  given = s .given;
+  output = terms (part 0 (s .places) ow) (part 0 (s .places) oc);
+  finished = s .finished;
+  stop = s .stop;
+}
+
+-- a run that goes on: its buckets and its counts, which are far from 64 bits
+pub record Counting (cmp : ℕ → ℕ → Ordering) (p : ℕ) (s : State) (bw bc : List ℕ) : Type 0 where
+  pub stands : Stands cmp p (s .buckets) bw bc
+  pub room : held (bucketsIn (s .buckets) bw bc) ≤ 4096
+  pub most : s .finished ≤ 16777216
+  pub few : s .comparisons ≤ 100000 * s .finished
+  pub some-brought : s .brought ≤ 100000 * s .finished
+  pub some-given : s .given ≤ 100000 * s .finished
+
+-- an output with so many places written
+pub record Output (places : ℕ) (ow oc : List ℕ) : Type 0 where
+  pub same-long : length oc ≡ length ow
+  pub fits : places ≤ length ow
+
+pub record Work (ww wc : List ℕ) : Type 0 where
+  pub words-long : length ww ≡ 8192
+  pub coefs-long : length wc ≡ 8192
+
+-- a polynomial
+pub record Addend (cmp : ℕ → ℕ → Ordering) (p : ℕ) (fw fc : List ℕ) : Type 0 where
+  pub long : length fc ≡ length fw
+  pub canonical : Canonical cmp p (terms fw fc)
+
+-- the operation was done as defined, or was refused; output past the last place written is untouched
+pub record Operated (cmp : ℕ → ℕ → Ordering) (p : ℕ) (o : Operation) (s : State) (bw bc ow oc : List ℕ) (s' : State) (bw' bc' ow' oc' : List ℕ) : Type 0 where
+  pub counting : Counting cmp p s' bw' bc'
+  pub output : Output (s' .places) ow' oc'
+  pub is : standsFor s' bw' bc' ow' oc' ≡ operate cmp p (length ow) o (standsFor s bw bc ow oc)
+  pub longer : s .places ≤ s' .places
+  pub words-past : drop (s' .places) ow' ≡ drop (s' .places) ow
+  pub coefs-past : drop (s' .places) oc' ≡ drop (s' .places) oc
+
+-- an addition has nothing to do with the output
+pub record AddOperated (cmp : ℕ → ℕ → Ordering) (p : ℕ) (f : List (Term ℕ)) (s : State) (bw bc : List ℕ) (s' : State) (bw' bc' : List ℕ) : Type 0 where
+  pub done : (ow oc : List ℕ) → Output (s .places) ow oc → Operated cmp p (adds f) s bw bc ow oc s' bw' bc' ow oc

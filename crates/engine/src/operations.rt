@@ -1,0 +1,120 @@
+// The operations of a run, each with its refusal.
+use crate::state::State;
+use buckets::add::add;
+use buckets::sum::full_sum;
+use merge::copy::put_coefs;
+use merge::copy::put_words;
+use merge::merging::not_zero;
+use monomial::order::Order;
+use search::lead::take_lead;
+use space::state::held;
+ghost use Prim.Native.Nat.{_<_};
+ghost use Rattle.monomial.specs.Words.{compareWords};
+ghost use Rattle.polynomial.specs.Terms.{terms};
+ghost use Rattle.engine.specs.Runs.{leads, sums};
+ghost use Rattle.engine.specs.States.{Counting, Addend, Work, Output, Operated, AddOperated};
+
+// Adds the polynomial f, or refuses with 11 where the buckets would hold over 4,096 terms.
+pub fn add_operation<'a>(
+    order: Order,
+    p: u32,
+    s: State,
+    fw: &'a [u64],
+    fc: &'a [u32],
+    bw: &mut [u64],
+    bc: &mut [u32],
+    ww: &mut [u64],
+    wc: &mut [u32],
+) -> State
+    requires { ⌜ Counting (compareWords order) p s (now bw) (now bc) × Addend (compareWords order) p (now fw) (now fc) × Work (now ww) (now wc) × (s .finished < 16777216) ⌝ }
+    ensures { λ r. ⌜ AddOperated (compareWords order) p (terms (now (fw .entry)) (now (fc .entry))) s (now (bw .entry)) (now (bc .entry)) r (now (bw .exit)) (now (bc .exit)) ⌝ }
+{
+    if held(s.buckets) + fw.len() > 4096 {
+        return s.halt(11);
+    }
+    let r = add(order, p, s.buckets, fw, fc, bw, bc, ww, wc);
+    let buckets = r.buckets;
+    State {
+        buckets,
+        comparisons: s.comparisons + r.comparisons,
+        brought: s.brought + fw.len() as u64,
+        given: s.given,
+        places: s.places,
+        finished: s.finished + 1,
+        stop: 0,
+    }
+}
+
+// Finds the lead, puts it into the next output place and removes it, or refuses with 10 where there
+// is no place.
+pub fn lead_operation(
+    order: Order,
+    p: u32,
+    s: State,
+    bw: &[u64],
+    bc: &mut [u32],
+    ow: &mut [u64],
+    oc: &mut [u32],
+) -> State
+    requires { ⌜ Counting (compareWords order) p s (now bw) (now bc) × Output (s .places) (now ow) (now oc) × (s .finished < 16777216) ⌝ }
+    ensures { λ r. ⌜ Operated (compareWords order) p leads s (now (bw .entry)) (now (bc .entry)) (now (ow .entry)) (now (oc .entry)) r (now (bw .entry)) (now (bc .exit)) (now (ow .exit)) (now (oc .exit)) ⌝ }
+{
+    let at = s.places;
+    if at >= ow.len() {
+        return s.halt(10);
+    }
+    let f = take_lead(order, p, s.buckets, bw, bc);
+    let c = f.candidate;
+    ow[at] = c.word;
+    oc[at] = c.coef;
+    let buckets = f.buckets;
+    State {
+        buckets,
+        comparisons: s.comparisons + c.count,
+        brought: s.brought,
+        given: s.given + not_zero(c.coef) as u64,
+        places: at + 1,
+        finished: s.finished + 1,
+        stop: 0,
+    }
+}
+
+// Gives the full sum out, with a zero place past it, or refuses with 10 where the output has too few
+// places for all terms held and one more.
+pub fn sum_operation(
+    order: Order,
+    p: u32,
+    s: State,
+    bw: &[u64],
+    bc: &[u32],
+    ww: &mut [u64],
+    wc: &mut [u32],
+    ow: &mut [u64],
+    oc: &mut [u32],
+) -> State
+    requires { ⌜ Counting (compareWords order) p s (now bw) (now bc) × Work (now ww) (now wc) × Output (s .places) (now ow) (now oc) × (s .finished < 16777216) ⌝ }
+    ensures { λ r. ⌜ Operated (compareWords order) p sums s (now (bw .entry)) (now (bc .entry)) (now (ow .entry)) (now (oc .entry)) r (now (bw .entry)) (now (bc .entry)) (now (ow .exit)) (now (oc .exit)) ⌝ }
+{
+    let at = s.places;
+    if ow.len() - at < held(s.buckets) + 1 {
+        return s.halt(10);
+    }
+    let r = full_sum(order, p, s.buckets, bw, bc, ww, wc);
+    let from = r.from;
+    let past = from + r.len;
+    put_words(&ww[from..past], ow, at);
+    put_coefs(&wc[from..past], oc, at);
+    let end = at + r.len;
+    ow[end] = 0;
+    oc[end] = 0;
+    let buckets = r.buckets;
+    State {
+        buckets,
+        comparisons: s.comparisons + r.comparisons,
+        brought: s.brought,
+        given: s.given + r.len as u64,
+        places: end + 1,
+        finished: s.finished + 1,
+        stop: 0,
+    }
+}

@@ -1,0 +1,34 @@
+// What a run keeps between its operations.
+use space::state::Buckets;
+ghost use mathlib.Core.Path.{_≡_};
+ghost use Rattle.engine.specs.States.{halted};
+
+// The buckets, the counts of the tally but for the terms held, the output places written, the
+// operations finished, and the refusal that stopped the run, 0 for none.
+pub struct State {
+    pub buckets: Buckets,
+    pub comparisons: u64,
+    pub brought: u64,
+    pub given: u64,
+    pub places: usize,
+    pub finished: u64,
+    pub stop: u32,
+}
+
+impl State {
+    // The state of a run that is stopped by a refusal: nothing else changes.
+    pub fn halt(self, refusal: u32) -> Self
+        ensures { λ r. ⌜ r ≡ halted self refusal ⌝ }
+    {
+        let buckets = self.buckets;
+        State {
+            buckets,
+            comparisons: self.comparisons,
+            brought: self.brought,
+            given: self.given,
+            places: self.places,
+            finished: self.finished,
+            stop: refusal,
+        }
+    }
+}
