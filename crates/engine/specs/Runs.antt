@@ -4,7 +4,8 @@ use mathlib.Core.Bool.{Bool, true, false}
 use mathlib.Core.List.{List, [], _∷_, _++_}
 use lib.Dec.{leb, eqb}
 use lib.ListN.{length}
-use Rattle.polynomial.specs.Terms.{Term, term}
+use Rattle.polynomial.specs.Terms.{Term, term, terms}
+use Rattle.polynomial.specs.Opening.{partOf}
 use Rattle.geobucket.specs.Buckets.{empty, held, add, addCompared, fullSum, sumCompared, emptied}
 use Rattle.geobucket.specs.Search.{Lead, none, lead, Searched, search}
 use Rattle.geobucket.specs.Events.{leadTerms}
@@ -97,3 +98,22 @@ module _ (cmp : ℕ → ℕ → Ordering) (p : ℕ) where
   unfoldable pub operateAll : (places : ℕ) → List Operation → Running → Running
   operateAll places [] t = t
   operateAll places (o ∷ os) t = elim (eqb (operate places o t .stop) 0) [ true ↦ operateAll places os (operate places o t) | false ↦ operate places o t ]
+
+-- the operation of a pair, by whether its code is 1 or 2, over the polynomials of the slices; other codes than 1 to 3 are refused beforehand
+abbrev pub operationBy : (one two : Bool) → List (Term ℕ) → Operation
+operationBy true two f = adds f
+operationBy false true f = leads
+operationBy false false f = sums
+
+module _ (words coefs starts : List ℕ) where
+  -- "Polynomial k is handed on as that part of the slices"
+  abbrev pub polynomial : ℕ → List (Term ℕ)
+  polynomial k = terms (partOf starts k words) (partOf starts k coefs)
+
+  abbrev pub operationOf : ℕ → ℕ → Operation
+  operationOf code k = operationBy (eqb code 1) (eqb code 2) (polynomial k)
+
+  unfoldable pub operationsOf : List ℕ → List Operation
+  operationsOf [] = []
+  operationsOf (code ∷ []) = []
+  operationsOf (code ∷ (k ∷ os)) = operationOf code k ∷ operationsOf os

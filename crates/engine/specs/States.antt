@@ -2,13 +2,15 @@
 use Prim.Native.Nat.{ℕ, _+_, _*_, _<_, _≤_, Ordering}
 use mathlib.Core.Path.{_≡_}
 use mathlib.Core.List.{List}
-use lib.ListN.{length, drop}
+use lib.ListN.{length, drop, getD}
+use Rattle.residue.specs.Modular.{Modulus}
 use Rattle.polynomial.specs.Terms.{Term, terms, Canonical}
+use Rattle.polynomial.specs.Opening.{Within}
 use Rattle.merge.specs.Lent.{part}
 use Rattle.geobucket.specs.Buckets.{held}
-use Rattle.space.specs.Space.{bucketsIn, Stands}
+use Rattle.space.specs.Space.{bucketsIn, Stands, noBuckets}
 use Rattle.engine.specs.declared.state.State.{State}
-use Rattle.engine.specs.Runs.{Operation, adds, Running, operate}
+use Rattle.engine.specs.Runs.{Operation, adds, Running, begun, operate, operateAll, polynomial, operationOf, operationsOf}
 
 abbrev pub halted : State → ℕ → State
 halted s refusal = record { buckets = s .buckets; comparisons = s .comparisons; brought = s .brought; given = s .given; places = s .places; finished = s .finished; stop = refusal }
@@ -60,3 +62,41 @@ pub record Operated (cmp : ℕ → ℕ → Ordering) (p : ℕ) (o : Operation) (
 -- an addition has nothing to do with the output
 pub record AddOperated (cmp : ℕ → ℕ → Ordering) (p : ℕ) (f : List (Term ℕ)) (s : State) (bw bc : List ℕ) (s' : State) (bw' bc' : List ℕ) : Type 0 where
   pub done : (ow oc : List ℕ) → Output (s .places) ow oc → Operated cmp p (adds f) s bw bc ow oc s' bw' bc' ow oc
+
+-- an operation whose polynomial, if it adds one, is there
+pub record Operable (cmp : ℕ → ℕ → Ordering) (p : ℕ) (words coefs starts : List ℕ) (code k : ℕ) (s : State) (bw bc ww wc ow oc : List ℕ) : Type 0 where
+  pub counting : Counting cmp p s bw bc
+  pub work : Work ww wc
+  pub output : Output (s .places) ow oc
+  pub more : s .finished < 16777216
+  pub long : length coefs ≡ length words
+  pub there : code ≡ 1 → Within starts k (length words) × Canonical cmp p (polynomial words coefs starts k)
+
+-- operations and polynomials that passed the opening checks
+pub record Loaded (cmp : ℕ → ℕ → Ordering) (p : ℕ) (words coefs starts ops : List ℕ) : Type 0 where
+  pub modulus : Modulus p
+  pub long : length coefs ≡ length words
+  pub parts : (k : ℕ) → k + 1 < length starts → Within starts k (length words)
+  pub canonical : (k : ℕ) → k + 1 < length starts → Canonical cmp p (polynomial words coefs starts k)
+  pub pairs : ℕ
+  pub whole : length ops ≡ 2 * pairs
+  pub most : pairs ≤ 16777216
+  pub there : (j : ℕ) → j < pairs → getD ops (2 * j) 0 ≡ 1 → getD ops (2 * j + 1) 0 + 1 < length starts
+
+-- spaces of the right sizes, with anything in them
+pub record Lent (bw bc ww wc ow oc : List ℕ) : Type 0 where
+  pub words-long : length bw ≡ 5460
+  pub coefs-long : length bc ≡ 5460
+  pub work : Work ww wc
+  pub same-long : length oc ≡ length ow
+
+abbrev pub initial : State
+initial = record { buckets = noBuckets; comparisons = 0; brought = 0; given = 0; places = 0; finished = 0; stop = 0 }
+
+-- all operations were done as defined, up to one that is refused
+pub record RanAll (cmp : ℕ → ℕ → Ordering) (p : ℕ) (words coefs starts ops : List ℕ) (ow oc : List ℕ) (s : State) (bw' bc' ow' oc' : List ℕ) : Type 0 where
+  pub counting : Counting cmp p s bw' bc'
+  pub output : Output (s .places) ow' oc'
+  pub is : standsFor s bw' bc' ow' oc' ≡ operateAll cmp p (length ow) (operationsOf words coefs starts ops) begun
+  pub words-past : drop (s .places) ow' ≡ drop (s .places) ow
+  pub coefs-past : drop (s .places) oc' ≡ drop (s .places) oc

@@ -1,3 +1,4 @@
 // Runs of operations on a geobucket in lent space.
 pub mod operations; // one operation each
+pub mod run; // the operations in turn
 pub mod state; // what a run keeps between operations

@@ -1,6 +1,8 @@
 // What a run keeps between its operations.
 use space::state::Buckets;
+use space::state::empty;
 ghost use mathlib.Core.Path.{_≡_};
+ghost use Rattle.engine.specs.States as states;
 ghost use Rattle.engine.specs.States.{halted};
 
 // The buckets, the counts of the tally but for the terms held, the output places written, the
@@ -30,5 +32,20 @@ impl State {
             finished: self.finished,
             stop: refusal,
         }
+    }
+}
+
+// The state at the beginning: empty buckets, whatever the spaces hold.
+pub fn initial() -> State
+    ensures { λ r. ⌜ r ≡ states.initial ⌝ }
+{
+    State {
+        buckets: empty(),
+        comparisons: 0,
+        brought: 0,
+        given: 0,
+        places: 0,
+        finished: 0,
+        stop: 0,
     }
 }

@@ -1,0 +1,91 @@
+// The operations of a run in turn.
+use crate::operations::add_operation;
+use crate::operations::lead_operation;
+use crate::operations::sum_operation;
+use crate::state::State;
+use crate::state::initial;
+use monomial::order::Order;
+use polynomial::part::coefs_of;
+use polynomial::part::words_of;
+ghost use mathlib.Core.Path.{_≡_};
+ghost use Prim.Native.Nat.{_+_, _<_};
+ghost use lib.ListN.{length};
+ghost use Rattle.monomial.specs.Words.{compareWords};
+ghost use Rattle.polynomial.specs.Opening.{Within};
+ghost use Rattle.engine.specs.Runs.{operationOf};
+ghost use Rattle.engine.specs.States.{Operable, Operated, Loaded, Lent, RanAll};
+
+// One operation of a list that passed the opening checks.
+pub fn operate<'a>(
+    order: Order,
+    p: u32,
+    words: &'a [u64],
+    coefs: &'a [u32],
+    starts: &[usize],
+    code: usize,
+    k: usize,
+    s: State,
+    bw: &mut [u64],
+    bc: &mut [u32],
+    ww: &mut [u64],
+    wc: &mut [u32],
+    ow: &mut [u64],
+    oc: &mut [u32],
+) -> State
+    requires { ⌜ Operable (compareWords order) p (now words) (now coefs) (now starts) code k s (now bw) (now bc) (now ww) (now wc) (now ow) (now oc) ⌝ }
+    ensures { λ r. ⌜ Operated (compareWords order) p (operationOf (now (words .entry)) (now (coefs .entry)) (now (starts .entry)) code k) s (now (bw .entry)) (now (bc .entry)) (now (ow .entry)) (now (oc .entry)) r (now (bw .exit)) (now (bc .exit)) (now (ow .exit)) (now (oc .exit)) ⌝ }
+{
+    if code == 1 {
+        let fw = words_of(words, starts, k);
+        let fc = coefs_of(coefs, starts, k);
+        return add_operation(order, p, s, fw, fc, bw, bc, ww, wc);
+    }
+    if code == 2 {
+        return lead_operation(order, p, s, bw, bc, ow, oc);
+    }
+    sum_operation(order, p, s, bw, bc, ww, wc, ow, oc)
+}
+
+// The operations of a list that passed the opening checks, up to one that is refused.
+pub fn operate_all<'a>(
+    order: Order,
+    p: u32,
+    words: &'a [u64],
+    coefs: &'a [u32],
+    starts: &[usize],
+    ops: &[usize],
+    bw: &mut [u64],
+    bc: &mut [u32],
+    ww: &mut [u64],
+    wc: &mut [u32],
+    ow: &mut [u64],
+    oc: &mut [u32],
+) -> State
+    requires { ⌜ Loaded (compareWords order) p (now words) (now coefs) (now starts) (now ops) × Lent (now bw) (now bc) (now ww) (now wc) (now ow) (now oc) ⌝ }
+    ensures { λ r. ⌜ RanAll (compareWords order) p (now (words .entry)) (now (coefs .entry)) (now (starts .entry)) (now (ops .entry)) (now (ow .entry)) (now (oc .entry)) r (now (bw .exit)) (now (bc .exit)) (now (ow .exit)) (now (oc .exit)) ⌝ }
+{
+    let mut s = initial();
+    let mut i = 0;
+    while i < ops.len() && s.stop == 0 {
+        let code = ops[i];
+        let k = ops[i + 1];
+        s = operate(
+            order,
+            p,
+            words,
+            coefs,
+            starts,
+            code,
+            k,
+            s,
+            bw,
+            bc,
+            ww,
+            wc,
+            ow,
+            oc,
+        );
+        i += 2;
+    }
+    s
+}

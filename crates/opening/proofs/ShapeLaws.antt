@@ -1,0 +1,41 @@
+-- What a good shape is. Assumes nothing.
+use mathlib.Core.Path.{_≡_}
+use mathlib.Core.Bool.{true, _&&_}
+use mathlib.Core.List.{List}
+use Prim.Native.Nat.{ℕ}
+use borrow.Author.Tests.{eqb-true}
+use lib.Dec.{eqb}
+use Rattle.monomial.proofs.Places.{and-both}
+use Rattle.polynomial.specs.Opening.{startsGood}
+use Rattle.opening.specs.Run.{spaceGood, lentGood, pairsGood, shapeGood}
+
+pub record Shaped (words coefs : ℕ) (ss : List ℕ) (ops bw bc ww wc ow oc : ℕ) : Type 0 where
+  pub lent : words ≡ coefs
+  pub output : ow ≡ oc
+  pub bucket-words : bw ≡ 5460
+  pub bucket-coefs : bc ≡ 5460
+  pub work-words : ww ≡ 8192
+  pub work-coefs : wc ≡ 8192
+  pub starts : startsGood ss words ≡ true
+  pub pairs : pairsGood ops ≡ true
+
+pub shape-passes : {words coefs : ℕ} {ss : List ℕ} {ops bw bc ww wc ow oc : ℕ} → shapeGood words coefs ss ops bw bc ww wc ow oc ≡ true → Shaped words coefs ss ops bw bc ww wc ow oc
+unfolding shapeGood lentGood spaceGood
+shape-passes {words} {coefs} {ss} {ops} {bw} {bc} {ww} {wc} {ow} {oc} h =
+    let a = and-both (lentGood words coefs bw bc ww wc ow oc) (startsGood ss words && pairsGood ops) h in
+    let s = and-both (startsGood ss words) (pairsGood ops) (a .1) in
+    let b = and-both (eqb words coefs) (eqb ow oc && spaceGood bw bc ww wc) (a .0) in
+    let d = and-both (eqb ow oc) (spaceGood bw bc ww wc) (b .1) in
+    let e = and-both (eqb bw 5460) (eqb bc 5460 && (eqb ww 8192 && eqb wc 8192)) (d .1) in
+    let f = and-both (eqb bc 5460) (eqb ww 8192 && eqb wc 8192) (e .1) in
+    let g = and-both (eqb ww 8192) (eqb wc 8192) (f .1) in
+    record {
+      lent = eqb-true words coefs (b .0);
+      output = eqb-true ow oc (d .0);
+      bucket-words = eqb-true bw 5460 (e .0);
+      bucket-coefs = eqb-true bc 5460 (f .0);
+      work-words = eqb-true ww 8192 (g .0);
+      work-coefs = eqb-true wc 8192 (g .1);
+      starts = s .0;
+      pairs = s .1;
+    }

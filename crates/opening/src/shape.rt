@@ -1,0 +1,77 @@
+// The sizes of what is lent to a run.
+use polynomial::starts::starts_good;
+ghost use mathlib.Core.Path.{_≡_};
+ghost use Rattle.opening.specs.Run.{spaceGood, lentGood, pairsGood, shapeGood};
+
+// Whether lengths and starts are as a run asks, by the lengths of the slices.
+pub fn shape_good(
+    words: usize,
+    coefs: usize,
+    starts: &[usize],
+    ops: usize,
+    bw: usize,
+    bc: usize,
+    ww: usize,
+    wc: usize,
+    ow: usize,
+    oc: usize,
+) -> bool
+    ensures { λ r. ⌜ r ≡ shapeGood words coefs (now (starts .entry)) ops bw bc ww wc ow oc ⌝ }
+{
+    if !lent_good(words, coefs, bw, bc, ww, wc, ow, oc) {
+        return false;
+    }
+    if !starts_good(starts, words) {
+        return false;
+    }
+    pairs_good(ops)
+}
+
+// Whether there are as many words as coefficients, in input and output, and the bucket and work space
+// have their sizes.
+pub fn lent_good(
+    words: usize,
+    coefs: usize,
+    bw: usize,
+    bc: usize,
+    ww: usize,
+    wc: usize,
+    ow: usize,
+    oc: usize,
+) -> bool
+    ensures { λ r. ⌜ r ≡ lentGood words coefs bw bc ww wc ow oc ⌝ }
+{
+    if words != coefs {
+        return false;
+    }
+    if ow != oc {
+        return false;
+    }
+    space_good(bw, bc, ww, wc)
+}
+
+// Whether the bucket space has 5,460 places for words and for coefficients, and the work space 8,192.
+fn space_good(bw: usize, bc: usize, ww: usize, wc: usize) -> bool
+    ensures { λ r. ⌜ r ≡ spaceGood bw bc ww wc ⌝ }
+{
+    if bw != 5460 {
+        return false;
+    }
+    if bc != 5460 {
+        return false;
+    }
+    if ww != 8192 {
+        return false;
+    }
+    wc == 8192
+}
+
+// Whether a list of so many numbers is of whole pairs, and at most 16,777,216 of them.
+fn pairs_good(len: usize) -> bool
+    ensures { λ r. ⌜ r ≡ pairsGood len ⌝ }
+{
+    if len % 2 != 0 {
+        return false;
+    }
+    len <= 33554432
+}
