@@ -1,0 +1,54 @@
+-- What the opening checks of a run let pass can be run. Assumes nothing.
+use mathlib.Core.Path.{_≡_, refl, sym, ap, _∙_, subst}
+use mathlib.Core.Bool.{Bool, true, false, _&&_}
+use mathlib.Core.List.{List, [], _∷_}
+use Prim.Native.Nat.{ℕ, zero, suc, _+_, _-_, _*_, _/_, _%_, _<_, _≤_}
+use native.Mathlib.Omega.{arith}
+use borrow.Author.Tests.{eqb-true, leb-true, ltb-true, eq-eqb}
+use lib.Dec.{leb, ltb, eqb}
+use lib.ListN.{length, getD}
+use Rattle.monomial.specs.Exponents.{orderOf}
+use Rattle.monomial.specs.Words.{compareWords}
+use Rattle.polynomial.proofs.OpeningLaws.{passes}
+use Rattle.monomial.proofs.Places.{and-both}
+use Rattle.polynomial.proofs.StartLaws.{good-within}
+use Rattle.opening.specs.Run.{Opened, pairsGood, operationBy, operationGood, operationsGood}
+use Rattle.engine.specs.States.{Loaded, Lent, Work}
+
+-- 16,777,216 pairs at most, and no half one
+pairs-whole : (len : ℕ) → pairsGood len ≡ true → (len ≡ 2 * (len / 2)) × (len / 2 ≤ 16777216)
+unfolding pairsGood
+pairs-whole len h =
+    let e = and-both (eqb (len % 2) 0) (leb len 33554432) h in
+    (omega (arith, eqb-true (len % 2) 0 (e .0)), omega (arith, leb-true len 33554432 (e .1)))
+
+-- the polynomial of an addition is there
+one-there : (code k polynomials : ℕ) → operationGood code k polynomials ≡ true → code ≡ 1 → k < polynomials
+unfolding operationGood
+one-there code k polynomials h e = ltb-true k polynomials (ap (λ (b : Bool). operationBy b code k polynomials) (sym (eq-eqb code 1 e)) ∙ h)
+
+additions-there : (ops : List ℕ) (polynomials : ℕ) → operationsGood ops polynomials ≡ true → (j : ℕ) → 2 * j + 1 < length ops → getD ops (2 * j) 0 ≡ 1 → getD ops (2 * j + 1) 0 < polynomials
+unfolding operationsGood
+additions-there [] n h j l e = absurd (let z : ⊥ = omega arith in z)
+additions-there (code ∷ []) n h j l e = absurd (let z : ⊥ = omega arith in z)
+additions-there (code ∷ (k ∷ ops)) n h zero l e = one-there code k n (and-both (operationGood code k n) (operationsGood ops n) h .0) e
+additions-there (code ∷ (k ∷ ops)) n h (suc j) l e =
+    let z : 2 * suc j ≡ suc (suc (2 * j)) = omega arith in
+    let w : 2 * suc j + 1 ≡ suc (suc (2 * j + 1)) = omega arith in
+    subst (λ (m : ℕ). getD (code ∷ (k ∷ ops)) m 0 < n) (sym w) (additions-there ops n (and-both (operationGood code k n) (operationsGood ops n) h .1) j (omega arith) (ap (λ (m : ℕ). getD (code ∷ (k ∷ ops)) m 0) (sym z) ∙ e))
+
+module _ {p order n : ℕ} {words coefs ss ops : List ℕ} {lbw lbc lww lwc low loc : ℕ} (o : Opened p order n words coefs ss ops lbw lbc lww lwc low loc) where
+  pub loaded : Loaded (compareWords (orderOf order)) p words coefs ss ops
+  loaded = record {
+    modulus = record { two = o .prime .above; limit = omega (arith, o .limit) };
+    long = sym (o .lent);
+    parts = λ k h. good-within ss (length words) (o .starts) k h;
+    canonical = λ k h. passes (orderOf order) n p _ (o .polynomials k h) .0;
+    pairs = length ops / 2;
+    whole = pairs-whole (length ops) (o .pairs) .0;
+    most = pairs-whole (length ops) (o .pairs) .1;
+    there = λ j h e. let k = additions-there ops (length ss - 1) (o .operations) j (omega (arith, h, pairs-whole (length ops) (o .pairs) .0)) e in omega (arith, k);
+  }
+
+pub spaces : {p order n : ℕ} {words coefs ss ops : List ℕ} (bw bc ww wc ow oc : List ℕ) → Opened p order n words coefs ss ops (length bw) (length bc) (length ww) (length wc) (length ow) (length oc) → Lent bw bc ww wc ow oc
+spaces bw bc ww wc ow oc o = record { words-long = o .bucket-words; coefs-long = o .bucket-coefs; work = record { words-long = o .work-words; coefs-long = o .work-coefs }; same-long = sym (o .output) }
