@@ -19,10 +19,10 @@ use Rattle.engine.specs.declared.state.State.{State}
 use Rattle.engine.specs.Runs.{Running, begun, operateAll, operationsOf}
 use Rattle.engine.specs.States.{standsFor, Output, RanAll}
 use Rattle.engine.proofs.OutputLaws.{written-long}
-use Rattle.runs.specs.declared.core.Tally.{Tally}
-use Rattle.runs.specs.declared.core.Ran.{Ran}
-use Rattle.runs.specs.declared.core.Answer.{Answer}
-use Rattle.runs.specs.declared.core.Answer.the-variants.{Done, Refused}
+use Rattle.runs.specs.declared.Tally.{Tally}
+use Rattle.runs.specs.declared.Ran.{Ran}
+use Rattle.runs.specs.declared.Answer.{Answer}
+use Rattle.runs.specs.declared.Answer.the-variants.{Done, Refused}
 use Rattle.runs.specs.Outcome.{RunOutcome, answerBy, tallyOf, ended, decidedBy, refusedWith, ranOf}
 
 -- an opening refusal

@@ -14,10 +14,10 @@ use Rattle.opening.specs.Run.{runRefusal}
 use Rattle.opening.specs.Refusals.{refusalNamed}
 use Rattle.engine.specs.declared.state.State.{State}
 use Rattle.engine.specs.Runs.{Running, begun, operateAll, operationsOf}
-use Rattle.runs.specs.declared.core.Tally.{Tally}
-use Rattle.runs.specs.declared.core.Ran.{Ran}
-use Rattle.runs.specs.declared.core.Answer.{Answer}
-use Rattle.runs.specs.declared.core.Answer.the-variants.{Done, Refused}
+use Rattle.runs.specs.declared.Tally.{Tally}
+use Rattle.runs.specs.declared.Ran.{Ran}
+use Rattle.runs.specs.declared.Answer.{Answer}
+use Rattle.runs.specs.declared.Answer.the-variants.{Done, Refused}
 
 pub record RunOutcome : Type 0 where
   pub answer : Answer

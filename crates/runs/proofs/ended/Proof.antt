@@ -1,22 +1,22 @@
--- `runs::core::ended` meets its contract. Assumes nothing.
+-- `runs::ended` meets its contract. Assumes nothing.
 use borrow.Author.Needs.{needs}
 use borrow.Author.Tests.{eq-eqb, ne-eqb}
-use Rattle.runs.proofs.core.ended.Statement.{statement}
-use Rattle.runs.proofs.core.ended.Tie as tie
+use Rattle.runs.proofs.ended.Statement.{statement}
+use Rattle.runs.proofs.ended.Tie as tie
 
--- src/core.rt:113:15
+-- src/lib.rt:113:15
 held-requires : tie.Need-held-requires
 held-requires c κs = search needs
 
--- src/core.rt:120:9
+-- src/lib.rt:120:9
 returns : tie.Need-returns
 returns c = rw (eq-eqb _ _ (c .if1 .taken), c .before .before .held .ensures)
 
--- src/core.rt:123:18
+-- src/lib.rt:123:18
 refusal-of-requires : tie.Need-refusal-of-requires
 refusal-of-requires c κs = search needs
 
--- src/core.rt:105:1
+-- src/lib.rt:105:1
 returns-2 : tie.Need-returns-2
 returns-2 c = rw (ne-eqb _ _ (c .before .if1 .left), c .before .before .before .held .ensures, c .refusal-of .ensures)
 

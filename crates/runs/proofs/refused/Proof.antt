@@ -1,13 +1,13 @@
--- `runs::core::refused` meets its contract. Assumes nothing.
+-- `runs::refused` meets its contract. Assumes nothing.
 use borrow.Author.Needs.{needs}
-use Rattle.runs.proofs.core.refused.Statement.{statement}
-use Rattle.runs.proofs.core.refused.Tie as tie
+use Rattle.runs.proofs.refused.Statement.{statement}
+use Rattle.runs.proofs.refused.Tie as tie
 
--- src/core.rt:98:18
+-- src/lib.rt:98:18
 refusal-of-requires : tie.Need-refusal-of-requires
 refusal-of-requires c κs = search needs
 
--- src/core.rt:94:1
+-- src/lib.rt:94:1
 returns : tie.Need-returns
 returns c = rw (c .refusal-of .ensures)
 
