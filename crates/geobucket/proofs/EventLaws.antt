@@ -67,7 +67,7 @@ module _ {A : Type 0} (cmp : A → A → Ordering) where
   put-total m (suc at) t (b ∷ bs) h = omega (arith, put-total m at t bs (omega arith))
 
 module _ {A : Type 0} (cmp : A → A → Ordering) (p : ℕ) where
-  good-canon : (cap : ℕ) (bs : List (List (Term A))) → Good cmp p cap bs → Canon cmp p bs
+  pub good-canon : (cap : ℕ) (bs : List (List (Term A))) → Good cmp p cap bs → Canon cmp p bs
   unfolding Good Canon
   good-canon cap [] g = tt
   good-canon cap (b ∷ bs) g = (g .0 .0, good-canon (4 * cap) bs (g .1))
@@ -77,14 +77,14 @@ module _ {A : Type 0} (cmp : A → A → Ordering) (p : ℕ) where
   good-fit cap [] g = tt
   good-fit cap (b ∷ bs) g = (g .0 .1, good-fit (4 * cap) bs (g .1))
 
-  shrunk-good : (cap : ℕ) (cs bs : List (List (Term A))) → Shrunk cs bs → Canon cmp p cs → Good cmp p cap bs → Good cmp p cap cs
+  pub shrunk-good : (cap : ℕ) (cs bs : List (List (Term A))) → Shrunk cs bs → Canon cmp p cs → Good cmp p cap bs → Good cmp p cap cs
   unfolding Good Canon Shrunk
   shrunk-good cap [] [] h c g = tt
   shrunk-good cap [] (b ∷ bs) h c g = absurd h
   shrunk-good cap (x ∷ cs) [] h c g = absurd h
   shrunk-good cap (x ∷ cs) (b ∷ bs) h c g = ((c .0, let e : length x ≤ cap = omega arith in e), shrunk-good (4 * cap) cs bs (h .1) (c .1) (g .1))
 
-  emptied-good : (cap : ℕ) (bs : List (List (Term A))) → Good cmp p cap (emptied bs)
+  pub emptied-good : (cap : ℕ) (bs : List (List (Term A))) → Good cmp p cap (emptied bs)
   unfolding Good emptied
   emptied-good cap [] = tt
   emptied-good cap (b ∷ bs) = ((record { falling = tt; reduced = tt }, let z : 0 ≤ cap = omega arith in z), emptied-good (4 * cap) bs)

@@ -1,6 +1,6 @@
 // The refusals by cause.
 ghost use mathlib.Core.Path.{_≡_};
-ghost use Rattle.opening.specs.Refusals.{refusalNamed};
+ghost use Rattle.opening.specs.Refusals.{numberOf, refusalNamed};
 
 // The causes by their numbers in document 01, from 1 on.
 pub enum Refusal {
@@ -45,5 +45,30 @@ pub fn refusal_of(number: u32) -> Refusal
         15 => Refusal::BadCheck,
         16 => Refusal::BadBlock,
         _ => Refusal::BadScript,
+    }
+}
+
+// The number of a refusal.
+pub fn number_of(refusal: Refusal) -> u32
+    ensures { λ r. ⌜ r ≡ numberOf refusal ⌝ }
+{
+    match refusal {
+        Refusal::NotPrime => 1,
+        Refusal::BadOrder => 2,
+        Refusal::BadVariables => 3,
+        Refusal::BadCoefficient => 4,
+        Refusal::BadLayout => 5,
+        Refusal::NotFalling => 6,
+        Refusal::ZeroDivisor => 7,
+        Refusal::BadShape => 8,
+        Refusal::BadOperation => 9,
+        Refusal::NoOutput => 10,
+        Refusal::TooManyTerms => 11,
+        Refusal::ExponentOver => 12,
+        Refusal::StepLimit => 13,
+        Refusal::NotBlocks => 14,
+        Refusal::BadCheck => 15,
+        Refusal::BadBlock => 16,
+        Refusal::BadScript => 17,
     }
 }

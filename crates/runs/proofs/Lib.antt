@@ -1,3 +1,4 @@
 pub mod OpenedLaws
 pub mod OutcomeLaws
 pub mod Said
+pub mod Demands

@@ -23,7 +23,7 @@ pairs-whole len h =
     (omega (arith, eqb-true (len % 2) 0 (e .0)), omega (arith, leb-true len 33554432 (e .1)))
 
 -- the polynomial of an addition is there
-one-there : (code k polynomials : ℕ) → operationGood code k polynomials ≡ true → code ≡ 1 → k < polynomials
+pub one-there : (code k polynomials : ℕ) → operationGood code k polynomials ≡ true → code ≡ 1 → k < polynomials
 unfolding operationGood
 one-there code k polynomials h e = ltb-true k polynomials (ap (λ (b : Bool). operationBy b code k polynomials) (sym (eq-eqb code 1 e)) ∙ h)
 
