@@ -7,16 +7,16 @@ use crate::random::Random;
 use std::hint::black_box;
 use std::time::Instant;
 
-const P: u32 = 32_003;
+pub(crate) const P: u32 = 32_003;
 
-const ORDERS: [Order; 2] = [Order::DegRevLex, Order::Lex];
+pub(crate) const ORDERS: [Order; 2] = [Order::DegRevLex, Order::Lex];
 
 /// Rounds over all rows, so that each row meets the machine at many times. In two rounds each
 /// geobucket is first and second.
-const ROUNDS: usize = 120;
+pub(crate) const ROUNDS: usize = 120;
 
 /// The operations of a list, and the most terms of an addition.
-const OPERATIONS: usize = 10_000;
+pub(crate) const OPERATIONS: usize = 10_000;
 const LONGEST: usize = 20;
 
 /// With much cancellation, monomials are from so many, and once so many additions are remembered,
@@ -36,42 +36,56 @@ const SETTLINGS: usize = 20;
 
 /// The least times so far of the proved geobucket and of the plain one.
 #[derive(Clone, Copy)]
-struct Best([f64; 2]);
+pub(crate) struct Best([f64; 2]);
 
 impl Best {
-    fn new() -> Self {
+    pub(crate) fn new() -> Self {
         Best([f64::INFINITY; 2])
     }
 
-    /// Times both, the proved one first in every other round, each divided by the number that it
-    /// gives. The numbers must be the same.
-    fn time(&mut self, round: usize, both: [&mut dyn FnMut() -> u64; 2]) {
-        let mut numbers = [0; 2];
-        for turn in 0..both.len() {
-            let k = (round + turn) % both.len();
-            let start = Instant::now();
-            numbers[k] = both[k]();
-            let time = start.elapsed().as_nanos() as f64 / numbers[k] as f64;
-            self.0[k] = self.0[k].min(time);
+    /// Takes the nanoseconds of both for so many.
+    pub(crate) fn take(&mut self, times: [f64; 2], number: u64) {
+        for (best, time) in self.0.iter_mut().zip(times) {
+            *best = best.min(time / number as f64);
         }
-        assert_eq!(numbers[0], numbers[1], "results differ");
+    }
+
+    /// Times both, each divided by the number that it gives.
+    fn time(&mut self, round: usize, both: [&mut dyn FnMut() -> u64; 2]) {
+        let (times, number) = in_turn(round, both);
+        self.take(times, number);
     }
 
     /// The last columns of a row.
-    fn columns(&self) -> String {
+    pub(crate) fn columns(&self) -> String {
         let [proved, plain] = self.0;
         format!("{proved:.2} | {plain:.2} | {:.2} |", proved / plain)
     }
 }
 
+/// Times both, the proved one first in every other round. Gives the nanoseconds of each, and the
+/// number that they give, which must be the same.
+pub(crate) fn in_turn(round: usize, both: [&mut dyn FnMut() -> u64; 2]) -> ([f64; 2], u64) {
+    let mut times = [0.0; 2];
+    let mut numbers = [0; 2];
+    for turn in 0..both.len() {
+        let k = (round + turn) % both.len();
+        let start = Instant::now();
+        numbers[k] = both[k]();
+        times[k] = start.elapsed().as_nanos() as f64;
+    }
+    assert_eq!(numbers[0], numbers[1], "results differ");
+    (times, numbers[0])
+}
+
 #[derive(Clone, Copy)]
-enum Cancellation {
+pub(crate) enum Cancellation {
     Little,
     Much,
 }
 
 impl Cancellation {
-    fn name(self) -> &'static str {
+    pub(crate) fn name(self) -> &'static str {
         match self {
             Cancellation::Little => "little",
             Cancellation::Much => "much",
@@ -79,13 +93,13 @@ impl Cancellation {
     }
 }
 
-enum Operation {
+pub(crate) enum Operation {
     Add(List),
     Take,
 }
 
 /// Makes lists of operations.
-struct Maker {
+pub(crate) struct Maker {
     order: Order,
     cancellation: Cancellation,
     pool: Vec<u64>,
@@ -93,7 +107,7 @@ struct Maker {
 }
 
 impl Maker {
-    fn new(random: &mut Random, order: Order, cancellation: Cancellation) -> Self {
+    pub(crate) fn new(random: &mut Random, order: Order, cancellation: Cancellation) -> Self {
         Maker {
             order,
             cancellation,
@@ -127,7 +141,7 @@ impl Maker {
     }
 
     /// Additions and leads taken, one as often as the other; a lead where an addition does not fit.
-    fn operations(&mut self, random: &mut Random) -> Vec<Operation> {
+    pub(crate) fn operations(&mut self, random: &mut Random) -> Vec<Operation> {
         let mut memory = emptied::<Plain>();
         let mut operations = Vec::new();
         for _ in 0..OPERATIONS {

@@ -1,10 +1,14 @@
-//! Merges and geobuckets for the benchmark: the proved ones through the static library `probe`, and
-//! others in plain Rust. `lists` makes what they merge; `buckets` times geobuckets.
+//! Merges, geobuckets and runs for the benchmark: the proved ones through the static library `probe`,
+//! and others in plain Rust. `lists` makes what they merge; `buckets` times geobuckets, and `runs`
+//! whole runs.
 pub mod buckets;
 pub mod geobucket;
 pub mod lists;
 pub mod merge;
+pub mod plain_run;
 pub mod proved;
 pub mod proved_buckets;
+pub mod proved_run;
 #[path = "../../tests/src/random.rs"]
 pub mod random;
+pub mod runs;

@@ -5,6 +5,7 @@ use bench::lists::{pair, List, Order};
 use bench::merge::{branching, masks, Counts, Merge};
 use bench::proved;
 use bench::random::Random;
+use bench::runs::runs;
 use std::hint::black_box;
 use std::time::Instant;
 
@@ -33,7 +34,8 @@ fn main() {
         Some("buckets") => buckets::operations(),
         Some("leads") => buckets::leads(),
         Some("settling") => buckets::settling(),
-        _ => panic!("no such table: merges, buckets, leads or settling"),
+        Some("runs") => runs(),
+        _ => panic!("no such table: merges, buckets, leads, settling or runs"),
     }
 }
 

@@ -1,6 +1,8 @@
-//! A second program for what the proved crates compute. `monomial`, `residue`, `polynomial` and
-//! `geobucket` are plain models, which share no code with the proved crates; `probe` and
-//! `probe_buckets` call the proved functions; `generate` and `operations` make what they are given.
+//! A second program for what the proved crates compute. `monomial`, `residue`, `polynomial`,
+//! `geobucket` and `run` are plain models, which share no code with the proved crates; `probe`,
+//! `probe_buckets` and `probe_run` call the proved functions; `generate`, `operations`, `run_lists`
+//! and `damage` make what they are given.
+pub mod damage;
 pub mod generate;
 pub mod geobucket;
 pub mod monomial;
@@ -8,8 +10,11 @@ pub mod operations;
 pub mod polynomial;
 pub mod probe;
 pub mod probe_buckets;
+pub mod probe_run;
 pub mod random;
 pub mod residue;
+pub mod run;
+pub mod run_lists;
 
 /// How many cases a group of generated tests has: the variable SECOND_CASES, or 50,000.
 pub fn cases() -> u64 {

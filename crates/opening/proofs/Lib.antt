@@ -5,3 +5,4 @@ pub mod PolynomialLaws
 pub mod ShapeLaws
 pub mod RunLaws
 pub mod RefusalLaws
+pub mod Judgements

@@ -1,0 +1,185 @@
+-- Demand 1 for the opening of a run: the refusal is the one whose condition holds where no earlier one does. Assumes nothing.
+use mathlib.Core.Path.{_≡_, refl, sym, ap, ap₂, _∙_, subst}
+use mathlib.Core.Bool.{Bool, true, false, _&&_, _||_}
+use mathlib.Core.List.{List, [], _∷_}
+use mathlib.Core.Logic.{_⊎_, inl, inr, ⊎-elim}
+use Prim.Native.Nat.{ℕ, zero, suc, _+_, _-_, _%_, _<_, _≤_}
+use native.Mathlib.Decide.{decLe}
+use native.Mathlib.Omega.{arith}
+use borrow.Author.Tests.{le-leb, lt-ltb, leb-true, ltb-true, eq-eqb, ne-eqb, eqb-true}
+use lib.Dec.{leb, ltb, eqb}
+use lib.ListN.{length}
+use Rattle.residue.specs.Prime.{Prime, isPrime}
+use Rattle.residue.proofs.Primality.{prime-true, true-prime}
+use Rattle.monomial.specs.declared.order.Order.{Order}
+use Rattle.monomial.specs.Exponents.{orderOf}
+use Rattle.monomial.proofs.Places.{and-both}
+use Rattle.polynomial.specs.Opening.{startsGood, first}
+use Rattle.opening.specs.Run.{unless, between, setting, spaceGood, lentGood, pairsGood, shapeGood, operationBy, operationGood, operationsGood, refusalAt, refusalFrom, polynomialsRefusal, runRefusal}
+use Rattle.opening.specs.Judgement.{GoodPrime, Between, GoodShape, GoodOperation, GoodOperations, FirstRefused, Judged, refused-1, refused-2, refused-3, refused-8, refused-9, refused-polynomial, passed}
+
+both : (a b : Bool) → a ≡ true → b ≡ true → (a && b) ≡ true
+both a b e f = ap₂ (λ (x y : Bool). x && y) e f
+
+-- a test that fails, of something that holds
+clash : {b : Bool} → b ≡ false → b ≡ true → ⊥
+clash {b} e f = let z : _≡_ {A = ℕ} 0 1 = ap bit (sym e ∙ f) in let q : ⊥ = omega arith in q
+  where
+    bit : Bool → ℕ
+    bit false = 0
+    bit true = 1
+
+-- ---- each test, and what it tests
+prime-good : (p : ℕ) → (isPrime p && leb p 65521) ≡ true → GoodPrime p
+prime-good p e = let b = and-both (isPrime p) (leb p 65521) e in (true-prime p (b .0), leb-true p 65521 (b .1))
+
+good-prime : (p : ℕ) → GoodPrime p → (isPrime p && leb p 65521) ≡ true
+good-prime p g = both (isPrime p) (leb p 65521) (prime-true p (g .0)) (le-leb p 65521 (g .1))
+
+between-good : (low high x : ℕ) → between low high x ≡ true → Between low high x
+between-good low high x e = let b = and-both (leb low x) (leb x high) e in (leb-true low x (b .0), leb-true x high (b .1))
+
+good-between : (low high x : ℕ) → Between low high x → between low high x ≡ true
+good-between low high x g = both (leb low x) (leb x high) (le-leb low x (g .0)) (le-leb x high (g .1))
+
+module _ (words coefs ss ops : List ℕ) (bw bc ww wc ow oc : ℕ) where
+  shape-good : shapeGood (length words) (length coefs) ss (length ops) bw bc ww wc ow oc ≡ true → GoodShape words coefs ss ops bw bc ww wc ow oc
+  unfolding shapeGood lentGood spaceGood pairsGood
+  shape-good e =
+      let a = and-both _ _ e in
+      let l = and-both _ _ (a .0) in
+      let o = and-both _ _ (l .1) in
+      let s = and-both _ _ (o .1) in
+      let t = and-both _ _ (s .1) in
+      let u = and-both _ _ (t .1) in
+      let r = and-both _ _ (a .1) in
+      let q = and-both _ _ (r .1) in
+      record {
+        lent = eqb-true _ _ (l .0);
+        output = eqb-true _ _ (o .0);
+        bucket-words = eqb-true _ _ (s .0);
+        bucket-coefs = eqb-true _ _ (t .0);
+        work-words = eqb-true _ _ (u .0);
+        work-coefs = eqb-true _ _ (u .1);
+        starts = r .0;
+        whole = eqb-true _ _ (q .0);
+        most = leb-true _ _ (q .1);
+      }
+
+  good-shape : GoodShape words coefs ss ops bw bc ww wc ow oc → shapeGood (length words) (length coefs) ss (length ops) bw bc ww wc ow oc ≡ true
+  unfolding shapeGood lentGood spaceGood pairsGood
+  good-shape g =
+      both _ _ (both _ _ (eq-eqb _ _ (g .lent)) (both _ _ (eq-eqb _ _ (g .output)) (both _ _ (eq-eqb _ _ (g .bucket-words)) (both _ _ (eq-eqb _ _ (g .bucket-coefs)) (both _ _ (eq-eqb _ _ (g .work-words)) (eq-eqb _ _ (g .work-coefs)))))))
+      (both _ _ (g .starts) (both _ _ (eq-eqb _ _ (g .whole)) (le-leb _ _ (g .most))))
+
+operation-good : (code k n : ℕ) → operationGood code k n ≡ true → GoodOperation code k n
+unfolding operationGood
+operation-good code k n e = by (eqb code 1) refl
+  where
+    or : (b : Bool) → eqb code 2 ≡ b → (b || eqb code 3) ≡ true → (code ≡ 2) ⊎ (code ≡ 3)
+    or true f q = inl (eqb-true code 2 f)
+    or false f q = inr (eqb-true code 3 q)
+
+    by : (b : Bool) → eqb code 1 ≡ b → GoodOperation code k n
+    by true f = inl (eqb-true code 1 f, ltb-true k n (sym (ap (λ (b : Bool). operationBy b code k n) f) ∙ e))
+    by false f =
+        let a = and-both (eqb k 0) (eqb code 2 || eqb code 3) (sym (ap (λ (b : Bool). operationBy b code k n) f) ∙ e) in
+        inr (eqb-true k 0 (a .0), or (eqb code 2) refl (a .1))
+
+good-operation : (code k n : ℕ) → GoodOperation code k n → operationGood code k n ≡ true
+unfolding operationGood
+good-operation code k n g =
+    ⊎-elim (λ a. ap (λ (b : Bool). operationBy b code k n) (eq-eqb code 1 (a .0)) ∙ lt-ltb k n (a .1))
+    (λ a.
+    ⊎-elim (λ c. ap (λ (b : Bool). operationBy b code k n) (ne-eqb code 1 (λ z. let q : ⊥ = omega arith in q)) ∙ both (eqb k 0) (eqb code 2 || eqb code 3) (eq-eqb k 0 (a .0)) (ap (λ (b : Bool). b || eqb code 3) (eq-eqb code 2 c)))
+    (λ c. ap (λ (b : Bool). operationBy b code k n) (ne-eqb code 1 (λ z. let q : ⊥ = omega arith in q)) ∙ both (eqb k 0) (eqb code 2 || eqb code 3) (eq-eqb k 0 (a .0)) (ap₂ (λ (x y : Bool). x || y) (ne-eqb code 2 (λ z. let q : ⊥ = omega arith in q)) (eq-eqb code 3 c))) (a .1)) g
+
+operations-good : (ops : List ℕ) (n : ℕ) → operationsGood ops n ≡ true → GoodOperations ops n
+unfolding operationsGood
+operations-good [] n e = tt
+operations-good (code ∷ []) n e = clash refl e
+operations-good (code ∷ (k ∷ ops)) n e = let a = and-both (operationGood code k n) (operationsGood ops n) e in (operation-good code k n (a .0), operations-good ops n (a .1))
+
+good-operations : (ops : List ℕ) (n : ℕ) → GoodOperations ops n → operationsGood ops n ≡ true
+unfolding operationsGood
+good-operations [] n g = refl
+good-operations (code ∷ []) n g = absurd g
+good-operations (code ∷ (k ∷ ops)) n g = both (operationGood code k n) (operationsGood ops n) (good-operation code k n (g .0)) (good-operations ops n (g .1))
+
+-- ---- the first polynomial that is refused
+module _ (o : Order) (n p : ℕ) (words coefs ss : List ℕ) where
+  -- from k on, of as many as `more`: none is refused, or one is the first
+  pub record FirstFrom (more k r : ℕ) : Type 0 where
+    pub at : ℕ
+    pub from : k ≤ at
+    pub to : at < k + more
+    pub before : (j : ℕ) → k ≤ j → j < at → refusalAt o n p words coefs ss j ≡ 0
+    pub is : refusalAt o n p words coefs ss at ≡ r
+
+  none-from : (more k : ℕ) → refusalFrom o n p words coefs ss more k ≡ 0 → (j : ℕ) → k ≤ j → j < k + more → refusalAt o n p words coefs ss j ≡ 0
+  unfolding refusalFrom
+  none-from zero k e j l u = absurd (let z : ⊥ = omega arith in z)
+  none-from (suc more) k e j l u = by (refusalAt o n p words coefs ss k) refl e (λ f v. none-from more (k + 1) f j v (omega arith)) (decLe j k)
+    where
+      by : (r : ℕ) → refusalAt o n p words coefs ss k ≡ r → first r (refusalFrom o n p words coefs ss more (k + 1)) ≡ 0 → (refusalFrom o n p words coefs ss more (k + 1) ≡ 0 → k + 1 ≤ j → refusalAt o n p words coefs ss j ≡ 0) → Dec (j ≤ k) → refusalAt o n p words coefs ss j ≡ 0
+      by zero f h r (yes v) = ap (refusalAt o n p words coefs ss) (let z : j ≡ k = omega arith in z) ∙ f
+      by zero f h r (no v) = r h (omega arith)
+      by (suc c) f h r d = absurd (let z : ⊥ = omega arith in z)
+
+  first-from : (more k : ℕ) → (refusalFrom o n p words coefs ss more k ≡ 0 → ⊥) → FirstFrom more k (refusalFrom o n p words coefs ss more k)
+  unfolding refusalFrom
+  first-from zero k ne = absurd (ne refl)
+  first-from (suc more) k ne = by (refusalAt o n p words coefs ss k) refl ne (λ f. first-from more (k + 1) f)
+    where
+      by : (r : ℕ) → refusalAt o n p words coefs ss k ≡ r → (first r (refusalFrom o n p words coefs ss more (k + 1)) ≡ 0 → ⊥) → ((refusalFrom o n p words coefs ss more (k + 1) ≡ 0 → ⊥) → FirstFrom more (k + 1) (refusalFrom o n p words coefs ss more (k + 1))) → FirstFrom (suc more) k (first r (refusalFrom o n p words coefs ss more (k + 1)))
+      by (suc c) f h r = record { at = k; from = omega arith; to = omega arith; before = λ j l u. absurd (let z : ⊥ = omega arith in z); is = f }
+      by zero f h r =
+          let q = r h in
+          record {
+            at = q .at;
+            from = omega (arith, q .from);
+            to = omega (arith, q .to);
+            before = λ j l u. at-or-past j l u (decLe j k);
+            is = q .is;
+          }
+        where
+          at-or-past : (j : ℕ) → k ≤ j → j < r h .at → Dec (j ≤ k) → refusalAt o n p words coefs ss j ≡ 0
+          at-or-past j l u (yes v) = ap (refusalAt o n p words coefs ss) (let z : j ≡ k = omega arith in z) ∙ f
+          at-or-past j l u (no v) = r h .before j (omega arith) u
+
+-- ---- the judgement
+module _ (p order n : ℕ) (words coefs ss ops : List ℕ) (bw bc ww wc ow oc : ℕ) where
+  abbrev by-tests : (b1 b2 b3 b8 b9 : Bool) → ℕ → ℕ
+  by-tests b1 b2 b3 b8 b9 q = first (first (unless b1 1) (first (unless b2 2) (unless b3 3))) (first (unless b8 8) (first (unless b9 9) q))
+
+  abbrev J : ℕ → Type 0
+  J r = Judged p order n words coefs ss ops bw bc ww wc ow oc r
+
+  last-refusal : ℕ
+  last-refusal = polynomialsRefusal (orderOf order) n p words coefs ss
+
+  judge : (b1 b2 b3 b8 b9 : Bool) → (isPrime p && leb p 65521) ≡ b1 → between 1 3 order ≡ b2 → between 1 6 n ≡ b3 → shapeGood (length words) (length coefs) ss (length ops) bw bc ww wc ow oc ≡ b8 → operationsGood ops (length ss - 1) ≡ b9
+      → J (by-tests b1 b2 b3 b8 b9 (polynomialsRefusal (orderOf order) n p words coefs ss))
+  judge false b2 b3 b8 b9 e1 e2 e3 e8 e9 = refused-1 (λ g. clash e1 (good-prime p g)) refl
+  judge true false b3 b8 b9 e1 e2 e3 e8 e9 = refused-2 (prime-good p e1) (λ g. clash e2 (good-between 1 3 order g)) refl
+  judge true true false b8 b9 e1 e2 e3 e8 e9 = refused-3 (prime-good p e1) (between-good 1 3 order e2) (λ g. clash e3 (good-between 1 6 n g)) refl
+  judge true true true false b9 e1 e2 e3 e8 e9 = refused-8 (prime-good p e1) (between-good 1 3 order e2) (between-good 1 6 n e3) (λ g. clash e8 (good-shape words coefs ss ops bw bc ww wc ow oc g)) refl
+  judge true true true true false e1 e2 e3 e8 e9 = refused-9 (prime-good p e1) (between-good 1 3 order e2) (between-good 1 6 n e3) (shape-good words coefs ss ops bw bc ww wc ow oc e8) (λ g. clash e9 (good-operations ops (length ss - 1) g)) refl
+  judge true true true true true e1 e2 e3 e8 e9 = by (decLe (polynomialsRefusal (orderOf order) n p words coefs ss) 0)
+    where
+      q : ℕ
+      q = polynomialsRefusal (orderOf order) n p words coefs ss
+
+      by : Dec (polynomialsRefusal (orderOf order) n p words coefs ss ≤ 0) → J (polynomialsRefusal (orderOf order) n p words coefs ss)
+      by (yes h) =
+          let z : polynomialsRefusal (orderOf order) n p words coefs ss ≡ 0 = omega arith in
+          passed (prime-good p e1) (between-good 1 3 order e2) (between-good 1 6 n e3) (shape-good words coefs ss ops bw bc ww wc ow oc e8) (operations-good ops (length ss - 1) e9) (λ k l. none-from (orderOf order) n p words coefs ss (length ss - 1) 0 z k (omega arith) (omega arith)) z
+      by (no h) =
+          let ne : polynomialsRefusal (orderOf order) n p words coefs ss ≡ 0 → ⊥ = λ z. let w : ⊥ = omega arith in w in
+          let f = first-from (orderOf order) n p words coefs ss (length ss - 1) 0 ne in
+          refused-polynomial (prime-good p e1) (between-good 1 3 order e2) (between-good 1 6 n e3) (shape-good words coefs ss ops bw bc ww wc ow oc e8) (operations-good ops (length ss - 1) e9) ne (record { k = f .at; there = omega (arith, f .to); before = λ j u. f .before j (omega arith) u; is = f .is })
+
+  -- "Opening order: 1, 2, 3, 8, 9; then polynomial by polynomial": every run is refused under exactly one condition, or passes
+  pub judged : Judged p order n words coefs ss ops bw bc ww wc ow oc (runRefusal p order n words coefs ss ops bw bc ww wc ow oc)
+  unfolding runRefusal setting
+  judged = judge (isPrime p && leb p 65521) (between 1 3 order) (between 1 6 n) (shapeGood (length words) (length coefs) ss (length ops) bw bc ww wc ow oc) (operationsGood ops (length ss - 1)) refl refl refl refl refl

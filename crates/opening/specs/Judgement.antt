@@ -1,0 +1,56 @@
+-- The conditions of a run's opening refusals, as document 01 says them, and its judgement: each number under its condition, where no earlier one holds. Assumes nothing.
+use Prim.Native.Nat.{ℕ, _+_, _-_, _%_, _<_, _≤_}
+use mathlib.Core.Path.{_≡_}
+use mathlib.Core.Bool.{true}
+use mathlib.Core.List.{List, [], _∷_}
+use mathlib.Core.Logic.{_⊎_}
+use lib.ListN.{length}
+use Rattle.residue.specs.Prime.{Prime}
+use Rattle.monomial.specs.Exponents.{orderOf}
+use Rattle.polynomial.specs.Opening.{startsGood}
+use Rattle.opening.specs.Run.{refusalAt}
+
+-- "1: p is not a prime from 2 to 65,521. 2: order not 1 to 3. 3: n not 1 to 6."
+abbrev pub GoodPrime : ℕ → Type 0
+GoodPrime p = Prime p × (p ≤ 65521)
+
+abbrev pub Between : (low high x : ℕ) → Type 0
+Between low high x = (low ≤ x) × (x ≤ high)
+
+-- "8: words and coefficients (input or output) of unequal length, bucket or work space of another size than above, starts missing or not as above, operations not whole pairs or over 16,777,216 of them"
+pub record GoodShape (words coefs ss ops : List ℕ) (bw bc ww wc ow oc : ℕ) : Type 0 where
+  pub lent : length words ≡ length coefs
+  pub output : ow ≡ oc
+  pub bucket-words : bw ≡ 5460
+  pub bucket-coefs : bc ≡ 5460
+  pub work-words : ww ≡ 8192
+  pub work-coefs : wc ≡ 8192
+  pub starts : startsGood ss (length words) ≡ true
+  pub whole : length ops % 2 ≡ 0
+  pub most : length ops ≤ 33554432
+
+-- "9: operation unknown, polynomial k absent, or second number not 0 in codes 2 and 3."
+abbrev pub GoodOperation : (code k polynomials : ℕ) → Type 0
+GoodOperation code k polynomials = ((code ≡ 1) × (k < polynomials)) ⊎ ((k ≡ 0) × ((code ≡ 2) ⊎ (code ≡ 3)))
+
+abbrev pub GoodOperations : List ℕ → (polynomials : ℕ) → Type 0
+GoodOperations [] polynomials = Unit {0}
+GoodOperations (code ∷ []) polynomials = ⊥
+GoodOperations (code ∷ (k ∷ ops)) polynomials = GoodOperation code k polynomials × GoodOperations ops polynomials
+
+module _ (p order n : ℕ) (words coefs ss ops : List ℕ) (bw bc ww wc ow oc : ℕ) where
+  -- "polynomial by polynomial": polynomial k is the first that is refused, with r, which is 4, 5 or 6
+  pub record FirstRefused (r : ℕ) : Type 0 where
+    pub k : ℕ
+    pub there : k < length ss - 1
+    pub before : (j : ℕ) → j < k → refusalAt (orderOf order) n p words coefs ss j ≡ 0
+    pub is : refusalAt (orderOf order) n p words coefs ss k ≡ r
+
+  pub data Judged (r : ℕ) : Type 0 where
+    refused-1 : (GoodPrime p → ⊥) → r ≡ 1 → Judged r
+    refused-2 : GoodPrime p → (Between 1 3 order → ⊥) → r ≡ 2 → Judged r
+    refused-3 : GoodPrime p → Between 1 3 order → (Between 1 6 n → ⊥) → r ≡ 3 → Judged r
+    refused-8 : GoodPrime p → Between 1 3 order → Between 1 6 n → (GoodShape words coefs ss ops bw bc ww wc ow oc → ⊥) → r ≡ 8 → Judged r
+    refused-9 : GoodPrime p → Between 1 3 order → Between 1 6 n → GoodShape words coefs ss ops bw bc ww wc ow oc → (GoodOperations ops (length ss - 1) → ⊥) → r ≡ 9 → Judged r
+    refused-polynomial : GoodPrime p → Between 1 3 order → Between 1 6 n → GoodShape words coefs ss ops bw bc ww wc ow oc → GoodOperations ops (length ss - 1) → (r ≡ 0 → ⊥) → FirstRefused r → Judged r
+    passed : GoodPrime p → Between 1 3 order → Between 1 6 n → GoodShape words coefs ss ops bw bc ww wc ow oc → GoodOperations ops (length ss - 1) → ((k : ℕ) → k < length ss - 1 → refusalAt (orderOf order) n p words coefs ss k ≡ 0) → r ≡ 0 → Judged r

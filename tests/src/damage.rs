@@ -1,0 +1,252 @@
+//! Damage to a run, so that an opening check refuses it.
+use crate::generate::up_to;
+use crate::monomial::{Order, FIELDS};
+use crate::random::Random;
+use crate::residue;
+use crate::run::{Given, Loan, ADD, LEAD, SUM};
+
+/// What is damaged.
+#[derive(Clone, Copy, Debug, PartialEq, Eq)]
+pub enum Damage {
+    Prime,
+    Order,
+    Variables,
+    InputLengths,
+    OutputLengths,
+    BucketSpace,
+    WorkSpace,
+    Starts,
+    Pairs,
+    Code,
+    Absent,
+    SecondNumber,
+    Coefficient,
+    Word,
+    Fall,
+}
+
+/// Numbers that are no operation, no polynomial, and not 0.
+const FAR: [usize; 5] = [usize::MAX, usize::MAX - 1, 1 << 63, 1 << 32, (1 << 32) + 1];
+
+impl Damage {
+    pub const ALL: [Damage; 15] = [
+        Damage::Prime,
+        Damage::Order,
+        Damage::Variables,
+        Damage::InputLengths,
+        Damage::OutputLengths,
+        Damage::BucketSpace,
+        Damage::WorkSpace,
+        Damage::Starts,
+        Damage::Pairs,
+        Damage::Code,
+        Damage::Absent,
+        Damage::SecondNumber,
+        Damage::Coefficient,
+        Damage::Word,
+        Damage::Fall,
+    ];
+
+    /// Damage to the terms of a polynomial.
+    pub const TERMS: [Damage; 3] = [Damage::Coefficient, Damage::Word, Damage::Fall];
+
+    /// The refusal of a run with this damage alone, where it has something to damage.
+    pub fn number(self) -> u64 {
+        match self {
+            Damage::Prime => 1,
+            Damage::Order => 2,
+            Damage::Variables => 3,
+            Damage::InputLengths
+            | Damage::OutputLengths
+            | Damage::BucketSpace
+            | Damage::WorkSpace
+            | Damage::Starts
+            | Damage::Pairs => 8,
+            Damage::Code | Damage::Absent | Damage::SecondNumber => 9,
+            Damage::Coefficient => 4,
+            Damage::Word => 5,
+            Damage::Fall => 6,
+        }
+    }
+
+    /// Does the damage. Terms are damaged only where there are any.
+    pub fn on(self, random: &mut Random, given: &mut Given, loan: &mut Loan) {
+        match self {
+            Damage::Prime => given.p = no_prime(random),
+            Damage::Order => given.order = random.pick(&[0, 4, 5, 257, 1 << 31, u32::MAX]),
+            Damage::Variables => given.n = random.pick(&[0, 7, 8, 255, 258, 1 << 16, u32::MAX]),
+            Damage::InputLengths => unequal(random, &mut given.words, &mut given.coefs),
+            Damage::OutputLengths => unequal(random, &mut loan.output.0, &mut loan.output.1),
+            Damage::BucketSpace => resize(random, &mut loan.space.0, &mut loan.space.1),
+            Damage::WorkSpace => resize(random, &mut loan.work.0, &mut loan.work.1),
+            Damage::Starts => starts(random, &mut given.starts),
+            Damage::Pairs => pairs(random, &mut given.operations),
+            Damage::Code => {
+                let code = random.pick(&[0, 4, 5, 257, usize::MAX, 1 << 32, (1 << 32) + 1]);
+                operation(random, given, [code, 0]);
+            }
+            Damage::Absent => {
+                let polynomials = given.starts.len().saturating_sub(1);
+                let far = random_far(random);
+                let k = random.pick(&[polynomials, polynomials, polynomials + 1, far]);
+                operation(random, given, [ADD, k]);
+            }
+            Damage::SecondNumber => {
+                let code = random.pick(&[LEAD, SUM]);
+                let far = random_far(random);
+                let second = random.pick(&[1, 2, far]);
+                operation(random, given, [code, second]);
+            }
+            Damage::Coefficient => coefficient(random, given),
+            Damage::Word => word(random, given),
+            Damage::Fall => fall(random, given),
+        }
+    }
+}
+
+fn random_far(random: &mut Random) -> usize {
+    random.pick(&FAR)
+}
+
+/// A number that is no prime from 2 to 65,521.
+fn no_prime(random: &mut Random) -> u32 {
+    match random.below(4) {
+        0 => random.pick(&[0, 1, 4, 6, 9, 65_520, 65_519 * 3]),
+        // Primes that are too large: the next one, one modulo 2^16, the largest of 31 bits.
+        1 => random.pick(&[65_537, 65_539, residue::LIMIT, 4_294_967_291]),
+        2 => random.pick(&[u32::MAX, 1 << 16, (1 << 16) + 2, 251 * 251, 1 << 31]),
+        _ => {
+            let small = 2 + random.below(254) as u32;
+            small * (2 + random.below(254) as u32)
+        }
+    }
+}
+
+/// Makes one of two lists longer or shorter.
+fn unequal(random: &mut Random, words: &mut Vec<u64>, coefs: &mut Vec<u32>) {
+    let more = words.is_empty() || random.below(2) == 0;
+    match (more, random.below(2)) {
+        (true, 0) => words.push(random.word()),
+        (true, _) => coefs.push(1),
+        (false, 0) => drop(words.pop()),
+        (false, _) => drop(coefs.pop()),
+    }
+}
+
+/// Gives words, coefficients or both another length.
+fn resize(random: &mut Random, words: &mut Vec<u64>, coefs: &mut Vec<u32>) {
+    let len = words.len();
+    let less = len.saturating_sub(1);
+    let other = random.pick(&[0, 1, less, less, len + 1, len + 1, 2 * len + 1, 4_096]);
+    let which = random.below(3);
+    if which != 0 {
+        words.resize(other, 1);
+    }
+    if which != 1 {
+        coefs.resize(other, 1);
+    }
+}
+
+/// Takes all starts away, or moves the first, the last or one between, or has some too many.
+fn starts(random: &mut Random, starts: &mut Vec<usize>) {
+    let last = starts.len().saturating_sub(1);
+    let end = starts.last().copied().unwrap_or(0);
+    let far = random_far(random);
+    let over = end.saturating_add(random.pick(&[1, 2, far]));
+    match random.below(7) {
+        0 => starts.clear(),
+        1 if last > 0 => starts[0] = starts[0].wrapping_add(1),
+        2 if end > 0 => starts[last] -= 1,
+        3 if last > 1 => starts[1 + up_to(random, last - 2)] = over,
+        4 if last > 0 => starts[last] = over,
+        // Only the fall from the length to 0 is wrong.
+        5 if last > 0 && end > 0 => drop(starts.splice(1..1, [end, 0])),
+        _ => starts.push(over),
+    }
+}
+
+/// Leaves half of a pair.
+fn pairs(random: &mut Random, operations: &mut Vec<usize>) {
+    match operations.len() {
+        0 => operations.push(LEAD),
+        len if random.below(2) == 0 => operations.truncate(len - 1),
+        _ => operations.push(random.pick(&[0, ADD, LEAD, SUM])),
+    }
+}
+
+/// Puts a pair in the place of another, often of the last, or behind all.
+fn operation(random: &mut Random, given: &mut Given, pair: [usize; 2]) {
+    let pairs = given.operations.len() / 2;
+    if pairs == 0 || random.below(4) == 0 {
+        // Also where half a pair is left.
+        given.operations.splice(2 * pairs..2 * pairs, pair);
+        return;
+    }
+    let k = match random.below(2) {
+        0 => pairs - 1,
+        _ => up_to(random, pairs - 1),
+    };
+    given.operations[2 * k..2 * k + 2].copy_from_slice(&pair);
+}
+
+/// Makes a coefficient 0, or p or more.
+fn coefficient(random: &mut Random, given: &mut Given) {
+    if given.coefs.is_empty() {
+        return;
+    }
+    let k = place(random, given.coefs.len());
+    let over = given.p.saturating_add(random.below(1 << 16) as u32);
+    given.coefs[k] = random.pick(&[0, 0, given.p, given.p, over, u32::MAX]);
+}
+
+/// A place below the length, often the first or the last.
+fn place(random: &mut Random, len: usize) -> usize {
+    match random.below(6) {
+        0 => 0,
+        1 => len - 1,
+        _ => up_to(random, len - 1),
+    }
+}
+
+/// Makes a word that is not of the layout.
+fn word(random: &mut Random, given: &mut Given) {
+    if given.words.is_empty() {
+        return;
+    }
+    let k = place(random, given.words.len());
+    let own = Order::ALL.into_iter().find(|o| o.number() == given.order);
+    let order = own.unwrap_or(Order::Lex);
+    let mut fields = order.fields(given.words[k]);
+    let beyond = (given.n as usize).min(FIELDS);
+    given.words[k] = match random.below(6) {
+        // A field over 127, and the degree with it.
+        0 => {
+            fields[up_to(random, FIELDS - 1)] |= 128;
+            order.word(&fields)
+        }
+        // A variable beyond n, and the degree with it.
+        1 if beyond < FIELDS => {
+            fields[beyond + up_to(random, FIELDS - 1 - beyond)] = 1 + random.below(127) as u8;
+            order.word(&fields)
+        }
+        // Another degree.
+        2 => given.words[k].wrapping_add(1 << 48),
+        3 => given.words[k].wrapping_sub(1 << 48),
+        4 => u64::MAX - random.below(2),
+        _ => given.words[k] ^ 1 << random.below(64),
+    };
+}
+
+/// Makes a term of a polynomial stand before a larger one, or before a like one.
+fn fall(random: &mut Random, given: &mut Given) {
+    let len = given.words.len();
+    let inner: Vec<usize> = (1..len).filter(|k| !given.starts.contains(k)).collect();
+    if inner.is_empty() {
+        return;
+    }
+    let k = inner[place(random, inner.len())];
+    match random.below(2) {
+        0 => given.words.swap(k - 1, k),
+        _ => given.words[k] = given.words[k - 1],
+    }
+}

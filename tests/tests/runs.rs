@@ -1,0 +1,470 @@
+//! Generated runs of the proved engine against the model: good, damaged and hostile ones. The
+//! variable SECOND_CASES sets the size, as for the other generated tests.
+use second::cases;
+use second::damage::Damage;
+use second::generate::{places, up_to};
+use second::geobucket::{most_comparisons, MOST, PLACES};
+use second::monomial::Order;
+use second::polynomial::Term;
+use second::probe_run;
+use second::random::Random;
+use second::run::{self, Answer, Given, Loan, Space, Tally, ADD, LEAD, MOST_OPERATIONS, SUM, WORK};
+use second::run_lists::{hostile, setting, Runs, Setting};
+
+/// One of so many cases is a run.
+const CASES_PER_RUN: u64 = 2;
+
+/// Each refusal must be given once in so many cases.
+const CASES_PER_REFUSAL: u64 = 1_000;
+
+/// The refusals that a run can give.
+const REFUSALS: [usize; 10] = [1, 2, 3, 4, 5, 6, 8, 9, 10, 11];
+
+/// The opening refusals in their order. The last three come by polynomial and place.
+const OPENING: [u64; 5] = [1, 2, 3, 8, 9];
+
+/// After so many runs the contents of what is lent are made anew.
+const RUNS_PER_CONTENTS: u64 = 64;
+
+/// How often each pair of kinds of damage is done.
+const EACH_PAIR: usize = 30;
+
+/// Output places that are enough for the listing.
+const ENOUGH: usize = 10;
+
+/// An operation.
+type Pair = [usize; 2];
+
+/// What the runs met.
+#[derive(Debug, Default)]
+struct Met {
+    runs: u64,
+    /// By number, from 0 for none.
+    refusals: [u64; 12],
+    /// Runs that were stopped by 10 or 11 after some operations.
+    stopped_by_10: u64,
+    stopped_by_11: u64,
+    zero_places: u64,
+    full: u64,
+    operations: u64,
+    comparisons: u64,
+}
+
+impl Met {
+    fn run(&mut self, answer: Answer, tally: Tally) {
+        self.runs += 1;
+        self.refusals[answer.refusal as usize] += 1;
+        self.operations += answer.finished;
+        let stopped = |number| u64::from(answer.refusal == number && answer.finished > 0);
+        self.stopped_by_10 += stopped(10);
+        self.stopped_by_11 += stopped(11);
+        if answer.refusal == 0 {
+            self.zero_places += u64::from(answer.places > tally.given);
+            self.full += u64::from(tally.held == MOST as u64);
+            self.comparisons += tally.comparisons;
+        }
+    }
+
+    /// That each refusal was met often enough, and each kind of run.
+    fn whole(&self) {
+        println!("{self:?}");
+        let least = cases() / CASES_PER_REFUSAL;
+        for number in REFUSALS {
+            let often = self.refusals[number];
+            assert!(often >= least, "{number} came {often} times: {self:?}");
+        }
+        let kinds = [
+            self.refusals[0],
+            self.stopped_by_10,
+            self.stopped_by_11,
+            self.zero_places,
+            self.full,
+        ];
+        assert!(kinds.iter().all(|&k| k > 0), "{self:?}");
+    }
+}
+
+/// Lends spaces with any contents: rubbish, or what an earlier run left there.
+struct Lender {
+    lent: u64,
+    rubbish: [Space; 2],
+    left: [Space; 2],
+}
+
+impl Lender {
+    fn new(random: &mut Random) -> Self {
+        let rubbish = rubbish(random);
+        Lender {
+            lent: 0,
+            left: rubbish.clone(),
+            rubbish,
+        }
+    }
+
+    fn lend(&mut self, random: &mut Random, output: usize) -> Loan {
+        self.lent += 1;
+        if self.lent % RUNS_PER_CONTENTS == 0 {
+            self.rubbish = rubbish(random);
+        }
+        let contents = match random.below(4) {
+            0 => &self.left,
+            _ => &self.rubbish,
+        };
+        let [space, work] = contents.clone();
+        Loan {
+            space,
+            work,
+            output: places(random, output, output),
+            tally: tally(random),
+        }
+    }
+
+    /// Keeps the spaces that a run left, where they are whole.
+    fn keep(&mut self, loan: Loan) {
+        let lens = |(words, coefs): &Space| (words.len(), coefs.len());
+        if lens(&loan.space) == (PLACES, PLACES) && lens(&loan.work) == (WORK, WORK) {
+            self.left = [loan.space, loan.work];
+        }
+    }
+}
+
+/// A bucket space and a work space with any contents.
+fn rubbish(random: &mut Random) -> [Space; 2] {
+    [places(random, PLACES, PLACES), places(random, WORK, WORK)]
+}
+
+/// A tally as it came, with any counts.
+fn tally(random: &mut Random) -> Tally {
+    Tally {
+        comparisons: random.word(),
+        brought: random.word(),
+        given: random.word(),
+        held: random.word(),
+    }
+}
+
+/// Does a run with the model and with the proved engine. Answer, output, both spaces and the tally
+/// must be the same.
+fn both(given: &Given, loan: Loan, about: &str) -> (Answer, Loan) {
+    let (mut expected, mut proved) = (loan.clone(), loan);
+    let answer = run::run(given, &mut expected);
+    assert_eq!(probe_run::run(given, &mut proved), answer, "{about}");
+    assert_eq!(proved.tally, expected.tally, "{about}");
+    assert!(proved.output == expected.output, "{about}: output");
+    assert!(proved.space == expected.space, "{about}: bucket space");
+    assert!(proved.work == expected.work, "{about}: work space");
+    (answer, expected)
+}
+
+/// Whether the run was refused by an opening check.
+fn at_opening(answer: Answer) -> bool {
+    !matches!(answer.refusal, 0 | 10 | 11)
+}
+
+/// Damage of one kind or of several, or of several to the terms alone, or none.
+fn damages(random: &mut Random) -> Vec<Damage> {
+    let some = 2 + up_to(random, 2);
+    match random.below(20) {
+        0..=9 => Vec::new(),
+        10..=13 => vec![random.pick(&Damage::ALL)],
+        14..=16 => (0..some).map(|_| random.pick(&Damage::ALL)).collect(),
+        _ => (0..some).map(|_| random.pick(&Damage::TERMS)).collect(),
+    }
+}
+
+/// Generated runs: 25,000. Of twenty, one is hostile, and half of the others are damaged. From about
+/// 5,000 cases on, each kind is met.
+#[test]
+fn generated() {
+    let random = &mut Random::new(61);
+    let runs = Runs::new();
+    let mut lender = Lender::new(random);
+    let mut met = Met::default();
+    for case in 0..cases() / CASES_PER_RUN {
+        let (given, loan, about) = match random.below(20) {
+            0 => {
+                let output = random.pick(&[0, 1, 2, 20, 20]);
+                let loan = lender.lend(random, output);
+                (hostile(random), loan, format!("case {case}, hostile"))
+            }
+            _ => {
+                let setting = setting(random, case);
+                let made = runs.made(random, case, setting);
+                let output = made.output_len(random);
+                let (mut given, mut loan) = (made.given, lender.lend(random, output));
+                let damages = damages(random);
+                for damage in &damages {
+                    damage.on(random, &mut given, &mut loan);
+                }
+                let about = format!("case {case} {setting:?}, {damages:?}");
+                (given, loan, about)
+            }
+        };
+        let (answer, left) = both(&given, loan, &about);
+        if !at_opening(answer) {
+            let Tally {
+                comparisons,
+                brought,
+                ..
+            } = left.tally;
+            assert!(comparisons <= most_comparisons(brought), "{about}");
+        }
+        met.run(answer, left.tally);
+        lender.keep(left);
+    }
+    met.whole();
+}
+
+/// Every kind of damage alone and with every other one, on a run that is good without them: the
+/// refusal that comes first in the opening order is given, and nothing is changed.
+#[test]
+fn damage_in_pairs() {
+    let random = &mut Random::new(62);
+    let mut lender = Lender::new(random);
+    for first in Damage::ALL {
+        for second in Damage::ALL {
+            for time in 0..EACH_PAIR {
+                let about = format!("{first:?} and {second:?}, time {time}");
+                let order = Order::ALL[time % 3];
+                let mut given = listing_in(order, 2 + time % 5);
+                let mut loan = lender.lend(random, ENOUGH);
+                first.on(random, &mut given, &mut loan);
+                // The same kind twice may undo itself.
+                if second != first {
+                    second.on(random, &mut given, &mut loan);
+                }
+                let before = loan.clone();
+                let (answer, left) = both(&given, loan, &about);
+                assert!(left == before, "{about}");
+                expect_first(answer, [first, second], &about);
+            }
+        }
+    }
+}
+
+/// The refusal that comes first in the opening order, or one of the two of terms.
+fn expect_first(answer: Answer, damages: [Damage; 2], about: &str) {
+    let numbers = damages.map(Damage::number);
+    let expected = match OPENING.into_iter().find(|r| numbers.contains(r)) {
+        Some(number) => answer.refusal == number,
+        None => numbers.contains(&answer.refusal),
+    };
+    assert!(expected && answer.finished == 0, "{about}: {answer:?}");
+    assert_eq!(answer.places, 0, "{about}");
+}
+
+/// A run of these polynomials and operations.
+fn run_of(setting: Setting, polynomials: &[Vec<Term>], pairs: &[Pair]) -> Given {
+    Given::new(setting, polynomials, pairs.concat())
+}
+
+/// The two polynomials of the listing of document 01, in an order and in n variables.
+fn listing_polynomials(order: Order, n: usize) -> [Vec<Term>; 2] {
+    let term = |coef: u32, [x, y]: [u8; 2]| {
+        let mut exponents = vec![0; n];
+        (exponents[0], exponents[1]) = (x, y);
+        (exponents, coef)
+    };
+    let mut first = vec![
+        term(3, [2, 0]),
+        term(1, [1, 1]),
+        term(1, [0, 2]),
+        term(1, [1, 0]),
+        term(1, [0, 1]),
+    ];
+    first.sort_by(|(x, _), (y, _)| order.compare(y, x));
+    [first, vec![term(4, [2, 0])]]
+}
+
+/// The listing of document 01, in an order and in n variables.
+fn listing_in(order: Order, n: usize) -> Given {
+    let pairs = [[ADD, 0], [ADD, 1], [LEAD, 0], [SUM, 0]];
+    run_of((order, n, 7), &listing_polynomials(order, n), &pairs)
+}
+
+/// The listing of document 01: the lead, the sum, the zero place, and one comparison.
+#[test]
+fn listing() {
+    let random = &mut Random::new(63);
+    let loan = Lender::new(random).lend(random, ENOUGH);
+    let before = loan.output.clone();
+    let given = listing_in(Order::DegRevLex, 2);
+    let (answer, left) = both(&given, loan, "listing");
+    let expected = Answer {
+        refusal: 0,
+        finished: 4,
+        places: 5,
+    };
+    assert_eq!(answer, expected);
+    let output = [[1, 1], [0, 2], [1, 0], [0, 1]].map(|m| Order::DegRevLex.word(&m));
+    assert_eq!(left.output.0[..4], output);
+    assert_eq!(left.output.1[..5], [1, 1, 1, 1, 0]);
+    assert_eq!(left.output.0[4..], [&[0], &before.0[5..]].concat());
+    assert_eq!(left.output.1[5..], before.1[5..]);
+    let expected = Tally {
+        comparisons: 1,
+        brought: 6,
+        given: 4,
+        held: 0,
+    };
+    assert_eq!(left.tally, expected);
+    assert_eq!(most_comparisons(left.tally.brought), 72);
+}
+
+/// The terms of a full sum are judged before it is made: with 6 terms held, of which 4 stay, it needs
+/// 7 places.
+#[test]
+fn places_of_a_sum() {
+    let random = &mut Random::new(64);
+    let mut lender = Lender::new(random);
+    let polynomials = listing_polynomials(Order::DegRevLex, 2);
+    let pairs = [[ADD, 0], [ADD, 1], [SUM, 0]];
+    let given = run_of((Order::DegRevLex, 2, 7), &polynomials, &pairs);
+    for output in 0..9 {
+        let loan = lender.lend(random, output);
+        let (answer, left) = both(&given, loan, &format!("{output} places"));
+        let (refusal, finished, places, held) = match output {
+            0..=6 => (10, 2, 0, 6),
+            _ => (0, 3, 5, 0),
+        };
+        let expected = Answer {
+            refusal,
+            finished,
+            places,
+        };
+        assert_eq!((answer, left.tally.held), (expected, held), "{output}");
+    }
+}
+
+/// Without polynomials and words, leads and sums are zero; a polynomial is absent.
+#[test]
+fn no_polynomials() {
+    let random = &mut Random::new(65);
+    let mut lender = Lender::new(random);
+    let ask = |pairs: &[Pair], starts: &[usize]| {
+        let mut given = run_of((Order::Lex, 1, 2), &[], pairs);
+        given.starts = starts.to_vec();
+        given
+    };
+    for (pairs, starts, output, expected) in [
+        (&[[LEAD, 0], [SUM, 0]][..], &[0][..], 2, [0, 2, 2]),
+        (&[[LEAD, 0], [SUM, 0]], &[0], 1, [10, 1, 0]),
+        (&[[LEAD, 0]], &[0], 0, [10, 0, 0]),
+        (&[], &[0], 0, [0, 0, 0]),
+        (&[], &[], 0, [8, 0, 0]),
+        (&[[ADD, 0]], &[0], 0, [9, 0, 0]),
+        (&[[ADD, 0], [ADD, 0]], &[0, 0], 0, [0, 2, 0]),
+        (&[[ADD, 1]], &[0, 0], 0, [9, 0, 0]),
+    ] {
+        let loan = lender.lend(random, output);
+        let about = format!("{pairs:?} {starts:?} {output}");
+        let (answer, _) = both(&ask(pairs, starts), loan, &about);
+        let numbers = [answer.refusal, answer.finished, answer.places];
+        assert_eq!(numbers, expected, "{about}");
+    }
+}
+
+/// All monomials in two variables with exponents below 64, of which there are 4,096.
+fn most(order: Order) -> Vec<Term> {
+    let monomials = (0..64).flat_map(|x| (0..64).map(move |y| vec![x, y]));
+    let mut terms: Vec<Term> = monomials.map(|m| (m, 1)).collect();
+    terms.sort_by(|(x, _), (y, _)| order.compare(y, x));
+    terms
+}
+
+/// 4,096 terms are held, and one more gives 11; after a lead there is room for it.
+#[test]
+fn most_terms() {
+    let random = &mut Random::new(66);
+    let mut lender = Lender::new(random);
+    for order in Order::ALL {
+        let one = vec![(vec![127, 127], 1)];
+        let (all, most_but_one) = (most(order), most(order)[1..].to_vec());
+        let over = [one.clone(), all.clone()].concat();
+        let polynomials = [all, one, most_but_one, over];
+        for (pairs, expected, held) in [
+            (&[[ADD, 0]][..], [0, 1, 0], 4_096),
+            (&[[ADD, 0], [ADD, 1]], [11, 1, 0], 4_096),
+            (&[[ADD, 1], [ADD, 0]], [11, 1, 0], 1),
+            (&[[ADD, 1], [ADD, 2]], [0, 2, 0], 4_096),
+            (&[[ADD, 2], [ADD, 1], [ADD, 1]], [11, 2, 0], 4_096),
+            (&[[ADD, 0], [LEAD, 0], [ADD, 1]], [0, 3, 1], 4_096),
+            (&[[ADD, 0], [SUM, 0], [ADD, 0]], [0, 3, 4_097], 4_096),
+            (&[[ADD, 3]], [11, 0, 0], 0),
+        ] {
+            let given = run_of((order, 2, 32_003), &polynomials, pairs);
+            let loan = lender.lend(random, MOST + 1);
+            let about = format!("{order:?} {pairs:?}");
+            let (answer, left) = both(&given, loan, &about);
+            let numbers = [answer.refusal, answer.finished, answer.places];
+            assert_eq!((numbers, left.tally.held), (expected, held), "{about}");
+        }
+    }
+}
+
+/// The order of 4, 5 and 6, also in polynomials that no operation uses: by polynomial, in it 4 and 5
+/// by place, then 6.
+#[test]
+fn order_in_terms() {
+    let random = &mut Random::new(67);
+    let mut lender = Lender::new(random);
+    // Two polynomials of two terms each, the same ones.
+    let f = vec![(vec![2, 0], 1), (vec![0, 1], 1)];
+    let good = run_of((Order::DegRevLex, 2, 7), &[f.clone(), f], &[]);
+    let rise = (good.words[1], good.words[0]);
+    for (coefs, words, falls, expected) in [
+        (&[][..], &[][..], [true, true], 0),
+        (&[0], &[0], [true, true], 4),
+        (&[1], &[0], [true, true], 5),
+        (&[0], &[1], [true, true], 4),
+        (&[1], &[1], [true, true], 4),
+        (&[2], &[1], [true, true], 5),
+        (&[2], &[3], [true, true], 4),
+        (&[3], &[2], [true, true], 5),
+        (&[], &[], [false, true], 6),
+        (&[], &[], [true, false], 6),
+        (&[2], &[], [false, true], 6),
+        (&[], &[2], [false, true], 6),
+        (&[1], &[], [false, true], 4),
+        (&[], &[1], [false, true], 5),
+        (&[3], &[], [true, false], 4),
+        (&[], &[3], [true, false], 5),
+        (&[0], &[], [true, false], 4),
+    ] {
+        let mut given = good.clone();
+        for (k, _) in falls.iter().enumerate().filter(|(_, &falls)| !falls) {
+            (given.words[2 * k], given.words[2 * k + 1]) = rise;
+        }
+        coefs.iter().for_each(|&k: &usize| given.coefs[k] = 7);
+        words.iter().for_each(|&k: &usize| given.words[k] ^= 1 << 7);
+        let about = format!("coefficients {coefs:?}, words {words:?}, falls {falls:?}");
+        let loan = lender.lend(random, 0);
+        let (answer, _) = both(&given, loan, &about);
+        assert_eq!((answer.refusal, answer.finished), (expected, 0), "{about}");
+    }
+}
+
+/// 16,777,216 operations are taken, and one more is not.
+#[test]
+fn most_operations() {
+    let random = &mut Random::new(68);
+    let mut lender = Lender::new(random);
+    let mut given = run_of((Order::DegLex, 3, 101), &[Vec::new()], &[]);
+    // The code 0 is unknown, which comes after the length.
+    for (len, expected) in [
+        (2 * MOST_OPERATIONS, 9),
+        (2 * MOST_OPERATIONS + 1, 8),
+        (2 * MOST_OPERATIONS + 2, 8),
+    ] {
+        given.operations = vec![0; len];
+        let loan = lender.lend(random, 0);
+        let (answer, _) = both(&given, loan, &format!("{len} numbers"));
+        assert_eq!((answer.refusal, answer.finished), (expected, 0), "{len}");
+    }
+    // Additions of zero.
+    given.operations = [ADD, 0].repeat(MOST_OPERATIONS);
+    let loan = lender.lend(random, 0);
+    let (answer, left) = both(&given, loan, "additions of zero");
+    assert_eq!(answer.finished, MOST_OPERATIONS as u64);
+    assert_eq!((answer.refusal, left.tally), (0, Tally::default()));
+}
