@@ -2,6 +2,8 @@
 //! and others in plain Rust. `lists` makes what they merge; `buckets` times geobuckets, and `runs`
 //! whole runs.
 pub mod buckets;
+#[path = "../../tests/src/c_functions.rs"]
+pub mod c_functions;
 pub mod geobucket;
 pub mod lists;
 pub mod merge;

@@ -1,5 +1,6 @@
 //! A run in plain Rust: the opening checks, the operations on the geobucket of `geobucket`, and
 //! settling, with the order taken out of the loops.
+use crate::c_functions::RunResult;
 use crate::geobucket::{add_by, lead_by, sum_by, Geobucket, Memory, Plain, BUCKETS, MOST};
 use crate::lists::{deg_rev_lex_key, lex_key, List, Order, Terms};
 
@@ -30,20 +31,6 @@ pub struct Given {
     pub terms: List,
     pub starts: Vec<usize>,
     pub operations: Vec<usize>,
-}
-
-/// The refusal, 0 for none; the operations finished; the output places written, 0 where refused; and
-/// the tally.
-#[repr(C)]
-#[derive(Clone, Copy, Debug, Default, PartialEq, Eq)]
-pub struct RunResult {
-    pub refusal: u64,
-    pub finished: u64,
-    pub places: u64,
-    pub comparisons: u64,
-    pub brought: u64,
-    pub given: u64,
-    pub held: u64,
 }
 
 /// Does a run. The tally of one that is refused at the opening is 0.

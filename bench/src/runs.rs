@@ -3,9 +3,10 @@
 use crate::buckets::{
     in_turn, Best, Cancellation, Maker, Operation, OPERATIONS, ORDERS, P, ROUNDS,
 };
+use crate::c_functions::RunResult;
 use crate::geobucket::Memory;
 use crate::lists::{List, Order};
-use crate::plain_run::{self, Given, RunResult, ADD, LEAD};
+use crate::plain_run::{self, Given, ADD, LEAD};
 use crate::proved_run;
 use crate::random::Random;
 

@@ -2,6 +2,7 @@
 //! `geobucket` and `run` are plain models, which share no code with the proved crates; `probe`,
 //! `probe_buckets` and `probe_run` call the proved functions; `generate`, `operations`, `run_lists`
 //! and `damage` make what they are given.
+pub mod c_functions;
 pub mod damage;
 pub mod generate;
 pub mod geobucket;

@@ -1,4 +1,8 @@
 //! The proved geobucket in lent spaces, through the static library `probe`.
+use crate::c_functions::{
+    probe_buckets_add, probe_buckets_empty, probe_buckets_lead, probe_buckets_settle,
+    probe_buckets_sum, probe_buckets_take,
+};
 use crate::geobucket::{capacity, start, BUCKETS, MOST, PLACES};
 use crate::monomial::Order;
 use crate::probe::{ask_polynomial, Lent};
@@ -12,69 +16,6 @@ pub const STATE: usize = 2 * BUCKETS;
 
 /// The number in the place of a bucket where the lead is zero.
 const NO_BUCKET: u64 = BUCKETS as u64;
-
-extern "C" {
-    fn probe_buckets_empty(state: *mut usize, state_len: usize);
-    fn probe_buckets_add(
-        order: u32,
-        p: u32,
-        state: *mut usize,
-        state_len: usize,
-        fw: *const u64,
-        fw_len: usize,
-        fc: *const u32,
-        fc_len: usize,
-        sw: *mut u64,
-        sw_len: usize,
-        sc: *mut u32,
-        sc_len: usize,
-        ww: *mut u64,
-        ww_len: usize,
-        wc: *mut u32,
-        wc_len: usize,
-    ) -> u64;
-    fn probe_buckets_lead(
-        order: u32,
-        p: u32,
-        state: *mut usize,
-        state_len: usize,
-        sw: *const u64,
-        sw_len: usize,
-        sc: *mut u32,
-        sc_len: usize,
-        lead: *mut u64,
-        lead_len: usize,
-    ) -> u64;
-    fn probe_buckets_take(state: *mut usize, state_len: usize, bucket: usize);
-    fn probe_buckets_sum(
-        order: u32,
-        p: u32,
-        state: *mut usize,
-        state_len: usize,
-        sw: *const u64,
-        sw_len: usize,
-        sc: *const u32,
-        sc_len: usize,
-        ww: *mut u64,
-        ww_len: usize,
-        wc: *mut u32,
-        wc_len: usize,
-        at: *mut usize,
-        at_len: usize,
-    ) -> u64;
-    fn probe_buckets_settle(
-        state: *mut usize,
-        state_len: usize,
-        sw: *mut u64,
-        sw_len: usize,
-        sc: *mut u32,
-        sc_len: usize,
-        ww: *mut u64,
-        ww_len: usize,
-        wc: *mut u32,
-        wc_len: usize,
-    );
-}
 
 // SAFETY of each call below: what the function asks is tested first; it stays within the length of
 // each slice, and keeps no reference.

@@ -1,50 +1,6 @@
 //! The proved run, through the static library `probe`.
+use crate::c_functions::probe_run;
 use crate::run::{Answer, Given, Loan, Tally};
-
-/// The answer and the tally of a run.
-#[repr(C)]
-struct RunResult {
-    refusal: u64,
-    finished: u64,
-    places: u64,
-    comparisons: u64,
-    brought: u64,
-    given: u64,
-    held: u64,
-}
-
-extern "C" {
-    /// The first four numbers are the tally as it came.
-    fn probe_run(
-        comparisons: u64,
-        brought: u64,
-        given: u64,
-        held: u64,
-        p: u32,
-        order: u32,
-        n: u32,
-        words: *const u64,
-        words_len: usize,
-        coefs: *const u32,
-        coefs_len: usize,
-        starts: *const usize,
-        starts_len: usize,
-        ops: *const usize,
-        ops_len: usize,
-        bw: *mut u64,
-        bw_len: usize,
-        bc: *mut u32,
-        bc_len: usize,
-        ww: *mut u64,
-        ww_len: usize,
-        wc: *mut u32,
-        wc_len: usize,
-        ow: *mut u64,
-        ow_len: usize,
-        oc: *mut u32,
-        oc_len: usize,
-    ) -> RunResult;
-}
 
 /// Does a run. It takes any numbers and lists.
 pub fn run(given: &Given, loan: &mut Loan) -> Answer {
