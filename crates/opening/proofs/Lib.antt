@@ -6,3 +6,4 @@ pub mod ShapeLaws
 pub mod RunLaws
 pub mod RefusalLaws
 pub mod Judgements
+pub mod Outcomes

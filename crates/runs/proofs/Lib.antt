@@ -1,5 +1,7 @@
 pub mod OpenedLaws
 pub mod OutcomeLaws
 pub mod Said
-pub mod Demands
+pub mod Follow
 pub mod Outcomes
+pub mod Endings
+pub mod Demands
