@@ -17,8 +17,9 @@ use Rattle.geobucket.specs.Events as E
 use Rattle.geobucket.specs.Events.{Event, Work, start, leadTerms, perform, Polynomials}
 use Rattle.geobucket.proofs.AddLaws as G
 use Rattle.geobucket.proofs.EventLaws.{room-six, good-canon, shrunk-good, emptied-good}
-use Rattle.geobucket.proofs.SearchLaws.{Canon, Shrunk, Leads, finds}
+use Rattle.geobucket.proofs.SearchLaws.{Canon, Leads, finds}
 use Rattle.geobucket.proofs.LeadLaws.{sum-right}
+use Rattle.search.proofs.FindLaws.{shrunk-long}
 use Rattle.engine.specs.Runs.{Operation, adds, leads, sums, Running, begun, operate, operateAll, added, taken, summed, addedBy, takenBy, summedBy, placeOf, operationBy, polynomial, operationOf, operationsOf}
 use Rattle.opening.specs.Run.{operationGood, operationsGood}
 use Rattle.runs.proofs.OpenedLaws.{one-there}
@@ -40,13 +41,6 @@ nonZero-reduced p (x ∷ xs) r = ap (unlessZero (x .coef) x) (nonZero-reduced p 
     by : (c : ℕ) → 0 < c → unlessZero c x xs ≡ x ∷ xs
     by zero h = absurd (let z : ⊥ = omega arith in z)
     by (suc c) h = refl
-
-shrunk-long : (cs bs : List (List (Term ℕ))) → Shrunk cs bs → length cs ≡ length bs
-unfolding Shrunk
-shrunk-long [] [] h = refl
-shrunk-long [] (b ∷ bs) h = absurd h
-shrunk-long (c ∷ cs) [] h = absurd h
-shrunk-long (c ∷ cs) (b ∷ bs) h = ap suc (shrunk-long cs bs (h .1))
 
 emptied-long : (bs : List (List (Term ℕ))) → length (emptied bs) ≡ length bs
 unfolding emptied
