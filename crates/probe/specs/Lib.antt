@@ -1,3 +1,4 @@
 pub mod Answers
 pub mod Lending
 pub mod States
+pub mod Runs

@@ -15,7 +15,11 @@ ghost use Prim.Native.Nat.{_<_};
 ghost use lib.ListN.{length};
 ghost use Rattle.monomial.specs.Exponents.{orderOf};
 ghost use Rattle.monomial.specs.Words.{compareWords};
-ghost use Rattle.space.specs.Space.{Laid, Stands};
+ghost use mathlib.Core.List.{[]};
+ghost use Rattle.polynomial.specs.Terms.{terms};
+ghost use Rattle.geobucket.specs.Buckets.{addCompared, sumCompared};
+ghost use Rattle.geobucket.specs.Search.{search};
+ghost use Rattle.space.specs.Space.{Laid, Stands, AtReturn, bucketsIn};
 ghost use Rattle.buckets.specs.Adding.{Addition};
 ghost use Rattle.buckets.specs.Summing.{Summation};
 ghost use Rattle.search.specs.Searching.{Removal};
@@ -75,6 +79,7 @@ pub extern "C" fn probe_buckets_add<'a>(
     wc: &mut [u32],
 ) -> u64
     requires { ⌜ (length (now state) ≡ 12) × Addition (compareWords (orderOf order)) p (loaded (now state)) (now fw) (now fc) (now sw) (now sc) (now ww) (now wc) ⌝ }
+    ensures { λ r. ⌜ r ≡ length (addCompared (compareWords (orderOf order)) p (terms (now (fw .entry)) (now (fc .entry))) (bucketsIn (loaded (now (state .entry))) (now (sw .entry)) (now (sc .entry)))) ⌝ }
 {
     let r = add(order_of(order), p, load(state), fw, fc, sw, sc, ww, wc);
     save(r.buckets, state);
@@ -92,6 +97,7 @@ pub extern "C" fn probe_buckets_lead(
     lead: &mut [u64],
 ) -> u64
     requires { ⌜ (length (now state) ≡ 12) × Stands (compareWords (orderOf order)) p (loaded (now state)) (now sw) (now sc) × (length (now lead) ≡ 3) ⌝ }
+    ensures { λ r. ⌜ r ≡ length (search (compareWords (orderOf order)) p (bucketsIn (loaded (now (state .entry))) (now (sw .entry)) (now (sc .entry))) .pairs) ⌝ }
 {
     let f = find_lead(order_of(order), p, load(state), sw, sc);
     save(f.buckets, state);
@@ -113,6 +119,7 @@ pub extern "C" fn probe_buckets_take_lead(
     lead: &mut [u64],
 ) -> u64
     requires { ⌜ (length (now state) ≡ 12) × Stands (compareWords (orderOf order)) p (loaded (now state)) (now sw) (now sc) × (length (now lead) ≡ 3) ⌝ }
+    ensures { λ r. ⌜ r ≡ length (search (compareWords (orderOf order)) p (bucketsIn (loaded (now (state .entry))) (now (sw .entry)) (now (sc .entry))) .pairs) ⌝ }
 {
     let f = take_lead(order_of(order), p, load(state), sw, sc);
     save(f.buckets, state);
@@ -145,6 +152,7 @@ pub extern "C" fn probe_buckets_sum(
     at: &mut [usize],
 ) -> u64
     requires { ⌜ (length (now state) ≡ 12) × Summation (compareWords (orderOf order)) p (loaded (now state)) (now sw) (now sc) (now ww) (now wc) × (length (now at) ≡ 2) ⌝ }
+    ensures { λ r. ⌜ r ≡ length (sumCompared (compareWords (orderOf order)) p [] (bucketsIn (loaded (now (state .entry))) (now (sw .entry)) (now (sc .entry)))) ⌝ }
 {
     let r = full_sum(order_of(order), p, load(state), sw, sc, ww, wc);
     save(r.buckets, state);
@@ -162,6 +170,7 @@ pub extern "C" fn probe_buckets_settle(
     wc: &mut [u32],
 )
     requires { ⌜ (length (now state) ≡ 12) × Settlement (loaded (now state)) (length (now sw)) (length (now sc)) (length (now ww)) (length (now wc)) ⌝ }
+    ensures { λ _. ⌜ AtReturn (bucketsIn (loaded (now (state .entry))) (now (sw .entry)) (now (sc .entry))) (now (sw .exit)) (now (sc .exit)) (now (ww .exit)) (now (wc .exit)) ⌝ }
 {
     settle(load(state), sw, sc, ww, wc);
 }

@@ -4,6 +4,9 @@ use runs::Answer;
 use runs::Ran;
 use runs::Tally;
 use runs::run;
+ghost use mathlib.Core.Path.{_≡_};
+ghost use Rattle.runs.specs.Outcome.{runOutcome};
+ghost use Rattle.probe.specs.Runs.{counts, resultOf, ProbedRun};
 
 // Refusal 0 is none: then `finished` is the operations done, and `places` the output places written.
 #[repr(C)]
@@ -37,7 +40,9 @@ pub extern "C" fn probe_run<'a>(
     wc: &mut [u32],
     ow: &mut [u64],
     oc: &mut [u32],
-) -> RunResult {
+) -> RunResult
+    ensures { λ r. ⌜ ProbedRun (runOutcome (counts comparisons brought given held) p order n (now (words .entry)) (now (coefs .entry)) (now (starts .entry)) (now (ops .entry)) (now (bw .entry)) (now (bc .entry)) (now (ww .entry)) (now (wc .entry)) (now (ow .entry)) (now (oc .entry))) r (now (bw .exit)) (now (bc .exit)) (now (ww .exit)) (now (wc .exit)) (now (ow .exit)) (now (oc .exit)) ⌝ }
+{
     let tally = Tally {
         comparisons,
         brought,
@@ -63,7 +68,9 @@ pub extern "C" fn probe_run<'a>(
     result(ran)
 }
 
-fn result(ran: Ran) -> RunResult {
+fn result(ran: Ran) -> RunResult
+    ensures { λ r. ⌜ r ≡ resultOf (ran .answer) (ran .tally) ⌝ }
+{
     let t = ran.tally;
     let answer = ran.answer;
     match answer {

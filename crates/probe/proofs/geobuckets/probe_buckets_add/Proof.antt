@@ -1,4 +1,4 @@
--- `probe::geobuckets::probe_buckets_add` is safe and ends. Assumes nothing.
+-- `probe::geobuckets::probe_buckets_add` meets its contract. Assumes nothing.
 use borrow.Author.Needs.{needs}
 use Rattle.probe.proofs.geobuckets.probe_buckets_add.Statement.{statement}
 use Rattle.probe.proofs.geobuckets.probe_buckets_add.Tie as tie
@@ -41,7 +41,7 @@ same-length-5 c = search needs
 
 -- src/geobuckets.rt:58:1
 returns : tie.Need-returns
-returns c = search needs
+returns c = rw (← c .before .before .before .before .before .before .before .before .before .before .before .before .before .before .before .before .before .before .before .order-of .ensures, ← c .before .before .before .before .before .before .before .before .before .before .before .before .before .before .before .before .before .load .ensures) (c .before .before .before .before .before .before .before .before .before .before .before .before .add .ensures .count-is)
 
 pub probe-buckets-add-spec : {M : Type 1} → statement M
 probe-buckets-add-spec =

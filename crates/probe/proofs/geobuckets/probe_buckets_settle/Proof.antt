@@ -1,4 +1,4 @@
--- `probe::geobuckets::probe_buckets_settle` is safe and ends. Assumes nothing.
+-- `probe::geobuckets::probe_buckets_settle` meets its contract. Assumes nothing.
 use borrow.Author.Needs.{needs}
 use Rattle.probe.proofs.geobuckets.probe_buckets_settle.Statement.{statement}
 use Rattle.probe.proofs.geobuckets.probe_buckets_settle.Tie as tie
@@ -29,7 +29,7 @@ same-length-4 c = search needs
 
 -- src/geobuckets.rt:149:1
 returns : tie.Need-returns
-returns c = search needs
+returns c = rw (← c .before .before .before .before .before .before .before .before .before .before .before .before .before .load .ensures) (c .before .before .before .before .before .before .before .before .settle .ensures)
 
 pub probe-buckets-settle-spec : {M : Type 1} → statement M
 probe-buckets-settle-spec =

@@ -1,4 +1,4 @@
--- `probe::geobuckets::probe_buckets_sum` is safe and ends. Assumes nothing.
+-- `probe::geobuckets::probe_buckets_sum` meets its contract. Assumes nothing.
 use native.Mathlib.Omega.{arith}
 use borrow.Author.Needs.{needs}
 use Rattle.probe.proofs.geobuckets.probe_buckets_sum.Statement.{statement}
@@ -46,7 +46,7 @@ same-length-4 c = search needs
 
 -- src/geobuckets.rt:136:1
 returns : tie.Need-returns
-returns c = search needs
+returns c = rw (← c .before .before .before .before .before .before .before .before .before .before .before .before .before .before .before .before .before .before .before .before .before .order-of .ensures, ← c .before .before .before .before .before .before .before .before .before .before .before .before .before .before .before .before .before .before .before .load .ensures) (c .before .before .before .before .before .before .before .before .before .before .before .before .before .before .before .before .full-sum .ensures .count-is)
 
 pub probe-buckets-sum-spec : {M : Type 1} → statement M
 probe-buckets-sum-spec =

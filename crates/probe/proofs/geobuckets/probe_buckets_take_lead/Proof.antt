@@ -1,4 +1,5 @@
--- `probe::geobuckets::probe_buckets_take_lead` is safe and ends. Assumes nothing.
+-- `probe::geobuckets::probe_buckets_take_lead` meets its contract. Assumes nothing.
+use Rattle.probe.proofs.Probing.{taken-count}
 use native.Mathlib.Omega.{arith}
 use borrow.Author.Needs.{needs}
 use Rattle.probe.proofs.geobuckets.probe_buckets_take_lead.Statement.{statement}
@@ -50,7 +51,7 @@ same-length-3 c = search needs
 
 -- src/geobuckets.rt:106:1
 returns : tie.Need-returns
-returns c = search needs
+returns c = rw (← c .before .before .before .before .before .before .before .before .before .before .before .before .before .before .before .before .before .before .before .before .before .before .before .before .order-of .ensures, ← c .before .before .before .before .before .before .before .before .before .before .before .before .before .before .before .before .before .before .before .before .before .before .load .ensures) (taken-count (c .before .before .before .before .before .before .before .before .before .before .before .before .before .before .before .before .before .before .before .before .take-lead .ensures))
 
 pub probe-buckets-take-lead-spec : {M : Type 1} → statement M
 probe-buckets-take-lead-spec =
