@@ -1,12 +1,14 @@
 //! Merges, geobuckets and runs for the benchmark: the proved ones through the static library `probe`,
-//! and others in plain Rust. `lists` makes what they merge; `buckets` times geobuckets, and `runs`
-//! whole runs.
+//! and others in plain Rust. `lists` makes what they merge; `buckets` times geobuckets, `runs` whole
+//! runs, and `workload` runs from a file.
 pub mod buckets;
 #[path = "../../tests/src/c_functions.rs"]
 pub mod c_functions;
 pub mod geobucket;
 pub mod lists;
 pub mod merge;
+#[path = "../../tests/src/monomial.rs"]
+pub mod monomial;
 pub mod plain_run;
 pub mod proved;
 pub mod proved_buckets;
@@ -14,3 +16,4 @@ pub mod proved_run;
 #[path = "../../tests/src/random.rs"]
 pub mod random;
 pub mod runs;
+pub mod workload;

@@ -1,11 +1,13 @@
 //! Times the proved functions beside the same in plain Rust, and prints the table that is asked for
-//! by its name. It fails only where results differ.
+//! by its name; or does the run of a workload's file: `calls FILE`, `time FILE SECONDS` or
+//! `passes FILE N`. It fails only where results differ.
 use bench::buckets;
 use bench::lists::{pair, List, Order};
 use bench::merge::{branching, masks, Counts, Merge};
 use bench::proved;
 use bench::random::Random;
 use bench::runs::runs;
+use bench::workload::Workload;
 use std::hint::black_box;
 use std::time::Instant;
 
@@ -29,14 +31,23 @@ struct Row {
 }
 
 fn main() {
-    match std::env::args().nth(1).as_deref() {
-        Some("merges") => merges(),
-        Some("buckets") => buckets::operations(),
-        Some("leads") => buckets::leads(),
-        Some("settling") => buckets::settling(),
-        Some("runs") => runs(),
-        _ => panic!("no such table: merges, buckets, leads, settling or runs"),
+    let words: Vec<String> = std::env::args().skip(1).collect();
+    let words: Vec<&str> = words.iter().map(String::as_str).collect();
+    match words[..] {
+        ["merges"] => merges(),
+        ["buckets"] => buckets::operations(),
+        ["leads"] => buckets::leads(),
+        ["settling"] => buckets::settling(),
+        ["runs"] => runs(),
+        ["calls", file] => workload(file).calls(),
+        ["time", file, seconds] => workload(file).time(seconds.parse().expect("seconds")),
+        ["passes", file, passes] => workload(file).passes(passes.parse().expect("passes")),
+        _ => panic!("merges, buckets, leads, settling, runs, calls, time or passes"),
     }
+}
+
+fn workload(file: &str) -> Workload {
+    Workload::read(&std::fs::read_to_string(file).expect("the workload's file"))
 }
 
 /// The proved merge beside two in plain Rust.

@@ -1,11 +1,11 @@
 //! The proved run, through the static library `probe`.
 use crate::c_functions::{probe_run, RunResult};
 use crate::geobucket::Memory;
-use crate::lists::{List, Order};
+use crate::lists::List;
 use crate::plain_run::Given;
 
 /// Does a run. The tally as it comes is 0.
-pub fn run(order: Order, given: &Given, memory: &mut Memory, output: &mut List) -> RunResult {
+pub fn run(order: u32, given: &Given, memory: &mut Memory, output: &mut List) -> RunResult {
     // SAFETY: the function takes any numbers and slices, stays within the length of each slice, and
     // keeps no reference.
     unsafe {
@@ -15,7 +15,7 @@ pub fn run(order: Order, given: &Given, memory: &mut Memory, output: &mut List) 
             0,
             0,
             given.p,
-            order.number(),
+            order,
             given.n,
             given.terms.words.as_ptr(),
             given.terms.words.len(),

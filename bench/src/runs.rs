@@ -88,7 +88,12 @@ impl Row {
             round,
             [
                 &mut || {
-                    *first = proved_run::run(order, &given, &mut proved.memory, &mut proved.output);
+                    *first = proved_run::run(
+                        order.number(),
+                        &given,
+                        &mut proved.memory,
+                        &mut proved.output,
+                    );
                     first.comparisons
                 },
                 &mut || {
