@@ -2,8 +2,9 @@
 //! by its name; or does the run of a workload's file: `calls FILE`, `time FILE SECONDS` or
 //! `passes FILE N`. It fails only where results differ.
 use bench::buckets;
+use bench::c_functions::Counts;
 use bench::lists::{pair, List, Order};
-use bench::merge::{branching, masks, Counts, Merge};
+use bench::merge::{branching, masks, Merge};
 use bench::proved;
 use bench::random::Random;
 use bench::runs::runs;

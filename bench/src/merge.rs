@@ -1,13 +1,6 @@
 //! The merge in plain Rust, with the order taken out of the loop.
+use crate::c_functions::Counts;
 use crate::lists::{deg_rev_lex_key, lex_key, List, Order, Places, Terms};
-
-/// The terms of the result, and the comparisons.
-#[repr(C)]
-#[derive(Clone, Copy, Debug, Default, PartialEq, Eq)]
-pub struct Counts {
-    pub len: usize,
-    pub comparisons: u64,
-}
 
 /// A merge of two lists into the first places of an output with room for all their terms.
 pub type Merge = fn(Order, u32, &List, &List, &mut List) -> Counts;

@@ -1,25 +1,6 @@
 //! The proved merge, through the static library `probe`.
+use crate::c_functions::{probe_merge, Counts};
 use crate::lists::{List, Order};
-use crate::merge::Counts;
-
-extern "C" {
-    fn probe_merge(
-        order: u32,
-        p: u32,
-        aw: *const u64,
-        aw_len: usize,
-        ac: *const u32,
-        ac_len: usize,
-        bw: *const u64,
-        bw_len: usize,
-        bc: *const u32,
-        bc_len: usize,
-        ow: *mut u64,
-        ow_len: usize,
-        oc: *mut u32,
-        oc_len: usize,
-    ) -> Counts;
-}
 
 /// The lists are falling, with coefficients from 1 to p - 1, as `lists` makes them.
 pub fn merge(order: Order, p: u32, a: &List, b: &List, out: &mut List) -> Counts {

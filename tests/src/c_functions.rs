@@ -1,5 +1,13 @@
-//! The C functions of the static library `probe` for geobuckets and runs. A slice is a pointer and a
-//! length.
+//! The C functions of the static library `probe` that the tests and the benchmark share. A slice is a
+//! pointer and a length.
+
+/// What a merge made: the terms of the result, and the comparisons.
+#[repr(C)]
+#[derive(Clone, Copy, Debug, Default, PartialEq, Eq)]
+pub struct Counts {
+    pub len: usize,
+    pub comparisons: u64,
+}
 
 /// What a run gives: refusal 0 is none, and then `finished` is the operations done, and `places` the
 /// output places written; and the tally.
@@ -16,6 +24,22 @@ pub struct RunResult {
 }
 
 extern "C" {
+    pub fn probe_merge(
+        order: u32,
+        p: u32,
+        aw: *const u64,
+        aw_len: usize,
+        ac: *const u32,
+        ac_len: usize,
+        bw: *const u64,
+        bw_len: usize,
+        bc: *const u32,
+        bc_len: usize,
+        ow: *mut u64,
+        ow_len: usize,
+        oc: *mut u32,
+        oc_len: usize,
+    ) -> Counts;
     pub fn probe_buckets_empty(state: *mut usize, state_len: usize);
     pub fn probe_buckets_add(
         order: u32,

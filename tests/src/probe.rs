@@ -1,4 +1,5 @@
 //! The proved functions, through the static library `probe`.
+use crate::c_functions::{probe_merge, Counts};
 use crate::monomial::{Order, FIELDS, LIMIT};
 use crate::residue;
 use std::cmp::Ordering;
@@ -24,14 +25,6 @@ pub const NOT_CHECKED: u32 = u32::MAX;
 /// The answers for a word and a coefficient that a part does not have.
 pub const NO_WORD: u64 = u64::MAX;
 pub const NO_COEF: u32 = u32::MAX;
-
-/// What a merge made: the terms of the result, and the comparisons.
-#[repr(C)]
-#[derive(Clone, Copy, Debug, PartialEq, Eq)]
-pub struct Counts {
-    pub len: usize,
-    pub comparisons: u64,
-}
 
 extern "C" {
     fn probe_key(order: u32, w: u64) -> u64;
@@ -75,22 +68,6 @@ extern "C" {
         k: usize,
         i: usize,
     ) -> u32;
-    fn probe_merge(
-        order: u32,
-        p: u32,
-        aw: *const u64,
-        aw_len: usize,
-        ac: *const u32,
-        ac_len: usize,
-        bw: *const u64,
-        bw_len: usize,
-        bc: *const u32,
-        bc_len: usize,
-        ow: *mut u64,
-        ow_len: usize,
-        oc: *mut u32,
-        oc_len: usize,
-    ) -> Counts;
     fn probe_merge_within(
         order: u32,
         p: u32,

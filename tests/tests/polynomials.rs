@@ -1,12 +1,13 @@
 //! Generated polynomials: checks, starts, parts, merges and multiples against the model. The variable
 //! SECOND_CASES sets the size, as for the other generated tests.
+use second::c_functions::Counts;
 use second::cases;
 use second::generate::{
     coef, falling, monomial, monomials, negative, places, setting, up_to, with_coefs,
 };
 use second::monomial::{Order, FIELDS, LIMIT};
 use second::polynomial::{lent, merge, multiple, part, refusal, starts_good, sum, Term};
-use second::probe::{self, Counts};
+use second::probe;
 use second::random::Random;
 use second::residue;
 
