@@ -9,6 +9,7 @@ use Rattle.monomial.specs.Exponents.{compareIn}
 use Rattle.monomial.specs.Layout.{wordOf}
 use Rattle.monomial.specs.Words.{compareWords}
 use Rattle.polynomial.specs.Terms.{Term, term}
+use Rattle.division.specs.Steps.{reductionOfWords}
 use Rattle.geobucket.specs.Events.{Event, addition, removal, summation, start, perform, bound}
 
 -- a known result; monomials are given by their exponents
@@ -19,6 +20,10 @@ pub data Result : Type 0 where
   word : Order → List ℕ → ℕ → Result
   -- in the order and modulo p, the events give out these terms; so many comparisons are made, and so many allowed
   gives : Order → (p : ℕ) → List (Event ℕ) → List (Term ℕ) → (made allowed : ℕ) → Result
+  -- in dp and modulo 7, with this step limit and 4,096 output places, the polynomial by the divisors leaves this remainder, after so many leads
+  leaves : (limit : ℕ) → List (Term ℕ) → List (List (Term ℕ)) → (remainder : List (Term ℕ)) → (leads : ℕ) → Result
+  -- or the reduction is stopped by this refusal
+  stops : (limit : ℕ) → List (Term ℕ) → List (List (Term ℕ)) → (refusal : ℕ) → Result
 
 -- what a result says: the larger monomial is larger by its exponents, and by its word
 abbrev pub Says : Result → Type 0
@@ -27,6 +32,10 @@ Says (word o α w) = wordOf o α ≡ w
 Says (gives o p es ts made allowed) =
     let w = perform (compareWords o) p es start in
     (w .given ≡ ts) × (length (w .pairs) ≡ made) × (bound (length (w .brought)) ≡ allowed)
+Says (leaves limit f gs remainder leads) =
+    let r = reductionOfWords DegRevLex 7 gs 4096 limit f in
+    (r .stop ≡ 0) × (r .remainder ≡ remainder) × (r .leads ≡ leads)
+Says (stops limit f gs refusal) = reductionOfWords DegRevLex 7 gs 4096 limit f .stop ≡ refusal
 
 -- each result of a list holds
 abbrev pub Hold : List Result → Type 0
@@ -36,6 +45,20 @@ Hold (r ∷ rs) = Says r × Hold rs
 -- the coefficient and the exponents of a term in dp, as the script has them
 abbrev pub in-dp : ℕ → List ℕ → Term ℕ
 in-dp c α = term (wordOf DegRevLex α) c
+
+-- x1²x2 + x1x2² + x2², and the divisors x1x2+6 and x2²+6
+abbrev pub dividend : List (Term ℕ)
+dividend = in-dp 1 (2 ∷ 1 ∷ []) ∷ in-dp 1 (1 ∷ 2 ∷ []) ∷ in-dp 1 (0 ∷ 2 ∷ []) ∷ []
+
+abbrev pub by-x1x2 : List (Term ℕ)
+by-x1x2 = in-dp 1 (1 ∷ 1 ∷ []) ∷ in-dp 6 (0 ∷ 0 ∷ []) ∷ []
+
+abbrev pub by-x2² : List (Term ℕ)
+by-x2² = in-dp 1 (0 ∷ 2 ∷ []) ∷ in-dp 6 (0 ∷ 0 ∷ []) ∷ []
+
+-- x2²+6x1
+abbrev pub by-x1 : List (Term ℕ)
+by-x1 = in-dp 1 (0 ∷ 2 ∷ []) ∷ in-dp 6 (1 ∷ 0 ∷ []) ∷ []
 
 abbrev pub table : List Result
 table =
@@ -54,4 +77,11 @@ table =
     ∷ summation
     ∷ [])
     (in-dp 1 (1 ∷ 1 ∷ []) ∷ in-dp 1 (0 ∷ 2 ∷ []) ∷ in-dp 1 (1 ∷ 0 ∷ []) ∷ in-dp 1 (0 ∷ 1 ∷ []) ∷ []) 1 72
+    -- "x1²x2 + x1x2² + x2² by x1x2+6, x2²+6: remainder x1+x2+1, 6 leads; limit 5 stops with 13. Divisors swapped: 2x1+1, 5 leads."
+    ∷ leaves 6 dividend (by-x1x2 ∷ by-x2² ∷ []) (in-dp 1 (1 ∷ 0 ∷ []) ∷ in-dp 1 (0 ∷ 1 ∷ []) ∷ in-dp 1 (0 ∷ 0 ∷ []) ∷ []) 6
+    ∷ stops 5 dividend (by-x1x2 ∷ by-x2² ∷ []) 13
+    ∷ leaves 5 dividend (by-x2² ∷ by-x1x2 ∷ []) (in-dp 2 (1 ∷ 0 ∷ []) ∷ in-dp 1 (0 ∷ 0 ∷ []) ∷ []) 5
+    -- "By x2²+6x1: x1^126·x2² leaves x1^127; x1^127·x2² stops with 12."
+    ∷ leaves 2 (in-dp 1 (126 ∷ 2 ∷ []) ∷ []) (by-x1 ∷ []) (in-dp 1 (127 ∷ 0 ∷ []) ∷ []) 2
+    ∷ stops 2 (in-dp 1 (127 ∷ 2 ∷ []) ∷ []) (by-x1 ∷ []) 12
     ∷ []
