@@ -7,6 +7,7 @@ use Rattle.polynomial.specs.Terms.{Term, term}
 use Rattle.polynomial.specs.Merge.{keep, into, merge, comparedInto, compared}
 use Rattle.geobucket.specs.Buckets.{held, carry, carryCompared, place, placeCompared, add, addCompared, sumFrom, sumCompared, emptied}
 use Rattle.geobucket.specs.Search.{seek, pass, onward, ended, searchIn}
+use Rattle.runs.specs.Outcome.{tallyOf}
 use Rattle.engine.specs.Runs.{adds, leads, sums, Running, begun, operate, operateAll}
 
 -- the polynomial of one term, 3 at monomial 5, is added, and its lead taken
@@ -31,3 +32,16 @@ both-finished = refl
 pub twice-brought : operateAll compare 7 10 (adds (term 5 3 ∷ []) ∷ (adds (term 4 1 ∷ []) ∷ [])) begun .brought ≡ 2
 unfolding operateAll operate held add place carry merge into keep addCompared placeCompared carryCompared compared comparedInto
 twice-brought = refl
+
+-- the same without an output place: the lead is refused
+abbrev stopped : Running
+stopped = operateAll compare 7 0 (adds (term 5 3 ∷ []) ∷ (leads ∷ [])) begun
+
+pub stopped-by-10 : stopped .stop ≡ 10
+unfolding operateAll operate held add place carry merge into keep addCompared placeCompared carryCompared compared comparedInto searchIn pass seek ended onward
+stopped-by-10 = refl
+
+-- one that leaves the tally untouched on a stop has brought in 0 here, where the tally came with 0
+pub stop-brought : tallyOf stopped .brought ≡ 1
+unfolding operateAll operate held add place carry merge into keep addCompared placeCompared carryCompared compared comparedInto searchIn pass seek ended onward
+stop-brought = refl
