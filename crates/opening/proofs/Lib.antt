@@ -4,6 +4,7 @@ pub mod OperationLaws
 pub mod PolynomialLaws
 pub mod ShapeLaws
 pub mod RunLaws
+pub mod ReductionLaws
 pub mod RefusalLaws
 pub mod Judgements
 pub mod Outcomes

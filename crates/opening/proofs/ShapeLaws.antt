@@ -9,22 +9,19 @@ use Rattle.monomial.proofs.Places.{and-both}
 use Rattle.polynomial.specs.Opening.{startsGood}
 use Rattle.opening.specs.Run.{spaceGood, lentGood, pairsGood, shapeGood}
 
-pub record Shaped (words coefs : ℕ) (ss : List ℕ) (ops bw bc ww wc ow oc : ℕ) : Type 0 where
+-- what is lent, by its lengths
+pub record LentShaped (words coefs bw bc ww wc ow oc : ℕ) : Type 0 where
   pub lent : words ≡ coefs
   pub output : ow ≡ oc
   pub bucket-words : bw ≡ 5460
   pub bucket-coefs : bc ≡ 5460
   pub work-words : ww ≡ 8192
   pub work-coefs : wc ≡ 8192
-  pub starts : startsGood ss words ≡ true
-  pub pairs : pairsGood ops ≡ true
 
-pub shape-passes : {words coefs : ℕ} {ss : List ℕ} {ops bw bc ww wc ow oc : ℕ} → shapeGood words coefs ss ops bw bc ww wc ow oc ≡ true → Shaped words coefs ss ops bw bc ww wc ow oc
-unfolding shapeGood lentGood spaceGood
-shape-passes {words} {coefs} {ss} {ops} {bw} {bc} {ww} {wc} {ow} {oc} h =
-    let a = and-both (lentGood words coefs bw bc ww wc ow oc) (startsGood ss words && pairsGood ops) h in
-    let s = and-both (startsGood ss words) (pairsGood ops) (a .1) in
-    let b = and-both (eqb words coefs) (eqb ow oc && spaceGood bw bc ww wc) (a .0) in
+pub lent-passes : {words coefs bw bc ww wc ow oc : ℕ} → lentGood words coefs bw bc ww wc ow oc ≡ true → LentShaped words coefs bw bc ww wc ow oc
+unfolding lentGood spaceGood
+lent-passes {words} {coefs} {bw} {bc} {ww} {wc} {ow} {oc} h =
+    let b = and-both (eqb words coefs) (eqb ow oc && spaceGood bw bc ww wc) h in
     let d = and-both (eqb ow oc) (spaceGood bw bc ww wc) (b .1) in
     let e = and-both (eqb bw 5460) (eqb bc 5460 && (eqb ww 8192 && eqb wc 8192)) (d .1) in
     let f = and-both (eqb bc 5460) (eqb ww 8192 && eqb wc 8192) (e .1) in
@@ -36,6 +33,31 @@ shape-passes {words} {coefs} {ss} {ops} {bw} {bc} {ww} {wc} {ow} {oc} h =
       bucket-coefs = eqb-true bc 5460 (f .0);
       work-words = eqb-true ww 8192 (g .0);
       work-coefs = eqb-true wc 8192 (g .1);
+    }
+
+pub record Shaped (words coefs : ℕ) (ss : List ℕ) (ops bw bc ww wc ow oc : ℕ) : Type 0 where
+  pub lent : words ≡ coefs
+  pub output : ow ≡ oc
+  pub bucket-words : bw ≡ 5460
+  pub bucket-coefs : bc ≡ 5460
+  pub work-words : ww ≡ 8192
+  pub work-coefs : wc ≡ 8192
+  pub starts : startsGood ss words ≡ true
+  pub pairs : pairsGood ops ≡ true
+
+pub shape-passes : {words coefs : ℕ} {ss : List ℕ} {ops bw bc ww wc ow oc : ℕ} → shapeGood words coefs ss ops bw bc ww wc ow oc ≡ true → Shaped words coefs ss ops bw bc ww wc ow oc
+unfolding shapeGood
+shape-passes {words} {coefs} {ss} {ops} {bw} {bc} {ww} {wc} {ow} {oc} h =
+    let a = and-both (lentGood words coefs bw bc ww wc ow oc) (startsGood ss words && pairsGood ops) h in
+    let s = and-both (startsGood ss words) (pairsGood ops) (a .1) in
+    let l = lent-passes (a .0) in
+    record {
+      lent = l .lent;
+      output = l .output;
+      bucket-words = l .bucket-words;
+      bucket-coefs = l .bucket-coefs;
+      work-words = l .work-words;
+      work-coefs = l .work-coefs;
       starts = s .0;
       pairs = s .1;
     }

@@ -1,3 +1,4 @@
 pub mod Run
+pub mod Reduction
 pub mod Refusals
 pub mod Judgement

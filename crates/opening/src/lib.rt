@@ -1,7 +1,8 @@
-// The opening checks of a run, and the refusals by cause.
-pub mod operations; // the list of operations
+// The opening checks of runs and of reductions, and the refusals by cause.
+pub mod operations; // the list of operations of a run
 pub mod polynomials; // polynomial by polynomial
+pub mod reduction; // all checks of a reduction, in their order
 pub mod refusal; // the causes, by their numbers
-pub mod run; // all checks, in their order
+pub mod run; // all checks of a run, in their order
 pub mod setting; // p, order and n
 pub mod shape; // the sizes of what is lent

@@ -1,0 +1,93 @@
+// All opening checks of a reduction, in their order.
+use crate::polynomials::polynomials_refusal;
+use crate::setting::setting;
+use crate::shape::lent_good;
+use monomial::order::order_of;
+use polynomial::starts::starts_good;
+ghost use mathlib.Core.Path.{_≡_};
+ghost use Rattle.opening.specs.Reduction.{reductionShape, divisorsGood, reductionRefusal};
+
+// The refusal of a reduction, 0 for none: 1, 2, 3, 8, then the polynomials', then 7. The last six are
+// the lengths of bucket space, work space and output.
+pub fn reduction_opening(
+    p: u32,
+    order: u32,
+    n: u32,
+    words: &[u64],
+    coefs: &[u32],
+    starts: &[usize],
+    limit: u64,
+    bw: usize,
+    bc: usize,
+    ww: usize,
+    wc: usize,
+    ow: usize,
+    oc: usize,
+) -> u32
+    ensures { λ r. ⌜ r ≡ reductionRefusal p order n (now (words .entry)) (now (coefs .entry)) (now (starts .entry)) limit bw bc ww wc ow oc ⌝ }
+{
+    let number = setting(p, order, n);
+    if number != 0 {
+        return number;
+    }
+    if !reduction_shape(
+        words.len(),
+        coefs.len(),
+        starts,
+        limit,
+        bw,
+        bc,
+        ww,
+        wc,
+        ow,
+        oc,
+    ) {
+        return 8;
+    }
+    let later = polynomials_refusal(order_of(order), n, p, words, coefs, starts);
+    if later != 0 {
+        return later;
+    }
+    if divisors_good(starts) { 0 } else { 7 }
+}
+
+// Whether lengths, starts and step limit are as a reduction asks, by the lengths of the slices.
+fn reduction_shape(
+    words: usize,
+    coefs: usize,
+    starts: &[usize],
+    limit: u64,
+    bw: usize,
+    bc: usize,
+    ww: usize,
+    wc: usize,
+    ow: usize,
+    oc: usize,
+) -> bool
+    ensures { λ r. ⌜ r ≡ reductionShape words coefs (now (starts .entry)) limit bw bc ww wc ow oc ⌝ }
+{
+    if !lent_good(words, coefs, bw, bc, ww, wc, ow, oc) {
+        return false;
+    }
+    if !starts_good(starts, words) {
+        return false;
+    }
+    if starts.len() <= 1 {
+        return false;
+    }
+    limit <= 8796093022208
+}
+
+// Whether none of the polynomials from 1 on is zero.
+fn divisors_good(starts: &[usize]) -> bool
+    ensures { λ r. ⌜ r ≡ divisorsGood (now (starts .entry)) ⌝ }
+{
+    let mut k = 1;
+    while k + 1 < starts.len() {
+        if starts[k + 1] <= starts[k] {
+            return false;
+        }
+        k += 1;
+    }
+    true
+}
