@@ -1,1 +1,5 @@
 pub mod DivisionLaws
+pub mod HeldTerms
+pub mod TailLaws
+pub mod FitLaws
+pub mod StepLaws

@@ -1,2 +1,4 @@
 pub mod Division
 pub mod Steps
+pub mod Operations
+pub mod Divisors
