@@ -3,3 +3,4 @@ pub mod HeldTerms
 pub mod TailLaws
 pub mod FitLaws
 pub mod StepLaws
+pub mod StateLaws
