@@ -4,3 +4,6 @@ pub mod TailLaws
 pub mod FitLaws
 pub mod StepLaws
 pub mod StateLaws
+pub mod WordOperations
+pub mod StepsAlong
+pub mod WholeLaws

@@ -21,7 +21,7 @@ use Rattle.division.specs.Steps.{anyTooLarge}
 use Rattle.division.specs.Operations.{Operations}
 use Rattle.division.specs.Divisors.{AllOf}
 use Rattle.division.proofs.HeldTerms.{Every, OfLead, add-every, search-every, above-every, every-above}
-use Rattle.division.proofs.TailLaws.{Divisor, Added, tail-added, all-zip}
+use Rattle.division.proofs.TailLaws.{Valid, Added, tail-added, all-zip}
 use Rattle.division.proofs.FitLaws.{fits-says}
 
 -- ---- a term more at the end of a list
@@ -104,7 +104,7 @@ module _ {A : Type 0} (cmp : A → A → Ordering) (p : ℕ) (Is : A → Type 0)
       pub out-gone : Gone (w .buckets) r
       pub out-unfit : All (λ u. firstFit divides (u .mono) gs ≡ unfit) r
 
-module _ {A : Type 0} (cmp : A → A → Ordering) (O : TotalOrder A cmp) (divides : A → A → Bool) (quotient _·_ : A → A → A) (tooLarge : A → A → Bool) (Is : A → Type 0) (ops : Operations A cmp divides quotient _·_ tooLarge Is) (p : ℕ) (prime : Prime p) (gs : List (List (Term A))) (divisors : AllOf (Divisor cmp p Is) gs) (places : ℕ) where
+module _ {A : Type 0} (cmp : A → A → Ordering) (O : TotalOrder A cmp) (divides : A → A → Bool) (quotient _·_ : A → A → A) (tooLarge : A → A → Bool) (Is : A → Type 0) (ops : Operations A cmp divides quotient _·_ tooLarge Is) (p : ℕ) (prime : Prime p) (gs : List (List (Term A))) (divisors : AllOf (Valid cmp p Is) gs) (places : ℕ) where
   pos : 0 < p
   pos = omega (arith, prime .above)
 
@@ -175,7 +175,7 @@ module _ {A : Type 0} (cmp : A → A → Ordering) (O : TotalOrder A cmp) (divid
     module _ (g : Term A) (tail : List (Term A)) (fit : firstFit divides (t .mono) gs ≡ fits g tail) (none-large : anyTooLarge tooLarge (quotient (t .mono) (g .mono)) tail ≡ false) where
       pub step-adds : Added cmp p Is t (tailMultiple quotient _·_ p t g tail)
       step-adds =
-          let d = fits-says divides (Divisor cmp p Is) (t .mono) gs g tail divisors fit in
+          let d = fits-says divides (Valid cmp p Is) (t .mono) gs g tail divisors fit in
           tail-added cmp divides quotient _·_ tooLarge Is ops p prime t g tail (found .is) (found .not-zero) (found .small) (d .0) (d .1) none-large
 
       pub step-length : length (tailMultiple quotient _·_ p t g tail) ≡ length tail

@@ -44,8 +44,8 @@ all-zip f [] a b = tt
 all-zip f (t ∷ ts) a b = (f t (a .0) (b .0), all-zip f ts (a .1) (b .1))
 
 module _ {A : Type 0} (cmp : A → A → Ordering) (p : ℕ) (Is : A → Type 0) where
-  -- a divisor, as the opening checks leave it; and what a step adds once it has removed the lead t
-  pub record Divisor (g : List (Term A)) : Type 0 where
+  -- a polynomial as the opening checks leave it; and what a step adds once it has removed the lead t
+  pub record Valid (g : List (Term A)) : Type 0 where
     pub canonical : Canonical cmp p g
     pub are : All (λ t. Is (t .mono)) g
 
@@ -55,7 +55,7 @@ module _ {A : Type 0} (cmp : A → A → Ordering) (p : ℕ) (Is : A → Type 0)
     pub under : Under cmp (t .mono) h
 
 module _ {A : Type 0} (cmp : A → A → Ordering) (divides : A → A → Bool) (quotient _·_ : A → A → A) (tooLarge : A → A → Bool) (Is : A → Type 0) (ops : Operations A cmp divides quotient _·_ tooLarge Is) (p : ℕ) (prime : Prime p) where
-  pub tail-added : (t g : Term A) (tail : List (Term A)) → Is (t .mono) → 0 < t .coef → t .coef < p → Divisor cmp p Is (g ∷ tail) → divides (g .mono) (t .mono) ≡ true → anyTooLarge tooLarge (quotient (t .mono) (g .mono)) tail ≡ false
+  pub tail-added : (t g : Term A) (tail : List (Term A)) → Is (t .mono) → 0 < t .coef → t .coef < p → Valid cmp p Is (g ∷ tail) → divides (g .mono) (t .mono) ≡ true → anyTooLarge tooLarge (quotient (t .mono) (g .mono)) tail ≡ false
       → Added cmp p Is t (tailMultiple quotient _·_ p t g tail)
   tail-added t g tail is pos small d fit none = record {
     canonical = record {
