@@ -7,3 +7,6 @@ pub mod StateLaws
 pub mod WordOperations
 pub mod StepsAlong
 pub mod WholeLaws
+pub mod Endings
+pub mod Lasts
+pub mod Performing

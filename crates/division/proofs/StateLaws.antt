@@ -48,7 +48,7 @@ module _ {A : Type 0} (cmp : A → A → Ordering) (p : ℕ) (Is : A → Type 0)
     pub above : Above cmp p (t .mono) (search cmp p bs .buckets)
     pub fewer : held (search cmp p bs .buckets) < held bs
 
-  gone-none : (bs : List (List (Term A))) → Gone bs []
+  pub gone-none : (bs : List (List (Term A))) → Gone bs []
   gone-none bs = record { canonical = record { falling = tt; reduced = tt }; over = tt; are = tt }
 
   -- each is larger than the lead that is found

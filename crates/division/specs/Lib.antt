@@ -2,3 +2,4 @@ pub mod Division
 pub mod Steps
 pub mod Operations
 pub mod Divisors
+pub mod Ending

@@ -213,7 +213,7 @@ module _ {A : Type 0} (cmp : A → A → Ordering) (p : ℕ) where
           (h .kept m);
     }
 
-    left-ends : Ends M (left cmp p w)
+    pub left-ends : Ends M (left cmp p w)
     left-ends =
         let canon = good-canon 4 (w .buckets) (h .good) in
         let a = finds cmp p O pos (w .buckets) canon in
