@@ -10,3 +10,4 @@ pub mod WholeLaws
 pub mod Endings
 pub mod Lasts
 pub mod Performing
+pub mod Dividing
