@@ -13,7 +13,7 @@ use Rattle.residue.proofs.Inverses.{inverse-below, inverse-positive, zero-produ
 use Rattle.polynomial.specs.Terms.{Term, term, All, Under, Canonical}
 use Rattle.polynomial.specs.Multiple.{multiple}
 use Rattle.polynomial.proofs.MultipleLaws.{multiple-reduced, multiple-falling, multiple-under}
-use Rattle.division.specs.Division.{tailMultiple}
+use Rattle.division.specs.Division.{Fit, fits, firstFit, tailMultiple, SumOf}
 use Rattle.division.specs.Steps.{anyTooLarge}
 use Rattle.division.specs.Operations.{Operations}
 
@@ -90,3 +90,12 @@ module _ {A : Type 0} (cmp : A → A → Ordering) (divides : A → A → Bool) 
       products : (f : List (Term A)) → All (λ u. Fits (u .mono)) f → All (λ u. Is (u .mono)) (multiple _·_ p c q f)
       products [] u = tt
       products (x ∷ xs) u = (ops .product-is q (x .mono) q-is (u .0 .0) (u .0 .1), products xs (u .1))
+
+-- A step that finds the lead t, with ts after it, and adds a multiple of a divisor's tail to these, which gives h.
+pub record DividedStep {A : Type 0} (cmp : A → A → Ordering) (divides : A → A → Bool) (quotient _·_ : A → A → A) (tooLarge : A → A → Bool) (Is : A → Type 0) (p : ℕ) (gs : List (List (Term A))) (t : Term A) (ts : List (Term A)) (g : Term A) (tail h : List (Term A)) : Type 0 where
+  pub is : Is (t .mono)
+  pub not-zero : 0 < t .coef
+  pub small : t .coef < p
+  pub fit : firstFit divides (t .mono) gs ≡ fits g tail
+  pub none-large : anyTooLarge tooLarge (quotient (t .mono) (g .mono)) tail ≡ false
+  pub sum : SumOf cmp divides quotient _·_ p gs ts (tailMultiple quotient _·_ p t g tail) h

@@ -3,3 +3,4 @@ pub mod Steps
 pub mod Operations
 pub mod Divisors
 pub mod Ending
+pub mod Combination
