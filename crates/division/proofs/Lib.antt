@@ -11,3 +11,4 @@ pub mod Endings
 pub mod Lasts
 pub mod Performing
 pub mod Dividing
+pub mod Combining
