@@ -12,3 +12,5 @@ pub mod Lasts
 pub mod Performing
 pub mod Dividing
 pub mod Combining
+pub mod AnyDivision
+pub mod ExponentOperations
