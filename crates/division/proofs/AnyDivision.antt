@@ -14,9 +14,9 @@ use Rattle.polynomial.proofs.CoefLaws.{total-merge, canonical-unique, canonical
 use Rattle.division.specs.Division.{Fit, unfit, fits, firstFit, tailMultiple, StepBy, SumOf, Division}
 use Rattle.division.specs.Steps.{anyTooLarge}
 use Rattle.division.specs.Operations.{Operations}
-use Rattle.division.specs.Divisors.{AllOf, Among, Undivided}
+use Rattle.division.specs.Divisors.{Valid, AllOf, Among, Undivided}
 use Rattle.division.specs.Combination.{Combination, AfterBy, LeadsOf}
-use Rattle.division.proofs.TailLaws.{Valid, Added, DividedStep, tail-added}
+use Rattle.division.proofs.TailLaws.{Added, DividedStep, tail-added}
 use Rattle.division.proofs.FitLaws.{fits-says, unfit-says, all-among}
 use Rattle.division.proofs.Combining.{combination-none, combination-kept, combination-divided}
 

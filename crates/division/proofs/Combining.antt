@@ -16,9 +16,9 @@ use Rattle.polynomial.proofs.CoefLaws.{total-nil, total-cons}
 use Rattle.geobucket.proofs.EventLaws.{total-append}
 use Rattle.division.specs.Division.{Fit, unfit, fits, firstFit, tailMultiple}
 use Rattle.division.specs.Operations.{Operations}
-use Rattle.division.specs.Divisors.{AllOf, Among}
+use Rattle.division.specs.Divisors.{Valid, AllOf, Among}
 use Rattle.division.specs.Combination.{Multiplier, AllByDivisors, combined, Combination}
-use Rattle.division.proofs.TailLaws.{Valid, DividedStep}
+use Rattle.division.proofs.TailLaws.{DividedStep}
 use Rattle.division.proofs.FitLaws.{fits-says, all-among}
 
 -- ---- two multiples whose factors make 0

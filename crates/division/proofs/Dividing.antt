@@ -20,8 +20,8 @@ use Rattle.geobucket.proofs.LeadLaws.{sum-right}
 use Rattle.division.specs.Division.{Fit, unfit, fits, firstFit, tailMultiple, SumOf}
 use Rattle.division.specs.Steps.{Reduction, stepsFrom, reduction}
 use Rattle.division.specs.Operations.{Operations}
-use Rattle.division.specs.Divisors.{AllOf}
-use Rattle.division.proofs.TailLaws.{Valid, DividedStep}
+use Rattle.division.specs.Divisors.{Valid, AllOf}
+use Rattle.division.proofs.TailLaws.{DividedStep}
 use Rattle.division.proofs.StateLaws.{State, start-state, found, removed-given, step-adds, step-length}
 use Rattle.division.proofs.StepsAlong.{steps-along}
 use Rattle.division.proofs.WholeLaws.{whole-left, whole-none, whole-lead, whole-added}

@@ -21,9 +21,8 @@ use Rattle.geobucket.proofs.LeadLaws.{Right, lead-right}
 use Rattle.division.specs.Division.{Fit, unfit, fits, firstFit}
 use Rattle.division.specs.Steps.{Reduction, anyTooLarge, stepsFrom, reduction}
 use Rattle.division.specs.Operations.{Operations}
-use Rattle.division.specs.Divisors.{AllOf}
+use Rattle.division.specs.Divisors.{Valid, AllOf}
 use Rattle.division.specs.Ending.{Stopping, finished, at-limit, over, too-many, no-place, Ending, first-too-many, by-steps}
-use Rattle.division.proofs.TailLaws.{Valid}
 use Rattle.division.proofs.StateLaws.{State, start-state}
 use Rattle.division.proofs.StepsAlong.{steps-along}
 use Rattle.division.proofs.WholeLaws.{left-sum, left-lead, left-held}

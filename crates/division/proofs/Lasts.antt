@@ -17,9 +17,8 @@ use Rattle.geobucket.proofs.EventLaws.{Holds, good-canon, removed-holds, left-e
 use Rattle.division.specs.Division.{Fit, unfit, firstFit}
 use Rattle.division.specs.Steps.{Reduction, stepsFrom, reduction}
 use Rattle.division.specs.Operations.{Operations}
-use Rattle.division.specs.Divisors.{AllOf}
+use Rattle.division.specs.Divisors.{Valid, AllOf}
 use Rattle.division.proofs.HeldTerms.{Every, OfLead, search-every, above-every, every-above}
-use Rattle.division.proofs.TailLaws.{Valid}
 use Rattle.division.proofs.StateLaws.{Gone, gone-none, State, start-state}
 use Rattle.division.proofs.StepsAlong.{steps-along}
 use Rattle.division.proofs.WholeLaws.{put-held}

@@ -14,3 +14,4 @@ pub mod Dividing
 pub mod Combining
 pub mod AnyDivision
 pub mod ExponentOperations
+pub mod Reductions

@@ -14,8 +14,7 @@ use Rattle.geobucket.specs.Events.{Event, addition, removal, finding, Work, sta
 use Rattle.geobucket.proofs.EventLaws.{events-bound, events-kept}
 use Rattle.division.specs.Steps.{Reduction, stepsFrom, reduction}
 use Rattle.division.specs.Operations.{Operations}
-use Rattle.division.specs.Divisors.{AllOf}
-use Rattle.division.proofs.TailLaws.{Valid}
+use Rattle.division.specs.Divisors.{Valid, AllOf}
 use Rattle.division.proofs.StateLaws.{State, start-state, step-adds, step-length}
 use Rattle.division.proofs.StepsAlong.{steps-along}
 use Rattle.division.proofs.Endings.{by-first}

@@ -19,9 +19,9 @@ use Rattle.geobucket.proofs.EventLaws.{Holds, room-six, good-canon, start-holds
 use Rattle.division.specs.Division.{Fit, unfit, fits, firstFit, tailMultiple}
 use Rattle.division.specs.Steps.{anyTooLarge}
 use Rattle.division.specs.Operations.{Operations}
-use Rattle.division.specs.Divisors.{AllOf}
+use Rattle.division.specs.Divisors.{Valid, AllOf}
 use Rattle.division.proofs.HeldTerms.{Every, OfLead, add-every, search-every, above-every, every-above}
-use Rattle.division.proofs.TailLaws.{Valid, Added, tail-added, all-zip}
+use Rattle.division.proofs.TailLaws.{Added, tail-added, all-zip}
 use Rattle.division.proofs.FitLaws.{fits-says}
 
 -- ---- a term more at the end of a list

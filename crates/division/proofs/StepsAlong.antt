@@ -15,8 +15,7 @@ use Rattle.geobucket.specs.Events.{Work, added, removed}
 use Rattle.division.specs.Division.{Fit, unfit, fits, firstFit, tailMultiple}
 use Rattle.division.specs.Steps.{Reduction, anyTooLarge, stoppedBy, stepsFrom}
 use Rattle.division.specs.Operations.{Operations}
-use Rattle.division.specs.Divisors.{AllOf}
-use Rattle.division.proofs.TailLaws.{Valid}
+use Rattle.division.specs.Divisors.{Valid, AllOf}
 use Rattle.division.proofs.StepLaws.{step-none, step-limit, step-kept, step-full, step-large, step-many, step-divided}
 use Rattle.division.proofs.StateLaws.{State, kept-state, divided-state}
 

@@ -16,6 +16,7 @@ use Rattle.polynomial.proofs.MultipleLaws.{multiple-reduced, multiple-falling, 
 use Rattle.division.specs.Division.{Fit, fits, firstFit, tailMultiple, SumOf}
 use Rattle.division.specs.Steps.{anyTooLarge}
 use Rattle.division.specs.Operations.{Operations}
+use Rattle.division.specs.Divisors.{Valid}
 
 -- ---- "−c divided by its lead coefficient" is from 1 to p - 1
 pub multiplier-good : (p c d : ℕ) → Prime p → 0 < c → c < p → 0 < d → d < p → (0 < product p (negative p c) (inverseOf p d)) × (product p (negative p c) (inverseOf p d) < p)
@@ -44,11 +45,7 @@ all-zip f [] a b = tt
 all-zip f (t ∷ ts) a b = (f t (a .0) (b .0), all-zip f ts (a .1) (b .1))
 
 module _ {A : Type 0} (cmp : A → A → Ordering) (p : ℕ) (Is : A → Type 0) where
-  -- a polynomial as the opening checks leave it; and what a step adds once it has removed the lead t
-  pub record Valid (g : List (Term A)) : Type 0 where
-    pub canonical : Canonical cmp p g
-    pub are : All (λ t. Is (t .mono)) g
-
+  -- what a step adds once it has removed the lead t
   pub record Added (t : Term A) (h : List (Term A)) : Type 0 where
     pub canonical : Canonical cmp p h
     pub are : All (λ u. Is (u .mono)) h
