@@ -1,1 +1,17 @@
 pub mod DivisionLaws
+pub mod HeldTerms
+pub mod TailLaws
+pub mod FitLaws
+pub mod StepLaws
+pub mod StateLaws
+pub mod WordOperations
+pub mod StepsAlong
+pub mod WholeLaws
+pub mod Endings
+pub mod Lasts
+pub mod Performing
+pub mod Dividing
+pub mod Combining
+pub mod AnyDivision
+pub mod ExponentOperations
+pub mod Reductions

@@ -1,2 +1,6 @@
 pub mod Division
 pub mod Steps
+pub mod Operations
+pub mod Divisors
+pub mod Ending
+pub mod Combination

@@ -60,7 +60,7 @@ module _ {A : Type 0} (cmp : A → A → Ordering) where
   emptied-total m [] = refl
   emptied-total m (b ∷ bs) = omega (arith, total-nil cmp m, emptied-total m bs)
 
-  put-total : (m : A) (at : ℕ) (t : Term A) (bs : List (List (Term A))) → at < length bs → totalIn cmp m (putBack at t bs) ≡ here (cmp (t .mono) m) (t .coef) + totalIn cmp m bs
+  pub put-total : (m : A) (at : ℕ) (t : Term A) (bs : List (List (Term A))) → at < length bs → totalIn cmp m (putBack at t bs) ≡ here (cmp (t .mono) m) (t .coef) + totalIn cmp m bs
   unfolding putBack totalIn
   put-total m at t [] h = absurd (let z : ⊥ = omega arith in z)
   put-total m zero t (b ∷ bs) h = omega (arith, total-cons cmp m t b)
@@ -129,7 +129,7 @@ module _ {A : Type 0} (cmp : A → A → Ordering) (p : ℕ) where
   so-far : (M : ℕ) (w : Work A) → Holds M w → Ends M w
   so-far M w h = record { paid = omega (arith, h .paid); kept = h .kept }
 
-  start-holds : (M : ℕ) → Holds M start
+  pub start-holds : (M : ℕ) → Holds M start
   unfolding Good Low held credit totalIn emptied
   start-holds M = record {
     good = emptied-good 4 empty;
@@ -150,15 +150,15 @@ module _ {A : Type 0} (cmp : A → A → Ordering) (p : ℕ) where
   kept-moved : (G L T U B : ℕ) → (L + U) % p ≡ T % p → (G + T) % p ≡ B % p → (G + (L + U)) % p ≡ B % p
   kept-moved G L T U B h k = add-both p G G (L + U) T refl h ∙ k
 
-  lead-total : (m : A) (a : Lead A) → total cmp m (leadTerms a) ≡ leadTotal cmp p m a
+  pub lead-total : (m : A) (a : Lead A) → total cmp m (leadTerms a) ≡ leadTotal cmp p m a
   lead-total m none = total-nil cmp m
   lead-total m (lead at t) = omega (arith, total-cons cmp m t [], total-nil cmp m)
 
-  with-total : (m : A) (a : Lead A) (cs : List (List (Term A))) → Within cmp p a cs → totalIn cmp m (withLead a cs) ≡ leadTotal cmp p m a + totalIn cmp m cs
+  pub with-total : (m : A) (a : Lead A) (cs : List (List (Term A))) → Within cmp p a cs → totalIn cmp m (withLead a cs) ≡ leadTotal cmp p m a + totalIn cmp m cs
   with-total m none cs h = omega arith
   with-total m (lead at t) cs h = put-total cmp m at t cs h
 
-  fewer-held : (a : Lead A) (cs bs : List (List (Term A))) → Fewer cmp p a cs bs → held cs ≤ held bs
+  pub fewer-held : (a : Lead A) (cs bs : List (List (Term A))) → Fewer cmp p a cs bs → held cs ≤ held bs
   fewer-held none cs bs h = h
   fewer-held (lead at t) cs bs h = omega arith
 
@@ -166,7 +166,7 @@ module _ {A : Type 0} (cmp : A → A → Ordering) (p : ℕ) where
   adds-up c B F P Q d e h k = omega arith
 
   module _ (O : TotalOrder A cmp) (pos : 0 < p) (M : ℕ) (one : 1 ≤ M) (w : Work A) (h : Holds M w) where
-    added-holds : (f : List (Term A)) → Canonical cmp p f → held (w .buckets) + length f ≤ 4096 → held (w .buckets) + length f ≤ 4 ^ M → Holds M (added cmp p f w)
+    pub added-holds : (f : List (Term A)) → Canonical cmp p f → held (w .buckets) + length f ≤ 4096 → held (w .buckets) + length f ≤ 4 ^ M → Holds M (added cmp p f w)
     added-holds f c small few =
         let a = adds cmp p O pos f (w .buckets) (let e : length f + held (w .buckets) ≤ room 4 (w .buckets) = omega (arith, room-six (w .buckets) (h .six)) in e) c (h .good) in
         let b = add-paid cmp p M one f (w .buckets) (let e : length f + held (w .buckets) ≤ 4 ^ M = omega arith in e) (good-fit 4 (w .buckets) (h .good)) (h .low) in
@@ -184,7 +184,7 @@ module _ {A : Type 0} (cmp : A → A → Ordering) (p : ℕ) where
     abbrev s : Searched A
     s = search cmp p (w .buckets)
 
-    removed-holds : Holds M (removed cmp p w)
+    pub removed-holds : Holds M (removed cmp p w)
     removed-holds =
         let canon = good-canon 4 (w .buckets) (h .good) in
         let a = finds cmp p O pos (w .buckets) canon in
@@ -213,7 +213,7 @@ module _ {A : Type 0} (cmp : A → A → Ordering) (p : ℕ) where
           (h .kept m);
     }
 
-    left-ends : Ends M (left cmp p w)
+    pub left-ends : Ends M (left cmp p w)
     left-ends =
         let canon = good-canon 4 (w .buckets) (h .good) in
         let a = finds cmp p O pos (w .buckets) canon in

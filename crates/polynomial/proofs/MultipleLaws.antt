@@ -41,7 +41,8 @@ module _ {A : Type 0} (cmp : A → A → Ordering) (_·_ : A → A → A) (p c :
   abbrev AllFit : List (Term A) → Type 0
   AllFit f = All (λ t. Fits (t .mono)) f
 
-  multiple-under : (a : A) → Fits a → (f : List (Term A)) → AllFit f → Under cmp a f → Under cmp (_·_ m a) (multiple _·_ p c m f)
+  -- what is under a is, times m, under m·a
+  pub multiple-under : (a : A) → Fits a → (f : List (Term A)) → All (λ t. Fits (t .mono)) f → Under cmp a f → Under cmp (_·_ m a) (multiple _·_ p c m f)
   multiple-under a h [] l u = tt
   multiple-under a h (t ∷ ts) l u = (keeps a (t .mono) h (l .0) ∙ u .0, multiple-under a h ts (l .1) (u .1))
 

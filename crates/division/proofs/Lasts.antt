@@ -1,0 +1,129 @@
+-- The last state of a reduction, finished or stopped: its counts, the leads that it removed, and its remainder so far. Assumes nothing.
+use mathlib.Core.Path.{_≡_, refl, sym, ap, _∙_, subst}
+use mathlib.Core.Bool.{Bool, true, false}
+use mathlib.Core.List.{List, [], _∷_, _++_}
+use Prim.Native.Nat.{ℕ, zero, suc, _+_, _*_, _^_, _<_, _≤_, Ordering, Ordering·gt}
+use native.Mathlib.Omega.{arith}
+use lib.ListN.{length, length-append}
+use Rattle.residue.specs.Prime.{Prime}
+use Rattle.monomial.specs.TotalOrder.{TotalOrder}
+use Rattle.polynomial.specs.Terms.{Term, All, Canonical}
+use Rattle.polynomial.proofs.MergeLaws.{all-map}
+use Rattle.geobucket.specs.Buckets.{empty, held}
+use Rattle.geobucket.specs.Search.{Lead, none, lead, search, putBack, withLead}
+use Rattle.geobucket.specs.Events.{Work, start, added, removed, left}
+use Rattle.geobucket.proofs.SearchLaws.{Above, Fewer, finds, Within, search-within}
+use Rattle.geobucket.proofs.EventLaws.{Holds, good-canon, removed-holds, left-ends, start-holds}
+use Rattle.division.specs.Division.{Fit, unfit, firstFit}
+use Rattle.division.specs.Steps.{Reduction, stepsFrom, reduction}
+use Rattle.division.specs.Operations.{Operations}
+use Rattle.division.specs.Divisors.{Valid, AllOf}
+use Rattle.division.proofs.HeldTerms.{Every, OfLead, search-every, above-every, every-above}
+use Rattle.division.proofs.StateLaws.{Gone, gone-none, State, start-state}
+use Rattle.division.proofs.StepsAlong.{steps-along}
+use Rattle.division.proofs.WholeLaws.{put-held}
+use Rattle.division.proofs.Endings.{by-first}
+
+-- ---- a lead that is put back
+module _ {A : Type 0} (P : A → Type 0) where
+  pub put-every : (at : ℕ) (t : Term A) (bs : List (List (Term A))) → P (t .mono) → Every P bs → Every P (putBack at t bs)
+  unfolding putBack Every
+  put-every at t [] h e = tt
+  put-every zero t (b ∷ bs) h e = ((h, e .0), e .1)
+  put-every (suc at) t (b ∷ bs) h e = (e .0, put-every at t bs h (e .1))
+
+  pub with-every : (a : Lead A) (bs : List (List (Term A))) → OfLead P a → Every P bs → Every P (withLead a bs)
+  with-every none bs h e = e
+  with-every (lead at t) bs h e = put-every at t bs h e
+
+module _ {A : Type 0} (cmp : A → A → Ordering) (p : ℕ) where
+  with-held : (a : Lead A) (cs bs : List (List (Term A))) → Within cmp p a cs → Fewer cmp p a cs bs → held (withLead a cs) ≤ held bs
+  with-held none cs bs i h = h
+  with-held (lead at t) cs bs i h = omega (arith, put-held at t cs i)
+
+  -- what is larger than all is still so after a search that leaves its lead
+  gone-left : (Is : A → Type 0) (bs : List (List (Term A))) (ts : List (Term A)) → Gone cmp p Is bs ts → Gone cmp p Is (withLead (search cmp p bs .answer) (search cmp p bs .buckets)) ts
+  gone-left Is bs ts g = record {
+    canonical = g .canonical;
+    over = all-map {P = λ u. Above cmp p (u .mono) bs} {Q = λ u. Above cmp p (u .mono) (withLead (search cmp p bs .answer) (search cmp p bs .buckets))}
+        (λ u a.
+        let s = search-every (λ m. cmp (u .mono) m ≡ Ordering·gt) cmp p bs (above-every cmp p (u .mono) bs a) in
+        every-above cmp p (u .mono) _ (with-every (λ m. cmp (u .mono) m ≡ Ordering·gt) (search cmp p bs .answer) (search cmp p bs .buckets) (s .0) (s .1)))
+        ts (g .over);
+    are = g .are;
+  }
+
+  module _ (Is : A → Type 0) (divides : A → A → Bool) (gs : List (List (Term A))) (places limit : ℕ) where
+    -- What holds of a reduction x, to its end or up to the step that is stopped.
+    pub record Last (x : Reduction A) : Type 0 where
+      pub leads-few : x .leads ≤ limit
+      pub held-few : held (x .work .buckets) ≤ 4096
+      pub brought-few : length (x .work .brought) ≤ 4096 * suc (x .leads)
+      pub pairs-few : length (x .work .pairs) ≤ 35 * length (x .work .brought)
+      -- the leads removed are what the geobucket gave out: they fall strictly, and each is larger than all that is held
+      pub given-count : length (x .work .given) ≡ x .leads
+      pub given-gone : Gone cmp p Is (x .work .buckets) (x .work .given)
+      -- the remainder so far: no divisor fits a term of it
+      pub out-few : length (x .remainder) ≤ x .leads
+      pub out-places : length (x .remainder) ≤ places
+      pub out-gone : Gone cmp p Is (x .work .buckets) (x .remainder)
+      pub out-unfit : All (λ u. firstFit divides (u .mono) gs ≡ unfit) (x .remainder)
+
+module _ {A : Type 0} (cmp : A → A → Ordering) (O : TotalOrder A cmp) (divides : A → A → Bool) (quotient _·_ : A → A → A) (tooLarge : A → A → Bool) (Is : A → Type 0) (ops : Operations A cmp divides quotient _·_ tooLarge Is) (p : ℕ) (prime : Prime p) (gs : List (List (Term A))) (divisors : AllOf (Valid cmp p Is) gs) (places : ℕ) where
+  pos : 0 < p
+  pos = omega (arith, prime .above)
+
+  module _ {leads : ℕ} {r : List (Term A)} {w : Work A} (s : State cmp p Is divides gs places leads r w) where
+    -- ---- counts, for every state: 64 bits hold them (with at most 8,796,093,022,208 leads)
+    pub state-pairs : length (w .pairs) ≤ 143360 * suc leads
+    state-pairs = omega (arith, s .holds .paid, s .brought-few)
+
+    -- the search of a step is counted too
+    pub search-pairs : length (w .pairs ++ search cmp p (w .buckets) .pairs) ≤ 143360 * suc leads
+    search-pairs = omega (arith, left-ends cmp p O pos 6 (omega arith) w (s .holds) .paid, s .brought-few)
+
+    -- the state in which a step that finds a lead stops, or a search that finds zero
+    stopped : (refusal limit : ℕ) → leads ≤ limit → Last cmp p Is divides gs places limit (record { stop = refusal; leads = leads; remainder = r; work = left cmp p w })
+    stopped refusal limit l =
+        let a = finds cmp p O pos (w .buckets) (good-canon cmp p 4 (w .buckets) (s .holds .good)) in
+        record {
+          leads-few = l;
+          held-few = omega (arith, with-held cmp p (search cmp p (w .buckets) .answer) (search cmp p (w .buckets) .buckets) (w .buckets) (search-within cmp p (w .buckets)) (a .fewer), s .held-few);
+          brought-few = s .brought-few;
+          pairs-few = left-ends cmp p O pos 6 (omega arith) w (s .holds) .paid;
+          given-count = s .given-count;
+          given-gone = gone-left cmp p Is (w .buckets) (w .given) (s .given-gone);
+          out-few = s .out-few;
+          out-places = s .out-places;
+          out-gone = gone-left cmp p Is (w .buckets) r (s .out-gone);
+          out-unfit = s .out-unfit;
+        }
+
+  steps-last : (limit more leads : ℕ) (r : List (Term A)) (w : Work A) → State cmp p Is divides gs places leads r w → leads + more ≤ limit → Last cmp p Is divides gs places limit (stepsFrom cmp divides quotient _·_ tooLarge p gs places more leads r w)
+  steps-last limit =
+      steps-along cmp O divides quotient _·_ tooLarge Is ops p prime gs divisors places (λ more leads r w x. leads + more ≤ limit → Last cmp p Is divides gs places limit x)
+      (λ more leads r w s e l. stopped s 0 limit (omega arith))
+      (λ leads r w at t s e l. stopped s 13 limit (omega arith))
+      (λ more leads r w at t s e u h l. stopped s 10 limit (omega arith))
+      (λ more leads r w at t x s e u k l. k (omega arith))
+      (λ more leads r w at t g tail s e u b l. stopped s 12 limit (omega arith))
+      (λ more leads r w at t g tail s e u b h l. stopped s 11 limit (omega arith))
+      (λ more leads r w at t g tail x s e u b h k l. k (omega arith))
+
+  pub last : (limit : ℕ) (f : List (Term A)) → Valid cmp p Is f → Last cmp p Is divides gs places limit (reduction cmp divides quotient _·_ tooLarge p gs places limit f)
+  unfolding held
+  last limit f v =
+      by-first cmp divides quotient _·_ tooLarge p gs places limit f (Last cmp p Is divides gs places limit)
+      (λ h. record {
+        leads-few = omega arith;
+        held-few = omega arith;
+        brought-few = omega arith;
+        pairs-few = omega arith;
+        given-count = refl;
+        given-gone = gone-none cmp p Is empty;
+        out-few = omega arith;
+        out-places = omega arith;
+        out-gone = gone-none cmp p Is empty;
+        out-unfit = tt;
+      })
+      (λ h. steps-last limit limit 0 [] (added cmp p f start) (start-state cmp O divides quotient _·_ tooLarge Is ops p prime gs divisors places f (v .canonical) (v .are) h) (omega arith))

@@ -1,0 +1,42 @@
+-- What a division means, apart from how it is done: the polynomial is the remainder and a sum of multiples of divisors, and the leads that it removes, one by one. Assumes nothing.
+use Prim.Native.Nat.{ℕ, zero, suc, Ordering}
+use mathlib.Core.Path.{_≡_}
+use mathlib.Core.Bool.{Bool}
+use mathlib.Core.List.{List, [], _∷_, _++_}
+use Rattle.polynomial.specs.Terms.{Term, Same}
+use Rattle.polynomial.specs.Multiple.{multiple}
+use Rattle.division.specs.Division.{Fit, unfit, fits, firstFit, tailMultiple, SumOf}
+use Rattle.division.specs.Divisors.{Among}
+
+-- the polynomial `of` times the term `by`
+pub record Multiplier (A : Type 0) : Type 0 where
+  pub by : Term A
+  pub of : List (Term A)
+
+-- each is a multiple of one of the divisors
+unfoldable pub AllByDivisors : {A : Type 0} → List (List (Term A)) → List (Multiplier A) → Type 0
+AllByDivisors gs [] = Unit {0}
+AllByDivisors gs (m ∷ ms) = Among (m .of) gs × AllByDivisors gs ms
+
+-- the terms of all multiples
+unfoldable pub combined : {A : Type 0} → (_·_ : A → A → A) → (p : ℕ) → List (Multiplier A) → List (Term A)
+combined _·_ p [] = []
+combined _·_ p (m ∷ ms) = multiple _·_ p (m .by .coef) (m .by .mono) (m .of) ++ combined _·_ p ms
+
+-- f is r and a sum of multiples of the divisors gs, as polynomials modulo p
+pub record Combination {A : Type 0} (cmp : A → A → Ordering) (_·_ : A → A → A) (p : ℕ) (gs : List (List (Term A))) (f r : List (Term A)) : Type 0 where
+  pub multipliers : List (Multiplier A)
+  pub by-divisors : AllByDivisors gs multipliers
+  pub same : Same cmp p f (r ++ combined _·_ p multipliers)
+
+module _ {A : Type 0} (cmp : A → A → Ordering) (divides : A → A → Bool) (quotient _·_ : A → A → A) (p : ℕ) (gs : List (List (Term A))) where
+  -- what comes after the lead t is removed, as in `StepBy`
+  abbrev pub AfterBy : (Rest : (f : List (Term A)) → Type 0) → Fit A → Term A → (ts : List (Term A)) → Type 0
+  AfterBy Rest unfit t ts = Rest ts
+  AfterBy Rest (fits g tail) t ts = (h : List (Term A)) × SumOf cmp divides quotient _·_ p gs ts (tailMultiple quotient _·_ p t g tail) h × Rest h
+
+  -- the first n steps of dividing f remove the leads ls, in this order
+  unfoldable pub LeadsOf : (n : ℕ) → (f ls : List (Term A)) → Type 0
+  LeadsOf zero f ls = ls ≡ []
+  LeadsOf (suc n) [] ls = ⊥
+  LeadsOf (suc n) (t ∷ ts) ls = (ks : List (Term A)) × (ls ≡ t ∷ ks) × AfterBy (λ f. LeadsOf n f ks) (firstFit divides (t .mono) gs) t ts
