@@ -46,6 +46,20 @@ module _ {A : Type 0} (cmp : A → A → Ordering) (O : TotalOrder A cmp) (divid
       (λ more leads r w at t g tail s e u b h z. absurd (let q : ⊥ = omega arith in q))
       (λ more leads r w at t g tail x s e u b h k z. k z)
 
+  module _ (f : List (Term A)) (v : Valid cmp p Is f) where
+    -- what the geobucket holds once polynomial 0 is added is polynomial 0
+    pub whole-first : length f ≤ 4096 → fullSum cmp p (added cmp p f start .buckets) ≡ f
+    unfolding held totalIn
+    whole-first h =
+        let g = start-holds cmp p 6 .good in
+        let a = adds cmp p O pos f empty (omega (arith, room-six {A = A} empty refl)) (v .canonical) g in
+        let b = sum-right cmp p O pos (add cmp p f empty) (good-canon cmp p 4 (add cmp p f empty) (a .good)) in
+        canonical-unique cmp O p pos _ f (b .0) (v .canonical)
+        (λ m. b .1 m ∙ (a .sums m ∙ ap (λ (n : ℕ). n % p) (let e : total cmp m f + totalIn cmp m empty ≡ total cmp m f = omega (arith, total-nil cmp m) in e)))
+
+    pub begun : length f ≤ 4096 → State cmp p Is divides gs places 0 [] (added cmp p f start)
+    begun h = start-state cmp O divides quotient _·_ tooLarge Is ops p prime gs divisors places f (v .canonical) (v .are) h
+
   -- R n f r ls: n steps divide f, leave r and remove the leads ls
   module _
       (R : (n : ℕ) → (f r ls : List (Term A)) → Type 0)
@@ -125,19 +139,6 @@ module _ {A : Type 0} (cmp : A → A → Ordering) (O : TotalOrder A cmp) (divid
       abbrev x : Reduction A
       x = reduction cmp divides quotient _·_ tooLarge p gs places limit f
 
-      -- what the geobucket holds once polynomial 0 is added is polynomial 0
-      whole-first : length f ≤ 4096 → fullSum cmp p (added cmp p f start .buckets) ≡ f
-      unfolding held totalIn
-      whole-first h =
-          let g = start-holds cmp p 6 .good in
-          let a = adds cmp p O pos f empty (omega (arith, room-six {A = A} empty refl)) (v .canonical) g in
-          let b = sum-right cmp p O pos (add cmp p f empty) (good-canon cmp p 4 (add cmp p f empty) (a .good)) in
-          canonical-unique cmp O p pos _ f (b .0) (v .canonical)
-          (λ m. b .1 m ∙ (a .sums m ∙ ap (λ (n : ℕ). n % p) (let e : total cmp m f + totalIn cmp m empty ≡ total cmp m f = omega (arith, total-nil cmp m) in e)))
-
-      begun : length f ≤ 4096 → State cmp p Is divides gs places 0 [] (added cmp p f start)
-      begun h = start-state cmp O divides quotient _·_ tooLarge Is ops p prime gs divisors places f (v .canonical) (v .are) h
-
       -- what the buckets hold at the end, divided further, gives the remainder of f with the terms that are there already, the steps with the leads removed, and the leads themselves
       pub reduction-follows : length f ≤ 4096 → (k : ℕ) (s ks : List (Term A)) → R k (fullSum cmp p (reduction cmp divides quotient _·_ tooLarge p gs places limit f .work .buckets)) s ks
           → R (reduction cmp divides quotient _·_ tooLarge p gs places limit f .leads + k) f (reduction cmp divides quotient _·_ tooLarge p gs places limit f .remainder ++ s) (reduction cmp divides quotient _·_ tooLarge p gs places limit f .work .given ++ ks)
@@ -146,12 +147,12 @@ module _ {A : Type 0} (cmp : A → A → Ordering) (O : TotalOrder A cmp) (divid
           (sym (begins cmp divides quotient _·_ tooLarge p gs places limit f h))
           (λ k s ks d.
           let y = stepsFrom cmp divides quotient _·_ tooLarge p gs places limit 0 [] (added cmp p f start) in
-          let q = steps-follow limit 0 [] (added cmp p f start) (begun h) k s ks d in
+          let q = steps-follow limit 0 [] (added cmp p f start) (begun f v h) k s ks d in
           let n = q .steps-are in
           subst (λ (i : ℕ). R i f (y .remainder ++ s) (y .work .given ++ ks)) (sym (n ∙ (let e : 0 + q .steps ≡ q .steps = omega arith in e)))
           (subst (λ (r : List (Term A)). R (q .steps) f (r ++ s) (y .work .given ++ ks)) (sym (q .terms-are))
           (subst (λ (r : List (Term A)). R (q .steps) f (q .terms ++ s) (r ++ ks)) (sym (q .gone-are))
-          (subst (λ (g : List (Term A)). R (q .steps) g (q .terms ++ s) (q .gone ++ ks)) (whole-first h) (q .related)))))
+          (subst (λ (g : List (Term A)). R (q .steps) g (q .terms ++ s) (q .gone ++ ks)) (whole-first f v h) (q .related)))))
 
       finished-few : reduction cmp divides quotient _·_ tooLarge p gs places limit f .stop ≡ 0 → length f ≤ 4096
       finished-few z =
@@ -163,7 +164,7 @@ module _ {A : Type 0} (cmp : A → A → Ordering) (O : TotalOrder A cmp) (divid
       finished-follows nothing z =
           let h = finished-few z in
           let b = begins cmp divides quotient _·_ tooLarge p gs places limit f h in
-          let e : fullSum cmp p (x .work .buckets) ≡ [] = subst (λ (y : Reduction A). fullSum cmp p (y .work .buckets) ≡ []) (sym b) (finished-none limit 0 [] (added cmp p f start) (begun h) (sym (ap (λ (y : Reduction A). y .stop) b) ∙ z)) in
+          let e : fullSum cmp p (x .work .buckets) ≡ [] = subst (λ (y : Reduction A). fullSum cmp p (y .work .buckets) ≡ []) (sym b) (finished-none limit 0 [] (added cmp p f start) (begun f v h) (sym (ap (λ (y : Reduction A). y .stop) b) ∙ z)) in
           let d = reduction-follows h 0 [] [] (subst (λ (g : List (Term A)). R 0 g [] []) (sym e) nothing) in
           subst (λ (n : ℕ). R n f (x .remainder) (x .work .given)) (let i : x .leads + 0 ≡ x .leads = omega arith in i)
           (subst (λ (l : List (Term A)). R (x .leads + 0) f (x .remainder) l) (append-nil (x .work .given))

@@ -26,6 +26,7 @@ use Rattle.division.proofs.Endings.{by-first, ending, ending-only}
 use Rattle.division.proofs.Lasts.{Last, last}
 use Rattle.division.proofs.Performing.{Performed, performed, reduction-bound, reduction-kept}
 use Rattle.division.proofs.Dividing.{reduction-follows, finished-follows}
+use Rattle.division.proofs.Remaining.{reduction-leaves, limit-short}
 use Rattle.division.proofs.Combining.{combination-none, combination-kept, combination-divided}
 use Rattle.division.proofs.AnyDivision.{division-none, division-kept, division-divided, leads-none, leads-kept, leads-divided, unfit-undivided}
 
@@ -57,6 +58,18 @@ module _ (o : Order) (n : ℕ) (few : n ≤ 6) (p : ℕ) (prime : Prime p) (gs :
       (λ k t ts s ks e d. division-kept cmp dividesWord _-_ _+_ p gs k t ts s e d)
       (λ k t ts s ks g tail h a d. division-divided cmp dividesWord _-_ _+_ p gs k t ts s g tail h (a .fit) (a .sum) d)
       limit f valid (division-none cmp dividesWord _-_ _+_ p gs) z
+
+  -- and no other number and list are
+  pub demand-2-only : reductionOfWords o p gs places limit f .stop ≡ 0 → (k : ℕ) (s : List (Term ℕ)) → Division (compareWords o) dividesWord _-_ _+_ p gs k f s → (reductionOfWords o p gs places limit f .leads ≡ k) × (reductionOfWords o p gs places limit f .remainder ≡ s)
+  demand-2-only z k s d = division-unique cmp (words-order o) dividesWord _-_ _+_ p pos gs (reduced .leads) k f (reduced .remainder) s (demand-2-division z) d
+
+  -- Where f is divided in k steps to s, a reduction, finished or stopped, has done the first of them, and its remainder so far is the beginning of s.
+  pub demand-2-leaves : length f ≤ 4096 → (k : ℕ) (s : List (Term ℕ)) → Division (compareWords o) dividesWord _-_ _+_ p gs k f s → (i : ℕ) × (u : List (Term ℕ)) × (k ≡ reductionOfWords o p gs places limit f .leads + i) × (s ≡ reductionOfWords o p gs places limit f .remainder ++ u)
+  demand-2-leaves h k s d = let l = reduction-leaves cmp (words-order o) dividesWord _-_ _+_ overWord Is (word-operations o n few) p prime gs divisors places limit f valid h k s d in (l .steps, l .terms, l .steps-are, l .terms-are)
+
+  -- 13 means that the division takes more steps than the limit
+  pub demand-1-short : length f ≤ 4096 → (k : ℕ) (s : List (Term ℕ)) → Division (compareWords o) dividesWord _-_ _+_ p gs k f s → reductionOfWords o p gs places limit f .stop ≡ 13 → limit < k
+  demand-1-short h k s d z = limit-short cmp (words-order o) dividesWord _-_ _+_ overWord Is (word-operations o n few) p prime gs divisors places limit f valid h k s d z
 
   -- what a stopped reduction leaves, divided further, gives the remainder and the steps of f
   pub demand-2-stopped : length f ≤ 4096 → (k : ℕ) (s : List (Term ℕ)) → Division (compareWords o) dividesWord _-_ _+_ p gs k (fullSum (compareWords o) p (reductionOfWords o p gs places limit f .work .buckets)) s
