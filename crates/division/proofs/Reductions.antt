@@ -13,18 +13,19 @@ use Rattle.monomial.proofs.OrderLaws.{words-order}
 use Rattle.polynomial.specs.Terms.{Term, All, Falling, total, Canonical}
 use Rattle.polynomial.proofs.MergeLaws.{all-map}
 use Rattle.geobucket.specs.Buckets.{totalIn, fullSum}
-use Rattle.geobucket.specs.Events.{Work, start, bound}
+use Rattle.geobucket.specs.Events.{start, perform, bound}
 use Rattle.division.specs.Division.{unfit, firstFit, Division}
 use Rattle.division.specs.Steps.{Reduction, overWord, reductionOfWords}
 use Rattle.division.specs.Divisors.{Valid, AllOf, Undivided}
 use Rattle.division.specs.Ending.{Ending}
+use Rattle.division.specs.Demanded.{reductionEvents}
 use Rattle.division.specs.Combination.{Combination, LeadsOf}
 use Rattle.division.proofs.TailLaws.{DividedStep}
 use Rattle.division.proofs.DivisionLaws.{division-unique}
 use Rattle.division.proofs.WordOperations.{word-operations}
 use Rattle.division.proofs.Endings.{by-first, ending, ending-only}
 use Rattle.division.proofs.Lasts.{Last, last}
-use Rattle.division.proofs.Performing.{Performed, performed, reduction-bound, reduction-kept}
+use Rattle.division.proofs.Performing.{reduction-performs, reduction-bound, reduction-kept}
 use Rattle.division.proofs.Dividing.{reduction-follows, finished-follows}
 use Rattle.division.proofs.Remaining.{reduction-leaves, limit-short}
 use Rattle.division.proofs.Combining.{combination-none, combination-kept, combination-divided}
@@ -132,9 +133,9 @@ module _ (o : Order) (n : ℕ) (few : n ≤ 6) (p : ℕ) (prime : Prime p) (gs :
   leads-count = last-state .given-count
 
   -- ---- Demand 3, finished or stopped
-  -- "The monomial comparisons counted are exactly those that the published merge and search make on that list, one by one": the work is that of a list of events, from the empty geobucket
-  pub demand-3-events : Performed (compareWords o) p start (reductionOfWords o p gs places limit f .work)
-  demand-3-events = performed cmp (words-order o) dividesWord _-_ _+_ overWord Is (word-operations o n few) p prime gs divisors places limit f valid
+  -- "The monomial comparisons counted are exactly those that the published merge and search make on that list, one by one": the work is that of the events, from the empty geobucket
+  pub demand-3-events : reductionOfWords o p gs places limit f .work ≡ perform (compareWords o) p (reductionEvents dividesWord _-_ _+_ p gs f (reductionOfWords o p gs places limit f .work .given)) start
+  demand-3-events = reduction-performs cmp (words-order o) dividesWord _-_ _+_ overWord Is (word-operations o n few) p prime gs divisors places limit f valid
 
   -- "They are at most 6·N·M"
   pub demand-3-bound : length (reductionOfWords o p gs places limit f .work .pairs) ≤ bound (length (reductionOfWords o p gs places limit f .work .brought))

@@ -4,3 +4,4 @@ pub mod Operations
 pub mod Divisors
 pub mod Ending
 pub mod Combination
+pub mod Demanded
