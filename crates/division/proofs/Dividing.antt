@@ -22,7 +22,8 @@ use Rattle.division.specs.Steps.{Reduction, stepsFrom, reduction}
 use Rattle.division.specs.Operations.{Operations}
 use Rattle.division.specs.Divisors.{Valid, AllOf}
 use Rattle.division.proofs.TailLaws.{DividedStep}
-use Rattle.division.proofs.StateLaws.{State, start-state, found, removed-given, step-adds, step-length}
+use Rattle.division.proofs.HeldTerms.{sum-each}
+use Rattle.division.proofs.StateLaws.{State, start-state, found, removed-are, removed-given, step-adds, step-length}
 use Rattle.division.proofs.StepsAlong.{steps-along}
 use Rattle.division.proofs.WholeLaws.{whole-left, whole-none, whole-lead, whole-added}
 use Rattle.division.proofs.Endings.{begins, begins-not}
@@ -63,7 +64,7 @@ module _ {A : Type 0} (cmp : A → A → Ordering) (O : TotalOrder A cmp) (divid
   -- R n f r ls: n steps divide f, leave r and remove the leads ls
   module _
       (R : (n : ℕ) → (f r ls : List (Term A)) → Type 0)
-      (kept : (n : ℕ) (t : Term A) (ts s ks : List (Term A)) → firstFit divides (t .mono) gs ≡ unfit → R n ts s ks → R (suc n) (t ∷ ts) (t ∷ s) (t ∷ ks))
+      (kept : (n : ℕ) (t : Term A) (ts s ks : List (Term A)) → Is (t .mono) → firstFit divides (t .mono) gs ≡ unfit → R n ts s ks → R (suc n) (t ∷ ts) (t ∷ s) (t ∷ ks))
       (divided : (n : ℕ) (t : Term A) (ts s ks : List (Term A)) (g : Term A) (tail h : List (Term A)) → DividedStep cmp divides quotient _·_ tooLarge Is p gs t ts g tail h → R n h s ks → R (suc n) (t ∷ ts) s (t ∷ ks)) where
     -- What x leaves is divided in k steps, to s, removing ks. Then what w holds is divided too, in the steps that x counts and those.
     record Divided (leads : ℕ) (r : List (Term A)) (w : Work A) (x : Reduction A) (k : ℕ) (s ks : List (Term A)) : Type 0 where
@@ -105,7 +106,7 @@ module _ {A : Type 0} (cmp : A → A → Ordering) (O : TotalOrder A cmp) (divid
           steps-are = omega (arith, q .steps-are);
           terms-are = q .terms-are ∙ append-assoc r (t ∷ []) (q .terms);
           gone-are = q .gone-are ∙ (ap (λ (l : List (Term A)). l ++ q .gone) (removed-given cmp O divides quotient _·_ tooLarge Is ops p prime gs divisors places s at t e) ∙ append-assoc (w .given) (t ∷ []) (q .gone));
-          related = subst (λ (f : List (Term A)). R (suc (q .steps)) f (t ∷ q .terms ++ v) (t ∷ q .gone ++ ks)) (sym (whole-lead cmp p O pos (w .buckets) (canon-of s) at t e)) (kept (q .steps) t _ (q .terms ++ v) (q .gone ++ ks) u (q .related));
+          related = subst (λ (f : List (Term A)). R (suc (q .steps)) f (t ∷ q .terms ++ v) (t ∷ q .gone ++ ks)) (sym (whole-lead cmp p O pos (w .buckets) (canon-of s) at t e)) (kept (q .steps) t _ (q .terms ++ v) (q .gone ++ ks) (found cmp O divides quotient _·_ tooLarge Is ops p prime gs divisors places s at t e .is) u (q .related));
         })
         (λ more leads r w at t g tail s e u b. stopped 12 leads r w s)
         (λ more leads r w at t g tail s e u b h. stopped 11 leads r w s)
@@ -128,6 +129,7 @@ module _ {A : Type 0} (cmp : A → A → Ordering) (O : TotalOrder A cmp) (divid
                 is = a .is;
                 not-zero = a .not-zero;
                 small = a .small;
+                rest = record { canonical = sum-right cmp p O pos (removed cmp p w .buckets) (good-canon cmp p 4 (removed cmp p w .buckets) (hold .good)) .0; are = sum-each Is cmp p [] (removed cmp p w .buckets) tt (removed-are cmp O divides quotient _·_ tooLarge Is ops p prime gs divisors places s at t e) };
                 fit = u;
                 none-large = b;
                 sum = whole-added cmp p O pos divides quotient _·_ gs (tailMultiple quotient _·_ p t g tail) (removed cmp p w .buckets) (omega (arith, room-six (removed cmp p w .buckets) (hold .six))) (c .canonical) (hold .good);

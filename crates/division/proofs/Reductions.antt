@@ -56,7 +56,7 @@ module _ (o : Order) (n : ℕ) (few : n ≤ 6) (p : ℕ) (prime : Prime p) (gs :
   pub demand-2-division : reductionOfWords o p gs places limit f .stop ≡ 0 → Division (compareWords o) dividesWord _-_ _+_ p gs (reductionOfWords o p gs places limit f .leads) f (reductionOfWords o p gs places limit f .remainder)
   demand-2-division z =
       finished-follows cmp (words-order o) dividesWord _-_ _+_ overWord Is (word-operations o n few) p prime gs divisors places (λ k g r ls. Division cmp dividesWord _-_ _+_ p gs k g r)
-      (λ k t ts s ks e d. division-kept cmp dividesWord _-_ _+_ p gs k t ts s e d)
+      (λ k t ts s ks i e d. division-kept cmp dividesWord _-_ _+_ p gs k t ts s e d)
       (λ k t ts s ks g tail h a d. division-divided cmp dividesWord _-_ _+_ p gs k t ts s g tail h (a .fit) (a .sum) d)
       limit f valid (division-none cmp dividesWord _-_ _+_ p gs) z
 
@@ -77,7 +77,7 @@ module _ (o : Order) (n : ℕ) (few : n ≤ 6) (p : ℕ) (prime : Prime p) (gs :
       → Division (compareWords o) dividesWord _-_ _+_ p gs (reductionOfWords o p gs places limit f .leads + k) f (reductionOfWords o p gs places limit f .remainder ++ s)
   demand-2-stopped h k s d =
       reduction-follows cmp (words-order o) dividesWord _-_ _+_ overWord Is (word-operations o n few) p prime gs divisors places (λ k g r ls. Division cmp dividesWord _-_ _+_ p gs k g r)
-      (λ k t ts s ks e d. division-kept cmp dividesWord _-_ _+_ p gs k t ts s e d)
+      (λ k t ts s ks i e d. division-kept cmp dividesWord _-_ _+_ p gs k t ts s e d)
       (λ k t ts s ks g tail h a d. division-divided cmp dividesWord _-_ _+_ p gs k t ts s g tail h (a .fit) (a .sum) d)
       limit f valid h k s [] d
 
@@ -85,7 +85,7 @@ module _ (o : Order) (n : ℕ) (few : n ≤ 6) (p : ℕ) (prime : Prime p) (gs :
   pub demand-2-sum : length f ≤ 4096 → Combination (compareWords o) _+_ p gs f (reductionOfWords o p gs places limit f .remainder ++ fullSum (compareWords o) p (reductionOfWords o p gs places limit f .work .buckets))
   demand-2-sum h =
       reduction-follows cmp (words-order o) dividesWord _-_ _+_ overWord Is (word-operations o n few) p prime gs divisors places (λ k g r ls. Combination cmp _+_ p gs g r)
-      (λ k t ts s ks e c. combination-kept cmp _+_ p gs t ts s c)
+      (λ k t ts s ks i e c. combination-kept cmp _+_ p gs t ts s c)
       (λ k t ts s ks g tail h a c. combination-divided cmp _+_ p gs dividesWord _-_ overWord Is (word-operations o n few) prime divisors t ts g tail h a s c)
       limit f valid h 0 _ [] (combination-none cmp _+_ p gs _)
 
@@ -93,7 +93,7 @@ module _ (o : Order) (n : ℕ) (few : n ≤ 6) (p : ℕ) (prime : Prime p) (gs :
   pub demand-2-remainder : reductionOfWords o p gs places limit f .stop ≡ 0 → Combination (compareWords o) _+_ p gs f (reductionOfWords o p gs places limit f .remainder)
   demand-2-remainder z =
       finished-follows cmp (words-order o) dividesWord _-_ _+_ overWord Is (word-operations o n few) p prime gs divisors places (λ k g r ls. Combination cmp _+_ p gs g r)
-      (λ k t ts s ks e c. combination-kept cmp _+_ p gs t ts s c)
+      (λ k t ts s ks i e c. combination-kept cmp _+_ p gs t ts s c)
       (λ k t ts s ks g tail h a c. combination-divided cmp _+_ p gs dividesWord _-_ overWord Is (word-operations o n few) prime divisors t ts g tail h a s c)
       limit f valid (combination-none cmp _+_ p gs []) z
 
@@ -122,7 +122,7 @@ module _ (o : Order) (n : ℕ) (few : n ≤ 6) (p : ℕ) (prime : Prime p) (gs :
           subst (λ (k : ℕ). LeadsOf cmp dividesWord _-_ _+_ p gs k f (reduced .work .given)) (let i : reduced .leads + 0 ≡ reduced .leads = omega arith in i)
           (subst (λ (l : List (Term ℕ)). LeadsOf cmp dividesWord _-_ _+_ p gs (reduced .leads + 0) f l) (append-nil (reduced .work .given))
           (reduction-follows cmp (words-order o) dividesWord _-_ _+_ overWord Is (word-operations o n few) p prime gs divisors places (λ k g r ls. LeadsOf cmp dividesWord _-_ _+_ p gs k g ls)
-          (λ k t ts s ks e d. leads-kept cmp dividesWord _-_ _+_ p gs k t ts ks e d)
+          (λ k t ts s ks i e d. leads-kept cmp dividesWord _-_ _+_ p gs k t ts ks e d)
           (λ k t ts s ks g tail h a d. leads-divided cmp dividesWord _-_ _+_ p gs k t ts ks g tail h (a .fit) (a .sum) d)
           limit f valid h 0 [] [] (leads-none cmp dividesWord _-_ _+_ p gs _)))
 

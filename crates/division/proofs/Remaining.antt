@@ -110,7 +110,7 @@ module _ {A : Type 0} (cmp : A → A → Ordering) (O : TotalOrder A cmp) (divid
     pub reduction-leaves : Left
     reduction-leaves =
         let (k, s, c) = subst (λ (y : Reduction A). Divisible (fullSum cmp p (y .work .buckets))) (sym (begins cmp divides quotient _·_ tooLarge p gs places limit f few)) (steps-remain limit 0 [] (added cmp p f start) (begun cmp O divides quotient _·_ tooLarge Is ops p prime gs divisors places f v few) (n, r, subst (λ (g : List (Term A)). Division cmp divides quotient _·_ p gs n g r) (sym (whole-first cmp O divides quotient _·_ tooLarge Is ops p prime gs divisors places f v few)) d)) in
-        let whole = reduction-follows cmp O divides quotient _·_ tooLarge Is ops p prime gs divisors places (λ i g u ls. Division cmp divides quotient _·_ p gs i g u) (λ i t ts u ks e y. division-kept cmp divides quotient _·_ p gs i t ts u e y) (λ i t ts u ks g tail h a y. division-divided cmp divides quotient _·_ p gs i t ts u g tail h (a .fit) (a .sum) y) limit f v few k s [] c in
+        let whole = reduction-follows cmp O divides quotient _·_ tooLarge Is ops p prime gs divisors places (λ i g u ls. Division cmp divides quotient _·_ p gs i g u) (λ i t ts u ks q e y. division-kept cmp divides quotient _·_ p gs i t ts u e y) (λ i t ts u ks g tail h a y. division-divided cmp divides quotient _·_ p gs i t ts u g tail h (a .fit) (a .sum) y) limit f v few k s [] c in
         let same = division-unique cmp O divides quotient _·_ p pos gs n (x .leads + k) f r (x .remainder ++ s) d whole in
         record { steps = k; terms = s; divided = c; steps-are = same .0; terms-are = same .1 }
 

@@ -138,7 +138,7 @@ module _ {A : Type 0} (cmp : A → A → Ordering) (O : TotalOrder A cmp) (divid
           fewer = subst (λ (x : Lead A). Fewer cmp p x (search cmp p (w .buckets) .buckets) (w .buckets)) e (a .fewer);
         }
 
-    removed-are : Every Is (search cmp p (w .buckets) .buckets)
+    pub removed-are : Every Is (search cmp p (w .buckets) .buckets)
     removed-are = search-every Is cmp p (w .buckets) (s .are) .1
 
     pub removed-given : removed cmp p w .given ≡ w .given ++ t ∷ []

@@ -93,6 +93,7 @@ pub record DividedStep {A : Type 0} (cmp : A → A → Ordering) (divides : A �
   pub is : Is (t .mono)
   pub not-zero : 0 < t .coef
   pub small : t .coef < p
+  pub rest : Valid cmp p Is ts
   pub fit : firstFit divides (t .mono) gs ≡ fits g tail
   pub none-large : anyTooLarge tooLarge (quotient (t .mono) (g .mono)) tail ≡ false
   pub sum : SumOf cmp divides quotient _·_ p gs ts (tailMultiple quotient _·_ p t g tail) h
