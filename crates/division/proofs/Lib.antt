@@ -17,3 +17,4 @@ pub mod ExponentOperations
 pub mod WordSteps
 pub mod Remaining
 pub mod Reductions
+pub mod Renaming

@@ -5,3 +5,4 @@ pub mod Divisors
 pub mod Ending
 pub mod Combination
 pub mod Demanded
+pub mod InExponents
