@@ -1,15 +1,16 @@
 -- The theorems on reductions of words, whose polynomials have passed the opening checks: how they end, what they leave, their leads, and their comparisons. Assumes nothing.
 use mathlib.Core.Path.{_≡_, refl, sym, ap, _∙_, subst}
 use mathlib.Core.Bool.{Bool, true, false}
-use mathlib.Core.List.{List, [], _∷_, _++_, append-nil}
+use mathlib.Core.List.{List, [], _∷_, _++_, map, append-nil}
 use Prim.Native.Nat.{ℕ, zero, suc, _+_, _-_, _*_, _%_, _^_, _<_, _≤_, Ordering}
 use native.Mathlib.Omega.{arith}
 use lib.ListN.{length}
 use Rattle.residue.specs.Prime.{Prime}
 use Rattle.monomial.specs.declared.order.Order.{Order}
-use Rattle.monomial.specs.Layout.{Layout}
+use Rattle.monomial.specs.Exponents.{divides, quotient, product, compareIn}
+use Rattle.monomial.specs.Layout.{exponents, Layout}
 use Rattle.monomial.specs.Words.{compareWords, dividesWord}
-use Rattle.monomial.proofs.OrderLaws.{words-order}
+use Rattle.monomial.proofs.OrderLaws.{exponents-order, words-order}
 use Rattle.polynomial.specs.Terms.{Term, All, Falling, total, Canonical}
 use Rattle.polynomial.proofs.MergeLaws.{all-map}
 use Rattle.geobucket.specs.Buckets.{totalIn, fullSum}
@@ -18,18 +19,21 @@ use Rattle.division.specs.Division.{unfit, firstFit, Division}
 use Rattle.division.specs.Steps.{Reduction, overWord, reductionOfWords}
 use Rattle.division.specs.Divisors.{Valid, AllOf, Undivided}
 use Rattle.division.specs.Ending.{Ending}
+use Rattle.division.specs.InExponents.{inExponents}
 use Rattle.division.specs.Demanded.{reductionEvents}
 use Rattle.division.specs.Combination.{Combination, LeadsOf}
 use Rattle.division.proofs.TailLaws.{DividedStep}
 use Rattle.division.proofs.DivisionLaws.{division-unique}
-use Rattle.division.proofs.WordOperations.{word-operations}
+use Rattle.division.proofs.WordOperations.{word-operations, words-agree, valid-exponents, all-exponents}
+use Rattle.division.proofs.ExponentOperations.{exponent-operations}
+use Rattle.division.proofs.Renaming.{renamed-kept, renamed-divided}
 use Rattle.division.proofs.Endings.{by-first, ending, ending-only}
 use Rattle.division.proofs.Lasts.{Last, last}
 use Rattle.division.proofs.Performing.{reduction-performs, reduction-bound, reduction-kept}
 use Rattle.division.proofs.Dividing.{reduction-follows, finished-follows}
 use Rattle.division.proofs.Remaining.{reduction-leaves, limit-short}
 use Rattle.division.proofs.Combining.{combination-none, combination-kept, combination-divided}
-use Rattle.division.proofs.AnyDivision.{division-none, division-kept, division-divided, leads-none, leads-kept, leads-divided, unfit-undivided}
+use Rattle.division.proofs.AnyDivision.{division-none, division-kept, division-divided, leads-none, leads-kept, leads-divided, unfit-undivided, division-combines}
 
 module _ (o : Order) (n : ℕ) (few : n ≤ 6) (p : ℕ) (prime : Prime p) (gs : List (List (Term ℕ))) (divisors : AllOf (Valid (compareWords o) p (λ w. Layout o n w)) gs) (places limit : ℕ) (f : List (Term ℕ)) (valid : Valid (compareWords o) p (λ w. Layout o n w) f) where
   abbrev cmp : ℕ → ℕ → Ordering
@@ -96,6 +100,17 @@ module _ (o : Order) (n : ℕ) (few : n ≤ 6) (p : ℕ) (prime : Prime p) (gs :
       (λ k t ts s ks i e c. combination-kept cmp _+_ p gs t ts s c)
       (λ k t ts s ks g tail h a c. combination-divided cmp _+_ p gs dividesWord _-_ overWord Is (word-operations o n few) prime divisors t ts g tail h a s c)
       limit f valid (combination-none cmp _+_ p gs []) z
+
+  -- The same by exponents: f divided by gs as document 000 orders, multiplies and divides monomials. No product is too large there, and all theorems on divisions hold.
+  pub demand-2-exponents : reductionOfWords o p gs places limit f .stop ≡ 0 → Division (compareIn o) divides quotient product p (map (inExponents o n) gs) (reductionOfWords o p gs places limit f .leads) (inExponents o n f) (inExponents o n (reductionOfWords o p gs places limit f .remainder))
+  demand-2-exponents z =
+      finished-follows cmp (words-order o) dividesWord _-_ _+_ overWord Is (word-operations o n few) p prime gs divisors places (λ k g r ls. Division (compareIn o) divides quotient product p (map (inExponents o n) gs) k (inExponents o n g) (inExponents o n r))
+      (λ k t ts s ks i e d. renamed-kept (exponents o n) Is cmp dividesWord _-_ _+_ (compareIn o) divides quotient product (words-agree o n few) (words-order o) (exponents-order o) overWord (word-operations o n few) p prime gs divisors k t ts s i e d)
+      (λ k t ts s ks g tail h a d. renamed-divided (exponents o n) Is cmp dividesWord _-_ _+_ (compareIn o) divides quotient product (words-agree o n few) (words-order o) (exponents-order o) overWord (word-operations o n few) p prime gs divisors k t ts s g tail h a d)
+      limit f valid (division-none (compareIn o) divides quotient product p (map (inExponents o n) gs)) z
+
+  pub demand-2-exponents-sum : reductionOfWords o p gs places limit f .stop ≡ 0 → Combination (compareIn o) product p (map (inExponents o n) gs) (inExponents o n f) (inExponents o n (reductionOfWords o p gs places limit f .remainder))
+  demand-2-exponents-sum z = division-combines (compareIn o) divides quotient product p (map (inExponents o n) gs) (exponents-order o) (λ α. length α ≡ n) (exponent-operations o n) prime (all-exponents o n few p gs divisors) (reduced .leads) (inExponents o n f) (inExponents o n (reduced .remainder)) (valid-exponents o n few p f valid) (demand-2-exponents z)
 
   -- what holds of the last state, finished or stopped
   pub last-state : Last (compareWords o) p (λ w. Layout o n w) dividesWord gs places limit (reductionOfWords o p gs places limit f)
