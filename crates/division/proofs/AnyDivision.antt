@@ -1,16 +1,15 @@
 -- Theorems on every division, apart from any algorithm: the polynomial is the remainder and a sum of multiples of divisors, no term of the remainder is divisible, and the leads fall strictly. They ask for operations under which no product is too large. Assumes nothing.
-use mathlib.Core.Path.{_≡_, refl, sym, ap, _∙_, subst}
-use mathlib.Core.Bool.{Bool, true, false}
-use mathlib.Core.List.{List, [], _∷_, _++_}
-use Prim.Native.Nat.{ℕ, zero, suc, _+_, _%_, _<_, _≤_, Ordering, Ordering·gt}
-use native.Mathlib.Nat.{mod-add-mod, add-mod-mod}
+use mathlib.Core.Path.{_≡_, refl, sym, _∙_, subst}
+use mathlib.Core.Bool.{Bool, false}
+use mathlib.Core.List.{List, [], _∷_}
+use Prim.Native.Nat.{ℕ, zero, suc, _<_, Ordering}
 use native.Mathlib.Omega.{arith}
 use Rattle.residue.specs.Prime.{Prime}
 use Rattle.monomial.specs.TotalOrder.{TotalOrder}
-use Rattle.polynomial.specs.Terms.{Term, All, Under, Falling, total, coefAt, Canonical}
+use Rattle.polynomial.specs.Terms.{Term, All, Under, Falling}
 use Rattle.polynomial.specs.Merge.{merge}
-use Rattle.polynomial.proofs.MergeLaws.{merge-all, merge-under, merge-canonical, under-more}
-use Rattle.polynomial.proofs.CoefLaws.{total-merge, canonical-unique, canonical-tail}
+use Rattle.polynomial.proofs.MergeLaws.{merge-all, merge-under, under-more}
+use Rattle.polynomial.proofs.CoefLaws.{canonical-tail}
 use Rattle.division.specs.Division.{Fit, unfit, fits, firstFit, tailMultiple, StepBy, SumOf, Division}
 use Rattle.division.specs.Steps.{anyTooLarge}
 use Rattle.division.specs.Operations.{Operations}

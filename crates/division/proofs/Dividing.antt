@@ -1,23 +1,22 @@
 -- A reduction follows the division algorithm: what it leaves, divided further, gives the remainder, the steps and the leads of the whole; so a finished one has all of them. Stated for any relation that a step of the algorithm keeps. Assumes nothing.
 use mathlib.Core.Path.{_≡_, refl, sym, ap, _∙_, subst}
-use mathlib.Core.Bool.{Bool, true, false}
+use mathlib.Core.Bool.{Bool}
 use mathlib.Core.List.{List, [], _∷_, _++_, append-nil, append-assoc}
-use Prim.Native.Nat.{ℕ, zero, suc, _+_, _%_, _<_, _≤_, Ordering}
+use Prim.Native.Nat.{ℕ, suc, _+_, _%_, _<_, _≤_, Ordering}
 use native.Mathlib.Nat.{lt-of-not-le}
 use native.Mathlib.Omega.{arith}
 use lib.ListN.{length}
 use Rattle.residue.specs.Prime.{Prime}
 use Rattle.monomial.specs.TotalOrder.{TotalOrder}
-use Rattle.polynomial.specs.Terms.{Term, total, coefAt, Canonical}
+use Rattle.polynomial.specs.Terms.{Term, total}
 use Rattle.polynomial.proofs.CoefLaws.{total-nil, canonical-unique}
 use Rattle.geobucket.specs.Buckets.{empty, held, totalIn, add, fullSum}
-use Rattle.geobucket.specs.Search.{Lead, none, lead, search}
 use Rattle.geobucket.specs.Events.{Work, start, added, removed, left}
-use Rattle.geobucket.proofs.AddLaws.{room, adds}
+use Rattle.geobucket.proofs.AddLaws.{adds}
 use Rattle.geobucket.proofs.SearchLaws.{Canon}
 use Rattle.geobucket.proofs.EventLaws.{room-six, good-canon, start-holds, removed-holds}
 use Rattle.geobucket.proofs.LeadLaws.{sum-right}
-use Rattle.division.specs.Division.{Fit, unfit, fits, firstFit, tailMultiple, SumOf}
+use Rattle.division.specs.Division.{unfit, firstFit, tailMultiple}
 use Rattle.division.specs.Steps.{Reduction, stepsFrom, reduction}
 use Rattle.division.specs.Operations.{Operations}
 use Rattle.division.specs.Divisors.{Valid, AllOf}

@@ -1,8 +1,8 @@
 -- Demand 1 for reductions: every reduction ends, finished or with the refusal whose condition holds, and no two conditions hold at once. Assumes nothing.
 use mathlib.Core.Path.{_≡_, refl, sym, ap, ap₂, _∙_, subst}
 use mathlib.Core.Bool.{Bool, true, false}
-use mathlib.Core.List.{List, [], _∷_, _++_}
-use Prim.Native.Nat.{ℕ, zero, suc, _+_, _<_, _≤_, Ordering, Ordering·lt, Ordering·eq, Ordering·gt}
+use mathlib.Core.List.{List, []}
+use Prim.Native.Nat.{ℕ, _+_, _<_, _≤_, Ordering}
 use native.Mathlib.Decide.{decLe}
 use native.Mathlib.Omega.{arith}
 use borrow.Author.Tests.{le-leb, lt-leb}
@@ -11,9 +11,7 @@ use Rattle.residue.specs.Prime.{Prime}
 use Rattle.monomial.specs.TotalOrder.{TotalOrder}
 use Rattle.polynomial.specs.Terms.{Term, term}
 use Rattle.polynomial.proofs.MergeLaws.{Stands, less, same, more, stands, turned-gt}
-use Rattle.geobucket.specs.Buckets.{held}
-use Rattle.geobucket.specs.Search.{Lead, none, lead, search}
-use Rattle.geobucket.specs.Events.{Work, start, added, removed}
+use Rattle.geobucket.specs.Events.{Work, start, added}
 use Rattle.geobucket.specs.TrueSum.{sumAt, IsZero, IsLead}
 use Rattle.geobucket.proofs.SearchLaws.{Canon}
 use Rattle.geobucket.proofs.EventLaws.{good-canon}

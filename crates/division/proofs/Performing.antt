@@ -1,8 +1,8 @@
 -- Demand 3 for reductions, finished or stopped: what a reduction does with its geobucket is the list of events of its leads, so its comparisons are within the bound, and nothing is lost. Assumes nothing.
 use mathlib.Core.Path.{_≡_, refl, sym, ap, _∙_, subst}
-use mathlib.Core.Bool.{Bool, true, false}
+use mathlib.Core.Bool.{Bool}
 use mathlib.Core.List.{List, [], _∷_, _++_, append-nil, append-assoc}
-use Prim.Native.Nat.{ℕ, zero, suc, _+_, _%_, _<_, _≤_, Ordering}
+use Prim.Native.Nat.{ℕ, _+_, _%_, _<_, _≤_, Ordering}
 use native.Mathlib.Omega.{arith}
 use borrow.Author.Tests.{le-leb, lt-leb}
 use lib.ListN.{length}
@@ -10,7 +10,7 @@ use Rattle.residue.specs.Prime.{Prime}
 use Rattle.monomial.specs.TotalOrder.{TotalOrder}
 use Rattle.polynomial.specs.Terms.{Term, total, Canonical}
 use Rattle.geobucket.specs.Buckets.{held, totalIn}
-use Rattle.geobucket.specs.Events.{Event, addition, removal, finding, Work, start, added, removed, left, perform, Polynomials, bound}
+use Rattle.geobucket.specs.Events.{Event, addition, removal, Work, start, added, removed, left, perform, Polynomials, bound}
 use Rattle.geobucket.proofs.EventLaws.{events-bound, events-kept}
 use Rattle.division.specs.Division.{Fit, unfit, fits, firstFit, tailMultiple}
 use Rattle.division.specs.Steps.{Reduction, stepsFrom, reduction}
@@ -19,7 +19,7 @@ use Rattle.division.specs.Divisors.{Valid, AllOf}
 use Rattle.division.specs.Demanded.{eventsBy, eventsOf, reductionEvents}
 use Rattle.division.proofs.StateLaws.{State, start-state, removed-given, step-adds, step-length}
 use Rattle.division.proofs.StepsAlong.{steps-along}
-use Rattle.division.proofs.Endings.{by-first, begins, begins-not}
+use Rattle.division.proofs.Endings.{by-first}
 
 -- ---- one event more in front
 module _ {A : Type 0} (cmp : A → A → Ordering) (p : ℕ) where

@@ -1,8 +1,7 @@
 -- The theorems on reductions of words, whose polynomials have passed the opening checks: how they end, what they leave, their leads, and their comparisons. Assumes nothing.
-use mathlib.Core.Path.{_≡_, refl, sym, ap, _∙_, subst}
-use mathlib.Core.Bool.{Bool, true, false}
-use mathlib.Core.List.{List, [], _∷_, _++_, map, append-nil}
-use Prim.Native.Nat.{ℕ, zero, suc, _+_, _-_, _*_, _%_, _^_, _<_, _≤_, Ordering}
+use mathlib.Core.Path.{_≡_, refl, subst}
+use mathlib.Core.List.{List, [], _++_, map, append-nil}
+use Prim.Native.Nat.{ℕ, _+_, _-_, _%_, _^_, _<_, _≤_, Ordering}
 use native.Mathlib.Omega.{arith}
 use lib.ListN.{length}
 use Rattle.residue.specs.Prime.{Prime}
@@ -22,7 +21,6 @@ use Rattle.division.specs.Ending.{Ending}
 use Rattle.division.specs.InExponents.{inExponents}
 use Rattle.division.specs.Demanded.{reductionEvents}
 use Rattle.division.specs.Combination.{Combination, LeadsOf}
-use Rattle.division.proofs.TailLaws.{DividedStep}
 use Rattle.division.proofs.DivisionLaws.{division-unique}
 use Rattle.division.proofs.WordOperations.{word-operations, words-agree, valid-exponents, all-exponents}
 use Rattle.division.proofs.ExponentOperations.{exponent-operations}

@@ -1,13 +1,13 @@
 -- A reduction against the division of the same polynomial: where that has n steps and the remainder r, the reduction has done the first of them, and its output is the beginning of r. Assumes nothing.
-use mathlib.Core.Path.{_≡_, refl, sym, ap, _∙_, subst}
-use mathlib.Core.Bool.{Bool, true, false}
+use mathlib.Core.Path.{_≡_, sym, ap, _∙_, subst}
+use mathlib.Core.Bool.{Bool}
 use mathlib.Core.List.{List, [], _∷_, _++_}
 use Prim.Native.Nat.{ℕ, zero, suc, _+_, _<_, _≤_, Ordering}
 use native.Mathlib.Omega.{arith}
 use lib.ListN.{length}
 use Rattle.residue.specs.Prime.{Prime}
 use Rattle.monomial.specs.TotalOrder.{TotalOrder}
-use Rattle.polynomial.specs.Terms.{Term, coefAt}
+use Rattle.polynomial.specs.Terms.{Term}
 use Rattle.geobucket.specs.Buckets.{fullSum}
 use Rattle.geobucket.specs.Events.{Work, start, added, removed, left}
 use Rattle.geobucket.proofs.SearchLaws.{Canon}
@@ -19,7 +19,7 @@ use Rattle.division.specs.Divisors.{Valid, AllOf}
 use Rattle.division.proofs.DivisionLaws.{sum-unique, division-unique}
 use Rattle.division.proofs.StateLaws.{State, step-adds, step-length}
 use Rattle.division.proofs.StepsAlong.{steps-along}
-use Rattle.division.proofs.WholeLaws.{whole-left, whole-none, whole-lead, whole-added}
+use Rattle.division.proofs.WholeLaws.{whole-left, whole-lead, whole-added}
 use Rattle.division.proofs.AnyDivision.{division-kept, division-divided}
 use Rattle.division.proofs.Endings.{begins}
 use Rattle.division.proofs.Dividing.{whole-first, begun, reduction-follows}

@@ -1,8 +1,8 @@
 -- A division with the monomials named anew is a division, where the names agree with comparison, divisibility, quotient and product. Assumes nothing.
 use mathlib.Core.Path.{_≡_, refl, sym, ap, ap₂, _∙_, subst}
 use mathlib.Core.Bool.{Bool, true, false}
-use mathlib.Core.List.{List, [], _∷_, _++_, map}
-use Prim.Native.Nat.{ℕ, zero, suc, _+_, _*_, _%_, _<_, Ordering, Ordering·lt, Ordering·eq, Ordering·gt}
+use mathlib.Core.List.{List, [], _∷_, map}
+use Prim.Native.Nat.{ℕ, zero, suc, _+_, _*_, _%_, Ordering}
 use native.Mathlib.Omega.{arith}
 use Rattle.residue.specs.Prime.{Prime}
 use Rattle.residue.specs.Modular.{product, negative, inverseOf}
@@ -12,7 +12,7 @@ use Rattle.polynomial.specs.Merge.{keep, merge}
 use Rattle.polynomial.specs.Multiple.{multiple}
 use Rattle.polynomial.proofs.MergeLaws.{along, merge-less, merge-same, merge-more, merge-nil, merge-all}
 use Rattle.polynomial.proofs.CoefLaws.{total-merge}
-use Rattle.division.specs.Division.{Fit, unfit, fits, firstFit, tailMultiple, SumOf, Division}
+use Rattle.division.specs.Division.{Fit, unfit, fits, firstFit, tailMultiple, Division}
 use Rattle.division.specs.Operations.{Operations}
 use Rattle.division.specs.Divisors.{Valid, AllOf}
 use Rattle.division.specs.InExponents.{renamed}

@@ -1,19 +1,19 @@
 -- The multiple of a divisor's tail that a step adds: it is canonical, of monomials that are meant, and all below the lead. Assumes nothing.
-use mathlib.Core.Path.{_≡_, refl, sym, ap, _∙_, subst}
+use mathlib.Core.Path.{_≡_, refl, sym, _∙_, subst}
 use mathlib.Core.Bool.{Bool, true, false, _||_}
 use mathlib.Core.List.{List, [], _∷_}
 use mathlib.Core.Logic.{⊎-elim}
-use Prim.Native.Nat.{ℕ, _-_, _*_, _%_, _<_, _≤_, Ordering, Ordering·gt}
+use Prim.Native.Nat.{ℕ, _-_, _*_, _%_, _<_, Ordering}
 use native.Mathlib.Nat.{mod-lt, mod-eq-of-lt, pos-of-ne-zero}
 use native.Mathlib.Omega.{arith}
 use Rattle.residue.specs.Prime.{Prime}
 use Rattle.residue.specs.Modular.{product, negative, inverseOf}
 use Rattle.residue.proofs.Modular.{negative-rest}
 use Rattle.residue.proofs.Inverses.{inverse-below, inverse-positive, zero-product}
-use Rattle.polynomial.specs.Terms.{Term, term, All, Under, Canonical}
+use Rattle.polynomial.specs.Terms.{Term, All, Under, Canonical}
 use Rattle.polynomial.specs.Multiple.{multiple}
 use Rattle.polynomial.proofs.MultipleLaws.{multiple-reduced, multiple-falling, multiple-under}
-use Rattle.division.specs.Division.{Fit, fits, firstFit, tailMultiple, SumOf}
+use Rattle.division.specs.Division.{fits, firstFit, tailMultiple, SumOf}
 use Rattle.division.specs.Steps.{anyTooLarge}
 use Rattle.division.specs.Operations.{Operations}
 use Rattle.division.specs.Divisors.{Valid}

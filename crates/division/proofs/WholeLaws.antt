@@ -8,9 +8,9 @@ use native.Mathlib.Omega.{arith}
 use lib.ListN.{length}
 use Rattle.residue.proofs.Remainder.{add-both}
 use Rattle.monomial.specs.TotalOrder.{TotalOrder}
-use Rattle.polynomial.specs.Terms.{Term, here, total, coefAt, Under, Canonical}
+use Rattle.polynomial.specs.Terms.{Term, here, total, Under, Canonical}
 use Rattle.polynomial.proofs.CoefLaws.{total-nil, total-cons, canonical-unique}
-use Rattle.geobucket.specs.Buckets.{empty, held, Good, totalIn, add, fullSum}
+use Rattle.geobucket.specs.Buckets.{held, Good, totalIn, add, fullSum}
 use Rattle.geobucket.specs.Search.{Lead, none, lead, search, putBack, withLead}
 use Rattle.geobucket.specs.TrueSum.{sumAt, IsZero, IsLead}
 use Rattle.geobucket.proofs.AddLaws.{room, adds}

@@ -8,7 +8,7 @@ use Rattle.polynomial.specs.Terms.{Term}
 use Rattle.geobucket.specs.Buckets.{held}
 use Rattle.geobucket.specs.Events.{start}
 use Rattle.geobucket.specs.TrueSum.{IsZero, IsLead}
-use Rattle.division.specs.Division.{Fit, unfit, fits, firstFit}
+use Rattle.division.specs.Division.{unfit, fits, firstFit}
 use Rattle.division.specs.Steps.{Reduction, anyTooLarge}
 
 module _ {A : Type 0} (cmp : A → A → Ordering) (divides : A → A → Bool) (quotient : A → A → A) (tooLarge : A → A → Bool) (p : ℕ) (gs : List (List (Term A))) (places limit : ℕ) where
