@@ -137,12 +137,12 @@ module _ {A : Type 0} (cmp : A → A → Ordering) (O : TotalOrder A cmp) (divid
         })
 
     module _ (limit : ℕ) (f : List (Term A)) (v : Valid cmp p Is f) where
-      abbrev x : Reduction A
-      x = reduction cmp divides quotient _·_ tooLarge p gs places limit f
+      abbrev pub reduced : Reduction A
+      reduced = reduction cmp divides quotient _·_ tooLarge p gs places limit f
 
       -- what the buckets hold at the end, divided further, gives the remainder of f with the terms that are there already, the steps with the leads removed, and the leads themselves
-      pub reduction-follows : length f ≤ 4096 → (k : ℕ) (s ks : List (Term A)) → R k (fullSum cmp p (reduction cmp divides quotient _·_ tooLarge p gs places limit f .work .buckets)) s ks
-          → R (reduction cmp divides quotient _·_ tooLarge p gs places limit f .leads + k) f (reduction cmp divides quotient _·_ tooLarge p gs places limit f .remainder ++ s) (reduction cmp divides quotient _·_ tooLarge p gs places limit f .work .given ++ ks)
+      pub reduction-follows : length f ≤ 4096 → (k : ℕ) (s ks : List (Term A)) → R k (fullSum cmp p (reduced .work .buckets)) s ks
+          → R (reduced .leads + k) f (reduced .remainder ++ s) (reduced .work .given ++ ks)
       reduction-follows h =
           subst (λ (y : Reduction A). (k : ℕ) (s ks : List (Term A)) → R k (fullSum cmp p (y .work .buckets)) s ks → R (y .leads + k) f (y .remainder ++ s) (y .work .given ++ ks))
           (sym (begins cmp divides quotient _·_ tooLarge p gs places limit f h))
@@ -155,18 +155,18 @@ module _ {A : Type 0} (cmp : A → A → Ordering) (O : TotalOrder A cmp) (divid
           (subst (λ (r : List (Term A)). R (q .steps) f (q .terms ++ s) (r ++ ks)) (sym (q .gone-are))
           (subst (λ (g : List (Term A)). R (q .steps) g (q .terms ++ s) (q .gone ++ ks)) (whole-first f v h) (q .related)))))
 
-      finished-few : reduction cmp divides quotient _·_ tooLarge p gs places limit f .stop ≡ 0 → length f ≤ 4096
+      finished-few : reduced .stop ≡ 0 → length f ≤ 4096
       finished-few z =
           let few : length f < 4097 = lt-of-not-le (λ k. let e : _≡_ {A = ℕ} 11 0 = sym (ap (λ (y : Reduction A). y .stop) (begins-not cmp divides quotient _·_ tooLarge p gs places limit f (omega arith))) ∙ z in let q : ⊥ = omega arith in q) in
           omega arith
 
       -- a finished reduction has the remainder, the steps and the leads
-      pub finished-follows : R 0 [] [] [] → reduction cmp divides quotient _·_ tooLarge p gs places limit f .stop ≡ 0 → R (reduction cmp divides quotient _·_ tooLarge p gs places limit f .leads) f (reduction cmp divides quotient _·_ tooLarge p gs places limit f .remainder) (reduction cmp divides quotient _·_ tooLarge p gs places limit f .work .given)
+      pub finished-follows : R 0 [] [] [] → reduced .stop ≡ 0 → R (reduced .leads) f (reduced .remainder) (reduced .work .given)
       finished-follows nothing z =
           let h = finished-few z in
           let b = begins cmp divides quotient _·_ tooLarge p gs places limit f h in
-          let e : fullSum cmp p (x .work .buckets) ≡ [] = subst (λ (y : Reduction A). fullSum cmp p (y .work .buckets) ≡ []) (sym b) (finished-none limit 0 [] (added cmp p f start) (begun f v h) (sym (ap (λ (y : Reduction A). y .stop) b) ∙ z)) in
+          let e : fullSum cmp p (reduced .work .buckets) ≡ [] = subst (λ (y : Reduction A). fullSum cmp p (y .work .buckets) ≡ []) (sym b) (finished-none limit 0 [] (added cmp p f start) (begun f v h) (sym (ap (λ (y : Reduction A). y .stop) b) ∙ z)) in
           let d = reduction-follows h 0 [] [] (subst (λ (g : List (Term A)). R 0 g [] []) (sym e) nothing) in
-          subst (λ (n : ℕ). R n f (x .remainder) (x .work .given)) (let i : x .leads + 0 ≡ x .leads = omega arith in i)
-          (subst (λ (l : List (Term A)). R (x .leads + 0) f (x .remainder) l) (append-nil (x .work .given))
-          (subst (λ (r : List (Term A)). R (x .leads + 0) f r (x .work .given ++ [])) (append-nil (x .remainder)) d))
+          subst (λ (n : ℕ). R n f (reduced .remainder) (reduced .work .given)) (let i : reduced .leads + 0 ≡ reduced .leads = omega arith in i)
+          (subst (λ (l : List (Term A)). R (reduced .leads + 0) f (reduced .remainder) l) (append-nil (reduced .work .given))
+          (subst (λ (r : List (Term A)). R (reduced .leads + 0) f r (reduced .work .given ++ [])) (append-nil (reduced .remainder)) d))

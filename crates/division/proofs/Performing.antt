@@ -95,14 +95,14 @@ module _ {A : Type 0} (cmp : A → A → Ordering) (O : TotalOrder A cmp) (divid
       })
 
   module _ (limit : ℕ) (f : List (Term A)) (v : Valid cmp p Is f) where
-    abbrev x : Reduction A
-    x = reduction cmp divides quotient _·_ tooLarge p gs places limit f
+    abbrev pub reduced : Reduction A
+    reduced = reduction cmp divides quotient _·_ tooLarge p gs places limit f
 
     begun : (h : length f ≤ 4096) → Done (added cmp p f start) (stepsFrom cmp divides quotient _·_ tooLarge p gs places limit 0 [] (added cmp p f start) .work)
     begun h = steps-perform limit 0 [] (added cmp p f start) (start-state cmp O divides quotient _·_ tooLarge Is ops p prime gs divisors places f (v .canonical) (v .are) h)
 
     -- each polynomial that is added is canonical
-    pub events-canonical : Polynomials cmp p (reductionEvents divides quotient _·_ p gs f (reduction cmp divides quotient _·_ tooLarge p gs places limit f .work .given))
+    pub events-canonical : Polynomials cmp p (reductionEvents divides quotient _·_ p gs f (reduced .work .given))
     unfolding Polynomials eventsOf
     events-canonical =
         by-first cmp divides quotient _·_ tooLarge p gs places limit f (λ y. Polynomials cmp p (reductionEvents divides quotient _·_ p gs f (y .work .given)))
@@ -110,7 +110,7 @@ module _ {A : Type 0} (cmp : A → A → Ordering) (O : TotalOrder A cmp) (divid
         (λ h. let d = begun h in (v .canonical, subst (λ (l : List (Term A)). Polynomials cmp p (eventsOf divides quotient _·_ p gs l)) (sym (d .given-is)) (d .performs .polynomials)))
 
     -- what the reduction does with its geobucket are the events of its leads, from the empty one
-    pub reduction-performs : reduction cmp divides quotient _·_ tooLarge p gs places limit f .work ≡ perform cmp p (reductionEvents divides quotient _·_ p gs f (reduction cmp divides quotient _·_ tooLarge p gs places limit f .work .given)) start
+    pub reduction-performs : reduced .work ≡ perform cmp p (reductionEvents divides quotient _·_ p gs f (reduced .work .given)) start
     unfolding held
     reduction-performs =
         by-first cmp divides quotient _·_ tooLarge p gs places limit f (λ y. y .work ≡ perform cmp p (reductionEvents divides quotient _·_ p gs f (y .work .given)) start)
@@ -120,9 +120,9 @@ module _ {A : Type 0} (cmp : A → A → Ordering) (O : TotalOrder A cmp) (divid
         perform-added cmp p f _ start _ (omega arith) (subst (λ (l : List (Term A)). stepsFrom cmp divides quotient _·_ tooLarge p gs places limit 0 [] (added cmp p f start) .work ≡ perform cmp p (eventsOf divides quotient _·_ p gs l) (added cmp p f start)) (sym (d .given-is)) (d .performs .work-is)))
 
     -- "They are at most 6·N·M"
-    pub reduction-bound : length (reduction cmp divides quotient _·_ tooLarge p gs places limit f .work .pairs) ≤ bound (length (reduction cmp divides quotient _·_ tooLarge p gs places limit f .work .brought))
-    reduction-bound = subst (λ (w : Work A). length (w .pairs) ≤ bound (length (w .brought))) (sym reduction-performs) (events-bound cmp p O pos (reductionEvents divides quotient _·_ p gs f (x .work .given)) events-canonical)
+    pub reduction-bound : length (reduced .work .pairs) ≤ bound (length (reduced .work .brought))
+    reduction-bound = subst (λ (w : Work A). length (w .pairs) ≤ bound (length (w .brought))) (sym reduction-performs) (events-bound cmp p O pos (reductionEvents divides quotient _·_ p gs f (reduced .work .given)) events-canonical)
 
     -- "as polynomials modulo p, terms given out + terms still held = terms brought in"
-    pub reduction-kept : (m : A) → (total cmp m (reduction cmp divides quotient _·_ tooLarge p gs places limit f .work .given) + totalIn cmp m (reduction cmp divides quotient _·_ tooLarge p gs places limit f .work .buckets)) % p ≡ total cmp m (reduction cmp divides quotient _·_ tooLarge p gs places limit f .work .brought) % p
-    reduction-kept m = subst (λ (w : Work A). (total cmp m (w .given) + totalIn cmp m (w .buckets)) % p ≡ total cmp m (w .brought) % p) (sym reduction-performs) (events-kept cmp p O pos (reductionEvents divides quotient _·_ p gs f (x .work .given)) events-canonical m)
+    pub reduction-kept : (m : A) → (total cmp m (reduced .work .given) + totalIn cmp m (reduced .work .buckets)) % p ≡ total cmp m (reduced .work .brought) % p
+    reduction-kept m = subst (λ (w : Work A). (total cmp m (w .given) + totalIn cmp m (w .buckets)) % p ≡ total cmp m (w .brought) % p) (sym reduction-performs) (events-kept cmp p O pos (reductionEvents divides quotient _·_ p gs f (reduced .work .given)) events-canonical m)

@@ -96,30 +96,30 @@ module _ {A : Type 0} (cmp : A → A → Ordering) (O : TotalOrder A cmp) (divid
       (λ more leads r w at t g tail x s e u b h k z. let c = k z in record { all-removed = omega (arith, c .all-removed); first = c .first; after = c .after; some-left = c .some-left })
 
   module _ (limit : ℕ) (f : List (Term A)) (v : Valid cmp p Is f) (few : length f ≤ 4096) (n : ℕ) (r : List (Term A)) (d : Division cmp divides quotient _·_ p gs n f r) where
-    abbrev x : Reduction A
-    x = reduction cmp divides quotient _·_ tooLarge p gs places limit f
+    abbrev pub reduced : Reduction A
+    reduced = reduction cmp divides quotient _·_ tooLarge p gs places limit f
 
     -- what the reduction leaves of a division: the steps that it has not done, and the end of the remainder
     pub record Left : Type 0 where
       pub steps : ℕ
       pub terms : List (Term A)
-      pub divided : Division cmp divides quotient _·_ p gs steps (fullSum cmp p (reduction cmp divides quotient _·_ tooLarge p gs places limit f .work .buckets)) terms
-      pub steps-are : n ≡ reduction cmp divides quotient _·_ tooLarge p gs places limit f .leads + steps
-      pub terms-are : r ≡ reduction cmp divides quotient _·_ tooLarge p gs places limit f .remainder ++ terms
+      pub divided : Division cmp divides quotient _·_ p gs steps (fullSum cmp p (reduced .work .buckets)) terms
+      pub steps-are : n ≡ reduced .leads + steps
+      pub terms-are : r ≡ reduced .remainder ++ terms
 
     pub reduction-leaves : Left
     reduction-leaves =
         let (k, s, c) = subst (λ (y : Reduction A). Divisible (fullSum cmp p (y .work .buckets))) (sym (begins cmp divides quotient _·_ tooLarge p gs places limit f few)) (steps-remain limit 0 [] (added cmp p f start) (begun cmp O divides quotient _·_ tooLarge Is ops p prime gs divisors places f v few) (n, r, subst (λ (g : List (Term A)). Division cmp divides quotient _·_ p gs n g r) (sym (whole-first cmp O divides quotient _·_ tooLarge Is ops p prime gs divisors places f v few)) d)) in
         let whole = reduction-follows cmp O divides quotient _·_ tooLarge Is ops p prime gs divisors places (λ i g u ls. Division cmp divides quotient _·_ p gs i g u) (λ i t ts u ks q e y. division-kept cmp divides quotient _·_ p gs i t ts u e y) (λ i t ts u ks g tail h a y. division-divided cmp divides quotient _·_ p gs i t ts u g tail h (a .fit) (a .sum) y) limit f v few k s [] c in
-        let same = division-unique cmp O divides quotient _·_ p pos gs n (x .leads + k) f r (x .remainder ++ s) d whole in
+        let same = division-unique cmp O divides quotient _·_ p pos gs n (reduced .leads + k) f r (reduced .remainder ++ s) d whole in
         record { steps = k; terms = s; divided = c; steps-are = same .0; terms-are = same .1 }
 
     -- 13 means that the division takes more steps than the limit
-    pub limit-short : reduction cmp divides quotient _·_ tooLarge p gs places limit f .stop ≡ 13 → limit < n
+    pub limit-short : reduced .stop ≡ 13 → limit < n
     unfolding Division
     limit-short z =
         let b = begins cmp divides quotient _·_ tooLarge p gs places limit f few in
-        let c : Short limit x = subst (λ (y : Reduction A). y .stop ≡ 13 → Short limit y) (sym b) (λ q. subst (λ (i : ℕ). Short i (stepsFrom cmp divides quotient _·_ tooLarge p gs places limit 0 [] (added cmp p f start))) (let e : 0 + limit ≡ limit = omega arith in e) (steps-short limit 0 [] (added cmp p f start) (begun cmp O divides quotient _·_ tooLarge Is ops p prime gs divisors places f v few) q)) z in
+        let c : Short limit reduced = subst (λ (y : Reduction A). y .stop ≡ 13 → Short limit y) (sym b) (λ q. subst (λ (i : ℕ). Short i (stepsFrom cmp divides quotient _·_ tooLarge p gs places limit 0 [] (added cmp p f start))) (let e : 0 + limit ≡ limit = omega arith in e) (steps-short limit 0 [] (added cmp p f start) (begun cmp O divides quotient _·_ tooLarge Is ops p prime gs divisors places f v few) q)) z in
         let l = reduction-leaves in
         let k = some-steps (l .steps) (c .first) (c .after) (l .terms) (subst (λ (g : List (Term A)). Division cmp divides quotient _·_ p gs (l .steps) g (l .terms)) (c .some-left) (l .divided)) in
         omega (arith, c .all-removed, l .steps-are)

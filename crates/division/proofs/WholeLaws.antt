@@ -66,6 +66,9 @@ module _ {A : Type 0} (cmp : A → A → Ordering) (p : ℕ) where
           let z : IsZero cmp p bs = subst (Right cmp p bs) e (lead-right cmp p O pos bs canon) in
           canonical-unique cmp O p pos _ _ (b .0) nil-canonical (λ m. b .1 m ∙ (z .zero-at m ∙ sym (ap (λ (n : ℕ). n % p) (total-nil cmp m) ∙ zero-mod p)))
 
+      pub left-none : search cmp p bs .answer ≡ none → held (withLead (search cmp p bs .answer) (search cmp p bs .buckets)) ≡ 0
+      left-none e = ap (λ (x : Lead A). held (withLead x cs)) e ∙ subst (λ (x : Lead A). Leads cmp p x cs) e (finds cmp p O pos bs canon .leads)
+
       -- ---- a lead is found
       module _ (at : ℕ) (t : Term A) (e : search cmp p bs .answer ≡ lead at t) where
         leads : (0 < t .coef) × (t .coef < p) × Above cmp p (t .mono) (search cmp p bs .buckets)

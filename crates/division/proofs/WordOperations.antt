@@ -32,6 +32,10 @@ module _ (o : Order) (n : ℕ) (few : n ≤ 6) where
   fitting : (a b : ℕ) → Layout o n a → Layout o n b → overWord a b ≡ false → below 128 (product (exponents o n a) (exponents o n b)) ≡ true
   fitting a b la lb h = sym (product-test o n a b few la lb) ∙ not-false (below 128 (product (bytes 6 a) (bytes 6 b))) h
 
+  -- a product of words is over where one of exponents is
+  pub over-exponents : (a b : ℕ) → Layout o n a → Layout o n b → overWord a b ≡ not (below 128 (product (exponents o n a) (exponents o n b)))
+  over-exponents a b la lb = ap not (product-test o n a b few la lb)
+
   word-quotient : (a b : ℕ) → Layout o n a → Layout o n b → dividesWord b a ≡ true → Layout o n (a - b)
   word-quotient a b la lb d = quotient-layout o n a b few la lb (by-exponents a b la lb d)
 
