@@ -48,11 +48,15 @@ module _ (o : Order) (n : ℕ) (few : n ≤ 6) (p : ℕ) (prime : Prime p) (gs :
   pos = omega (arith, prime .above)
 
   -- ---- Demand 1: "a result, or a numbered refusal under its stated condition and no other". It bars a reduction that stops with 13 before the limit's leads are removed.
-  pub demand-1-ending : Ending cmp dividesWord _-_ overWord p gs places limit (reduced .stop) f (reduced)
+  pub demand-1-ending : Ending cmp dividesWord _-_ overWord p gs places limit (reduced .stop) f reduced
   demand-1-ending = ending cmp (words-order o) dividesWord _-_ _+_ overWord Is (word-operations o n few) p prime gs divisors places limit f valid
 
-  pub demand-1-only : (k : ℕ) → Ending cmp dividesWord _-_ overWord p gs places limit k f (reduced) → reduced .stop ≡ k
+  pub demand-1-only : (k : ℕ) → Ending cmp dividesWord _-_ overWord p gs places limit k f reduced → reduced .stop ≡ k
   demand-1-only k e = ending-only cmp (words-order o) dividesWord _-_ _+_ overWord Is (word-operations o n few) p prime gs divisors places limit f valid k e
+
+  -- 13 means that the division takes more steps than the limit
+  pub demand-1-short : length f ≤ 4096 → (k : ℕ) (s : List (Term ℕ)) → Division cmp dividesWord _-_ _+_ p gs k f s → reduced .stop ≡ 13 → limit < k
+  demand-1-short h k s d z = limit-short cmp (words-order o) dividesWord _-_ _+_ overWord Is (word-operations o n few) p prime gs divisors places limit f valid h k s d z
 
   -- ---- Demand 2: "A finished remainder is that of the division algorithm in its stated divisor order", and the leads removed are its steps
   pub demand-2-division : reduced .stop ≡ 0 → Division cmp dividesWord _-_ _+_ p gs (reduced .leads) f (reduced .remainder)
@@ -69,10 +73,6 @@ module _ (o : Order) (n : ℕ) (few : n ≤ 6) (p : ℕ) (prime : Prime p) (gs :
   -- Where f is divided in k steps to s, a reduction, finished or stopped, has done the first of them, and its remainder so far is the beginning of s.
   pub demand-2-leaves : length f ≤ 4096 → (k : ℕ) (s : List (Term ℕ)) → Division cmp dividesWord _-_ _+_ p gs k f s → (i : ℕ) × (u : List (Term ℕ)) × (k ≡ reduced .leads + i) × (s ≡ reduced .remainder ++ u)
   demand-2-leaves h k s d = let l = reduction-leaves cmp (words-order o) dividesWord _-_ _+_ overWord Is (word-operations o n few) p prime gs divisors places limit f valid h k s d in (l .steps, l .terms, l .steps-are, l .terms-are)
-
-  -- 13 means that the division takes more steps than the limit
-  pub demand-1-short : length f ≤ 4096 → (k : ℕ) (s : List (Term ℕ)) → Division cmp dividesWord _-_ _+_ p gs k f s → reduced .stop ≡ 13 → limit < k
-  demand-1-short h k s d z = limit-short cmp (words-order o) dividesWord _-_ _+_ overWord Is (word-operations o n few) p prime gs divisors places limit f valid h k s d z
 
   -- what a stopped reduction leaves, divided further, gives the remainder and the steps of f
   pub demand-2-stopped : length f ≤ 4096 → (k : ℕ) (s : List (Term ℕ)) → Division cmp dividesWord _-_ _+_ p gs k (fullSum cmp p (reduced .work .buckets)) s
@@ -111,7 +111,7 @@ module _ (o : Order) (n : ℕ) (few : n ≤ 6) (p : ℕ) (prime : Prime p) (gs :
   demand-2-exponents-sum z = division-combines (compareIn o) divides quotient product p (map (inExponents o n) gs) (exponents-order o) (λ α. length α ≡ n) (exponent-operations o n) prime (all-exponents o n few p gs divisors) (reduced .leads) (inExponents o n f) (inExponents o n (reduced .remainder)) (valid-exponents o n few p f valid) (demand-2-exponents z)
 
   -- what holds of the last state, finished or stopped
-  pub last-state : Last cmp p Is dividesWord gs places limit (reduced)
+  pub last-state : Last cmp p Is dividesWord gs places limit reduced
   last-state = last cmp (words-order o) dividesWord _-_ _+_ overWord Is (word-operations o n few) p prime gs divisors places limit f valid
 
   -- the remainder so far is canonical, and no term of it is divisible by a divisor's lead
