@@ -13,7 +13,9 @@ use Rattle.monomial.specs.Words.{compareWords, Packed, dividesWord}
 use Rattle.monomial.proofs.OrderLaws.{words-order}
 use Rattle.monomial.proofs.LayoutLaws.{layout-packed}
 use Rattle.polynomial.specs.Terms.{Term, All}
+use Rattle.polynomial.specs.Opening.{refusalOf}
 use Rattle.polynomial.proofs.MergeLaws.{all-map}
+use Rattle.polynomial.proofs.OpeningLaws.{passes}
 use Rattle.geobucket.specs.Buckets.{held}
 use Rattle.geobucket.specs.Search.{lead, search}
 use Rattle.geobucket.specs.Events.{Work, start, added, removed}
@@ -25,6 +27,10 @@ use Rattle.division.proofs.FitLaws.{fits-says}
 use Rattle.division.proofs.WordOperations.{word-operations}
 use Rattle.division.proofs.StateLaws.{Found, State, start-state, found, kept-state, step-adds, divided-state}
 use Rattle.division.proofs.Lasts.{state-pairs, search-pairs}
+
+-- a polynomial that the opening check passes
+pub word-valid : (o : Order) (n p : ℕ) (f : List (Term ℕ)) → refusalOf o n p f ≡ 0 → Valid (compareWords o) p (λ w. Layout o n w) f
+word-valid o n p f e = let a = passes o n p f e in record { canonical = a .0; are = a .1 }
 
 module _ (o : Order) (n : ℕ) (few : n ≤ 6) (p : ℕ) (prime : Prime p) (gs : List (List (Term ℕ))) (divisors : AllOf (Valid (compareWords o) p (λ w. Layout o n w)) gs) (places : ℕ) where
   abbrev Is : ℕ → Type 0
