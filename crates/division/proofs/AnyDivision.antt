@@ -1,21 +1,21 @@
 -- Theorems on every division, apart from any algorithm: the polynomial is the remainder and a sum of multiples of divisors, no term of the remainder is divisible, and the leads fall strictly. They ask for operations under which no product is too large. Assumes nothing.
-use mathlib.Core.Path.{_≡_, refl, sym, ap, _∙_, subst}
-use mathlib.Core.Bool.{Bool, true, false}
-use mathlib.Core.List.{List, [], _∷_, _++_}
-use Prim.Native.Nat.{ℕ, zero, suc, _+_, _%_, _<_, _≤_, Ordering, Ordering·gt}
-use native.Mathlib.Nat.{mod-add-mod, add-mod-mod}
+use mathlib.Core.Path.{_≡_, refl, sym, _∙_, subst}
+use mathlib.Core.Bool.{Bool, false}
+use mathlib.Core.List.{List, [], _∷_}
+use Prim.Native.Nat.{ℕ, zero, suc, _<_, Ordering}
 use native.Mathlib.Omega.{arith}
 use Rattle.residue.specs.Prime.{Prime}
 use Rattle.monomial.specs.TotalOrder.{TotalOrder}
-use Rattle.polynomial.specs.Terms.{Term, All, Under, Falling, total, coefAt, Canonical}
+use Rattle.polynomial.specs.Terms.{Term, All, Under, Falling}
 use Rattle.polynomial.specs.Merge.{merge}
-use Rattle.polynomial.proofs.MergeLaws.{merge-all, merge-under, merge-canonical, under-more}
-use Rattle.polynomial.proofs.CoefLaws.{total-merge, canonical-unique, canonical-tail}
+use Rattle.polynomial.proofs.MergeLaws.{merge-all, merge-under, under-more}
+use Rattle.polynomial.proofs.CoefLaws.{canonical-tail}
 use Rattle.division.specs.Division.{Fit, unfit, fits, firstFit, tailMultiple, StepBy, SumOf, Division}
 use Rattle.division.specs.Steps.{anyTooLarge}
 use Rattle.division.specs.Operations.{Operations}
 use Rattle.division.specs.Divisors.{Valid, AllOf, Among, Undivided}
 use Rattle.division.specs.Combination.{Combination, AfterBy, LeadsOf}
+use Rattle.division.proofs.DivisionLaws.{sum-merge}
 use Rattle.division.proofs.TailLaws.{Added, DividedStep, tail-added}
 use Rattle.division.proofs.FitLaws.{fits-says, unfit-says, all-among}
 use Rattle.division.proofs.Combining.{combination-none, combination-kept, combination-divided}
@@ -79,16 +79,12 @@ module _ {A : Type 0} (cmp : A → A → Ordering) (divides : A → A → Bool) 
     none-large q [] = refl
     none-large q (t ∷ ts) = none-large q ts
 
-    -- a sum of canonical lists is their merge
-    sum-merge : (f g h : List (Term A)) → Canonical cmp p f → Canonical cmp p g → SumOf cmp divides quotient _·_ p gs f g h → h ≡ merge cmp p f g
-    sum-merge f g h a b s = canonical-unique cmp O p pos h (merge cmp p f g) (s .canonical) (merge-canonical cmp O p pos f g a b) (λ m. s .coefficients m ∙ sym (total-merge cmp O p m f g))
-
     valid-tail : (t : Term A) (ts : List (Term A)) → Valid cmp p Is (t ∷ ts) → Valid cmp p Is ts
     valid-tail t ts v = record { canonical = canonical-tail cmp O p t ts (v .canonical); are = v .are .1 }
 
     module _ (t : Term A) (ts : List (Term A)) (v : Valid cmp p Is (t ∷ ts)) (g : Term A) (tail h : List (Term A)) (e : firstFit divides (t .mono) gs ≡ fits g tail) (s : SumOf cmp divides quotient _·_ p gs ts (tailMultiple quotient _·_ p t g tail) h) where
       step-of : DividedStep cmp divides quotient _·_ (λ a b. false) Is p gs t ts g tail h
-      step-of = record { is = v .are .0; not-zero = v .canonical .reduced .0 .0; small = v .canonical .reduced .0 .1; fit = e; none-large = none-large (quotient (t .mono) (g .mono)) tail; sum = s }
+      step-of = record { is = v .are .0; not-zero = v .canonical .reduced .0 .0; small = v .canonical .reduced .0 .1; rest = valid-tail t ts v; fit = e; none-large = none-large (quotient (t .mono) (g .mono)) tail; sum = s }
 
       adds : Added cmp p Is t (tailMultiple quotient _·_ p t g tail)
       adds =
@@ -96,7 +92,7 @@ module _ {A : Type 0} (cmp : A → A → Ordering) (divides : A → A → Bool) 
           tail-added cmp divides quotient _·_ (λ a b. false) Is ops p prime t g tail (v .are .0) (v .canonical .reduced .0 .0) (v .canonical .reduced .0 .1) (d .0) (d .1) (none-large (quotient (t .mono) (g .mono)) tail)
 
       merged : h ≡ merge cmp p ts (tailMultiple quotient _·_ p t g tail)
-      merged = sum-merge ts (tailMultiple quotient _·_ p t g tail) h (valid-tail t ts v .canonical) (adds .canonical) s
+      merged = sum-merge cmp O divides quotient _·_ p pos gs ts (tailMultiple quotient _·_ p t g tail) h (valid-tail t ts v .canonical) (adds .canonical) s
 
       next-valid : Valid cmp p Is h
       next-valid = record { canonical = s .canonical; are = subst (All (λ u. Is (u .mono))) (sym merged) (merge-all cmp p (λ u. Is (u .mono)) (λ x y k a b i. a) ts (tailMultiple quotient _·_ p t g tail) (v .are .1) (adds .are)) }

@@ -1,8 +1,8 @@
 -- Dividing a lead takes a multiple of a divisor off the polynomial: so a division writes it as the remainder and a sum of multiples. Assumes nothing.
-use mathlib.Core.Path.{_≡_, refl, sym, ap, ap₂, _∙_, subst}
-use mathlib.Core.Bool.{Bool, true, false}
+use mathlib.Core.Path.{_≡_, refl, sym, ap, ap₂, _∙_}
+use mathlib.Core.Bool.{Bool, true}
 use mathlib.Core.List.{List, [], _∷_, _++_, append-nil}
-use Prim.Native.Nat.{ℕ, zero, suc, _+_, _*_, _%_, _<_, _≤_, Ordering, Ordering·lt, Ordering·eq, Ordering·gt}
+use Prim.Native.Nat.{ℕ, _+_, _*_, _%_, _<_, Ordering, Ordering·lt, Ordering·eq, Ordering·gt}
 use native.Mathlib.Nat.{mod-eq-of-lt, mod-add-mod, add-mod-mod, zero-mod, zero-mul, one-mul, add-mul, mul-comm, mul-right-comm}
 use native.Mathlib.Omega.{arith}
 use Rattle.residue.specs.Prime.{Prime}
@@ -10,14 +10,13 @@ use Rattle.residue.specs.Modular.{product, negative, inverseOf}
 use Rattle.residue.proofs.Remainder.{mod-mul, mul-same, add-same, add-both}
 use Rattle.residue.proofs.Modular.{add-negative}
 use Rattle.residue.proofs.Inverses.{inverse-product}
-use Rattle.polynomial.specs.Terms.{Term, term, here, total, coefAt, Same}
+use Rattle.polynomial.specs.Terms.{Term, term, here, total, coefAt}
 use Rattle.polynomial.specs.Multiple.{multiple}
 use Rattle.polynomial.proofs.CoefLaws.{total-nil, total-cons}
 use Rattle.geobucket.proofs.EventLaws.{total-append}
-use Rattle.division.specs.Division.{Fit, unfit, fits, firstFit, tailMultiple}
 use Rattle.division.specs.Operations.{Operations}
 use Rattle.division.specs.Divisors.{Valid, AllOf, Among}
-use Rattle.division.specs.Combination.{Multiplier, AllByDivisors, combined, Combination}
+use Rattle.division.specs.Combination.{AllByDivisors, combined, Combination}
 use Rattle.division.proofs.TailLaws.{DividedStep}
 use Rattle.division.proofs.FitLaws.{fits-says, all-among}
 

@@ -1,28 +1,28 @@
 -- A reduction follows the division algorithm: what it leaves, divided further, gives the remainder, the steps and the leads of the whole; so a finished one has all of them. Stated for any relation that a step of the algorithm keeps. Assumes nothing.
 use mathlib.Core.Path.{_≡_, refl, sym, ap, _∙_, subst}
-use mathlib.Core.Bool.{Bool, true, false}
+use mathlib.Core.Bool.{Bool}
 use mathlib.Core.List.{List, [], _∷_, _++_, append-nil, append-assoc}
-use Prim.Native.Nat.{ℕ, zero, suc, _+_, _%_, _<_, _≤_, Ordering}
+use Prim.Native.Nat.{ℕ, suc, _+_, _%_, _<_, _≤_, Ordering}
 use native.Mathlib.Nat.{lt-of-not-le}
 use native.Mathlib.Omega.{arith}
 use lib.ListN.{length}
 use Rattle.residue.specs.Prime.{Prime}
 use Rattle.monomial.specs.TotalOrder.{TotalOrder}
-use Rattle.polynomial.specs.Terms.{Term, total, coefAt, Canonical}
+use Rattle.polynomial.specs.Terms.{Term, total}
 use Rattle.polynomial.proofs.CoefLaws.{total-nil, canonical-unique}
 use Rattle.geobucket.specs.Buckets.{empty, held, totalIn, add, fullSum}
-use Rattle.geobucket.specs.Search.{Lead, none, lead, search}
 use Rattle.geobucket.specs.Events.{Work, start, added, removed, left}
-use Rattle.geobucket.proofs.AddLaws.{room, adds}
+use Rattle.geobucket.proofs.AddLaws.{adds}
 use Rattle.geobucket.proofs.SearchLaws.{Canon}
 use Rattle.geobucket.proofs.EventLaws.{room-six, good-canon, start-holds, removed-holds}
 use Rattle.geobucket.proofs.LeadLaws.{sum-right}
-use Rattle.division.specs.Division.{Fit, unfit, fits, firstFit, tailMultiple, SumOf}
+use Rattle.division.specs.Division.{unfit, firstFit, tailMultiple}
 use Rattle.division.specs.Steps.{Reduction, stepsFrom, reduction}
 use Rattle.division.specs.Operations.{Operations}
 use Rattle.division.specs.Divisors.{Valid, AllOf}
 use Rattle.division.proofs.TailLaws.{DividedStep}
-use Rattle.division.proofs.StateLaws.{State, start-state, found, removed-given, step-adds, step-length}
+use Rattle.division.proofs.HeldTerms.{sum-each}
+use Rattle.division.proofs.StateLaws.{State, start-state, found, removed-are, removed-given, step-adds, step-length}
 use Rattle.division.proofs.StepsAlong.{steps-along}
 use Rattle.division.proofs.WholeLaws.{whole-left, whole-none, whole-lead, whole-added}
 use Rattle.division.proofs.Endings.{begins, begins-not}
@@ -46,10 +46,24 @@ module _ {A : Type 0} (cmp : A → A → Ordering) (O : TotalOrder A cmp) (divid
       (λ more leads r w at t g tail s e u b h z. absurd (let q : ⊥ = omega arith in q))
       (λ more leads r w at t g tail x s e u b h k z. k z)
 
+  module _ (f : List (Term A)) (v : Valid cmp p Is f) where
+    -- what the geobucket holds once polynomial 0 is added is polynomial 0
+    pub whole-first : length f ≤ 4096 → fullSum cmp p (added cmp p f start .buckets) ≡ f
+    unfolding held totalIn
+    whole-first h =
+        let g = start-holds cmp p 6 .good in
+        let a = adds cmp p O pos f empty (omega (arith, room-six {A = A} empty refl)) (v .canonical) g in
+        let b = sum-right cmp p O pos (add cmp p f empty) (good-canon cmp p 4 (add cmp p f empty) (a .good)) in
+        canonical-unique cmp O p pos _ f (b .0) (v .canonical)
+        (λ m. b .1 m ∙ (a .sums m ∙ ap (λ (n : ℕ). n % p) (let e : total cmp m f + totalIn cmp m empty ≡ total cmp m f = omega (arith, total-nil cmp m) in e)))
+
+    pub begun : length f ≤ 4096 → State cmp p Is divides gs places 0 [] (added cmp p f start)
+    begun h = start-state cmp O divides quotient _·_ tooLarge Is ops p prime gs divisors places f (v .canonical) (v .are) h
+
   -- R n f r ls: n steps divide f, leave r and remove the leads ls
   module _
       (R : (n : ℕ) → (f r ls : List (Term A)) → Type 0)
-      (kept : (n : ℕ) (t : Term A) (ts s ks : List (Term A)) → firstFit divides (t .mono) gs ≡ unfit → R n ts s ks → R (suc n) (t ∷ ts) (t ∷ s) (t ∷ ks))
+      (kept : (n : ℕ) (t : Term A) (ts s ks : List (Term A)) → Is (t .mono) → firstFit divides (t .mono) gs ≡ unfit → R n ts s ks → R (suc n) (t ∷ ts) (t ∷ s) (t ∷ ks))
       (divided : (n : ℕ) (t : Term A) (ts s ks : List (Term A)) (g : Term A) (tail h : List (Term A)) → DividedStep cmp divides quotient _·_ tooLarge Is p gs t ts g tail h → R n h s ks → R (suc n) (t ∷ ts) s (t ∷ ks)) where
     -- What x leaves is divided in k steps, to s, removing ks. Then what w holds is divided too, in the steps that x counts and those.
     record Divided (leads : ℕ) (r : List (Term A)) (w : Work A) (x : Reduction A) (k : ℕ) (s ks : List (Term A)) : Type 0 where
@@ -91,7 +105,7 @@ module _ {A : Type 0} (cmp : A → A → Ordering) (O : TotalOrder A cmp) (divid
           steps-are = omega (arith, q .steps-are);
           terms-are = q .terms-are ∙ append-assoc r (t ∷ []) (q .terms);
           gone-are = q .gone-are ∙ (ap (λ (l : List (Term A)). l ++ q .gone) (removed-given cmp O divides quotient _·_ tooLarge Is ops p prime gs divisors places s at t e) ∙ append-assoc (w .given) (t ∷ []) (q .gone));
-          related = subst (λ (f : List (Term A)). R (suc (q .steps)) f (t ∷ q .terms ++ v) (t ∷ q .gone ++ ks)) (sym (whole-lead cmp p O pos (w .buckets) (canon-of s) at t e)) (kept (q .steps) t _ (q .terms ++ v) (q .gone ++ ks) u (q .related));
+          related = subst (λ (f : List (Term A)). R (suc (q .steps)) f (t ∷ q .terms ++ v) (t ∷ q .gone ++ ks)) (sym (whole-lead cmp p O pos (w .buckets) (canon-of s) at t e)) (kept (q .steps) t _ (q .terms ++ v) (q .gone ++ ks) (found cmp O divides quotient _·_ tooLarge Is ops p prime gs divisors places s at t e .is) u (q .related));
         })
         (λ more leads r w at t g tail s e u b. stopped 12 leads r w s)
         (λ more leads r w at t g tail s e u b h. stopped 11 leads r w s)
@@ -114,6 +128,7 @@ module _ {A : Type 0} (cmp : A → A → Ordering) (O : TotalOrder A cmp) (divid
                 is = a .is;
                 not-zero = a .not-zero;
                 small = a .small;
+                rest = record { canonical = sum-right cmp p O pos (removed cmp p w .buckets) (good-canon cmp p 4 (removed cmp p w .buckets) (hold .good)) .0; are = sum-each Is cmp p [] (removed cmp p w .buckets) tt (removed-are cmp O divides quotient _·_ tooLarge Is ops p prime gs divisors places s at t e) };
                 fit = u;
                 none-large = b;
                 sum = whole-added cmp p O pos divides quotient _·_ gs (tailMultiple quotient _·_ p t g tail) (removed cmp p w .buckets) (omega (arith, room-six (removed cmp p w .buckets) (hold .six))) (c .canonical) (hold .good);
@@ -122,49 +137,36 @@ module _ {A : Type 0} (cmp : A → A → Ordering) (O : TotalOrder A cmp) (divid
         })
 
     module _ (limit : ℕ) (f : List (Term A)) (v : Valid cmp p Is f) where
-      abbrev x : Reduction A
-      x = reduction cmp divides quotient _·_ tooLarge p gs places limit f
-
-      -- what the geobucket holds once polynomial 0 is added is polynomial 0
-      whole-first : length f ≤ 4096 → fullSum cmp p (added cmp p f start .buckets) ≡ f
-      unfolding held totalIn
-      whole-first h =
-          let g = start-holds cmp p 6 .good in
-          let a = adds cmp p O pos f empty (omega (arith, room-six {A = A} empty refl)) (v .canonical) g in
-          let b = sum-right cmp p O pos (add cmp p f empty) (good-canon cmp p 4 (add cmp p f empty) (a .good)) in
-          canonical-unique cmp O p pos _ f (b .0) (v .canonical)
-          (λ m. b .1 m ∙ (a .sums m ∙ ap (λ (n : ℕ). n % p) (let e : total cmp m f + totalIn cmp m empty ≡ total cmp m f = omega (arith, total-nil cmp m) in e)))
-
-      begun : length f ≤ 4096 → State cmp p Is divides gs places 0 [] (added cmp p f start)
-      begun h = start-state cmp O divides quotient _·_ tooLarge Is ops p prime gs divisors places f (v .canonical) (v .are) h
+      abbrev pub reduced : Reduction A
+      reduced = reduction cmp divides quotient _·_ tooLarge p gs places limit f
 
       -- what the buckets hold at the end, divided further, gives the remainder of f with the terms that are there already, the steps with the leads removed, and the leads themselves
-      pub reduction-follows : length f ≤ 4096 → (k : ℕ) (s ks : List (Term A)) → R k (fullSum cmp p (reduction cmp divides quotient _·_ tooLarge p gs places limit f .work .buckets)) s ks
-          → R (reduction cmp divides quotient _·_ tooLarge p gs places limit f .leads + k) f (reduction cmp divides quotient _·_ tooLarge p gs places limit f .remainder ++ s) (reduction cmp divides quotient _·_ tooLarge p gs places limit f .work .given ++ ks)
+      pub reduction-follows : length f ≤ 4096 → (k : ℕ) (s ks : List (Term A)) → R k (fullSum cmp p (reduced .work .buckets)) s ks
+          → R (reduced .leads + k) f (reduced .remainder ++ s) (reduced .work .given ++ ks)
       reduction-follows h =
           subst (λ (y : Reduction A). (k : ℕ) (s ks : List (Term A)) → R k (fullSum cmp p (y .work .buckets)) s ks → R (y .leads + k) f (y .remainder ++ s) (y .work .given ++ ks))
           (sym (begins cmp divides quotient _·_ tooLarge p gs places limit f h))
           (λ k s ks d.
           let y = stepsFrom cmp divides quotient _·_ tooLarge p gs places limit 0 [] (added cmp p f start) in
-          let q = steps-follow limit 0 [] (added cmp p f start) (begun h) k s ks d in
+          let q = steps-follow limit 0 [] (added cmp p f start) (begun f v h) k s ks d in
           let n = q .steps-are in
           subst (λ (i : ℕ). R i f (y .remainder ++ s) (y .work .given ++ ks)) (sym (n ∙ (let e : 0 + q .steps ≡ q .steps = omega arith in e)))
           (subst (λ (r : List (Term A)). R (q .steps) f (r ++ s) (y .work .given ++ ks)) (sym (q .terms-are))
           (subst (λ (r : List (Term A)). R (q .steps) f (q .terms ++ s) (r ++ ks)) (sym (q .gone-are))
-          (subst (λ (g : List (Term A)). R (q .steps) g (q .terms ++ s) (q .gone ++ ks)) (whole-first h) (q .related)))))
+          (subst (λ (g : List (Term A)). R (q .steps) g (q .terms ++ s) (q .gone ++ ks)) (whole-first f v h) (q .related)))))
 
-      finished-few : reduction cmp divides quotient _·_ tooLarge p gs places limit f .stop ≡ 0 → length f ≤ 4096
+      finished-few : reduced .stop ≡ 0 → length f ≤ 4096
       finished-few z =
           let few : length f < 4097 = lt-of-not-le (λ k. let e : _≡_ {A = ℕ} 11 0 = sym (ap (λ (y : Reduction A). y .stop) (begins-not cmp divides quotient _·_ tooLarge p gs places limit f (omega arith))) ∙ z in let q : ⊥ = omega arith in q) in
           omega arith
 
       -- a finished reduction has the remainder, the steps and the leads
-      pub finished-follows : R 0 [] [] [] → reduction cmp divides quotient _·_ tooLarge p gs places limit f .stop ≡ 0 → R (reduction cmp divides quotient _·_ tooLarge p gs places limit f .leads) f (reduction cmp divides quotient _·_ tooLarge p gs places limit f .remainder) (reduction cmp divides quotient _·_ tooLarge p gs places limit f .work .given)
+      pub finished-follows : R 0 [] [] [] → reduced .stop ≡ 0 → R (reduced .leads) f (reduced .remainder) (reduced .work .given)
       finished-follows nothing z =
           let h = finished-few z in
           let b = begins cmp divides quotient _·_ tooLarge p gs places limit f h in
-          let e : fullSum cmp p (x .work .buckets) ≡ [] = subst (λ (y : Reduction A). fullSum cmp p (y .work .buckets) ≡ []) (sym b) (finished-none limit 0 [] (added cmp p f start) (begun h) (sym (ap (λ (y : Reduction A). y .stop) b) ∙ z)) in
+          let e : fullSum cmp p (reduced .work .buckets) ≡ [] = subst (λ (y : Reduction A). fullSum cmp p (y .work .buckets) ≡ []) (sym b) (finished-none limit 0 [] (added cmp p f start) (begun f v h) (sym (ap (λ (y : Reduction A). y .stop) b) ∙ z)) in
           let d = reduction-follows h 0 [] [] (subst (λ (g : List (Term A)). R 0 g [] []) (sym e) nothing) in
-          subst (λ (n : ℕ). R n f (x .remainder) (x .work .given)) (let i : x .leads + 0 ≡ x .leads = omega arith in i)
-          (subst (λ (l : List (Term A)). R (x .leads + 0) f (x .remainder) l) (append-nil (x .work .given))
-          (subst (λ (r : List (Term A)). R (x .leads + 0) f r (x .work .given ++ [])) (append-nil (x .remainder)) d))
+          subst (λ (n : ℕ). R n f (reduced .remainder) (reduced .work .given)) (let i : reduced .leads + 0 ≡ reduced .leads = omega arith in i)
+          (subst (λ (l : List (Term A)). R (reduced .leads + 0) f (reduced .remainder) l) (append-nil (reduced .work .given))
+          (subst (λ (r : List (Term A)). R (reduced .leads + 0) f r (reduced .work .given ++ [])) (append-nil (reduced .remainder)) d))

@@ -6,8 +6,10 @@ use Prim.Native.Nat.{ℕ, zero, suc, _<_, Ordering}
 use lib.ListN.{length}
 use native.Mathlib.Omega.{arith}
 use Rattle.monomial.specs.TotalOrder.{TotalOrder}
-use Rattle.polynomial.specs.Terms.{Term}
-use Rattle.polynomial.proofs.CoefLaws.{canonical-unique}
+use Rattle.polynomial.specs.Terms.{Term, Canonical}
+use Rattle.polynomial.specs.Merge.{merge}
+use Rattle.polynomial.proofs.MergeLaws.{merge-canonical}
+use Rattle.polynomial.proofs.CoefLaws.{total-merge, canonical-unique}
 use Rattle.division.specs.Division.{Fit, unfit, fits, firstFit, StepBy, SumOf, Division}
 
 not-empty : {A : Type 0} (t : Term A) (ts : List (Term A)) → _≡_ {A = List (Term A)} (t ∷ ts) [] → ⊥
@@ -17,6 +19,10 @@ module _ {A : Type 0} (cmp : A → A → Ordering) (O : TotalOrder A cmp) (divid
   -- a sum has one canonical list
   pub sum-unique : {f g h k : List (Term A)} → SumOf cmp divides quotient _·_ p gs f g h → SumOf cmp divides quotient _·_ p gs f g k → h ≡ k
   sum-unique {h = h} {k = k} a b = canonical-unique cmp O p pos h k (a .canonical) (b .canonical) (λ m. a .coefficients m ∙ sym (b .coefficients m))
+
+  -- the sum of canonical lists is their merge
+  pub sum-merge : (f g h : List (Term A)) → Canonical cmp p f → Canonical cmp p g → SumOf cmp divides quotient _·_ p gs f g h → h ≡ merge cmp p f g
+  sum-merge f g h a b s = canonical-unique cmp O p pos h (merge cmp p f g) (s .canonical) (merge-canonical cmp O p pos f g a b) (λ m. s .coefficients m ∙ sym (total-merge cmp O p m f g))
 
   -- the steps and the remainder are determined by the polynomial and the divisors
   pub division-unique : (n k : ℕ) (f r s : List (Term A)) → Division cmp divides quotient _·_ p gs n f r → Division cmp divides quotient _·_ p gs k f s → (n ≡ k) × (r ≡ s)

@@ -1,8 +1,8 @@
 -- Demand 1 for reductions: every reduction ends, finished or with the refusal whose condition holds, and no two conditions hold at once. Assumes nothing.
 use mathlib.Core.Path.{_≡_, refl, sym, ap, ap₂, _∙_, subst}
 use mathlib.Core.Bool.{Bool, true, false}
-use mathlib.Core.List.{List, [], _∷_, _++_}
-use Prim.Native.Nat.{ℕ, zero, suc, _+_, _<_, _≤_, Ordering, Ordering·lt, Ordering·eq, Ordering·gt}
+use mathlib.Core.List.{List, []}
+use Prim.Native.Nat.{ℕ, _+_, _<_, _≤_, Ordering}
 use native.Mathlib.Decide.{decLe}
 use native.Mathlib.Omega.{arith}
 use borrow.Author.Tests.{le-leb, lt-leb}
@@ -11,9 +11,7 @@ use Rattle.residue.specs.Prime.{Prime}
 use Rattle.monomial.specs.TotalOrder.{TotalOrder}
 use Rattle.polynomial.specs.Terms.{Term, term}
 use Rattle.polynomial.proofs.MergeLaws.{Stands, less, same, more, stands, turned-gt}
-use Rattle.geobucket.specs.Buckets.{held}
-use Rattle.geobucket.specs.Search.{Lead, none, lead, search}
-use Rattle.geobucket.specs.Events.{Work, start, added, removed}
+use Rattle.geobucket.specs.Events.{Work, start, added}
 use Rattle.geobucket.specs.TrueSum.{sumAt, IsZero, IsLead}
 use Rattle.geobucket.proofs.SearchLaws.{Canon}
 use Rattle.geobucket.proofs.EventLaws.{good-canon}
@@ -25,7 +23,7 @@ use Rattle.division.specs.Divisors.{Valid, AllOf}
 use Rattle.division.specs.Ending.{Stopping, finished, at-limit, over, too-many, no-place, Ending, first-too-many, by-steps}
 use Rattle.division.proofs.StateLaws.{State, start-state}
 use Rattle.division.proofs.StepsAlong.{steps-along}
-use Rattle.division.proofs.WholeLaws.{left-sum, left-lead, left-held}
+use Rattle.division.proofs.WholeLaws.{left-sum, left-none, left-lead, left-held}
 
 -- ---- a reduction begins with polynomial 0, or refuses it
 module _ {A : Type 0} (cmp : A → A → Ordering) (divides : A → A → Bool) (quotient _·_ : A → A → A) (tooLarge : A → A → Bool) (p : ℕ) (gs : List (List (Term A))) (places limit : ℕ) (f : List (Term A)) where
@@ -64,7 +62,7 @@ module _ {A : Type 0} (cmp : A → A → Ordering) (O : TotalOrder A cmp) (divid
       steps-along cmp O divides quotient _·_ tooLarge Is ops p prime gs divisors places (λ more leads r w x. leads + more ≡ limit → Stops x)
       (λ more leads r w s e l.
       let z : IsZero cmp p (w .buckets) = subst (Right cmp p (w .buckets)) e (lead-right cmp p O pos (w .buckets) (canon-of s)) in
-      finished refl (omega arith) (record { zero-at = λ m. left-sum cmp p O pos (w .buckets) (canon-of s) m ∙ z .zero-at m }))
+      finished refl (omega arith) (record { zero-at = λ m. left-sum cmp p O pos (w .buckets) (canon-of s) m ∙ z .zero-at m }) (left-none cmp p O pos (w .buckets) (canon-of s) e))
       (λ leads r w at t s e l. at-limit t refl (omega arith) (left-lead cmp p O pos (w .buckets) (canon-of s) at t e))
       (λ more leads r w at t s e u h l. no-place t refl (omega arith) (left-lead cmp p O pos (w .buckets) (canon-of s) at t e) u (omega arith))
       (λ more leads r w at t x s e u k l. k (omega arith))
@@ -104,7 +102,7 @@ module _ {A : Type 0} (cmp : A → A → Ordering) (O : TotalOrder A cmp) (divid
 
   kind : (k : ℕ) (x : Reduction A) → Stopping cmp divides quotient tooLarge p gs places limit k x → Kind k x
   unfolding refusalAt
-  kind k x (finished e l z) = none-left e z
+  kind k x (finished e l z h) = none-left e z
   kind k x (at-limit t e l a) = none-more t e l a
   kind k x (over t g tail e l a u b) = in-step t (e ∙ sym (ap (refusalAt t) u ∙ ap (λ (c : Bool). elim c [ true ↦ 12 | false ↦ 11 ]) b)) l a
   kind k x (too-many t g tail e l a u b h) = in-step t (e ∙ sym (ap (refusalAt t) u ∙ ap (λ (c : Bool). elim c [ true ↦ 12 | false ↦ 11 ]) b)) l a

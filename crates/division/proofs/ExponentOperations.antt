@@ -1,14 +1,14 @@
 -- Exponents of n variables meet what division asks of monomials, with no product too large. Assumes nothing.
-use mathlib.Core.Path.{_≡_, refl, sym, ap, ap₂, _∙_}
-use mathlib.Core.Bool.{Bool, true, false}
+use mathlib.Core.Path.{_≡_, refl, sym, ap₂, _∙_}
+use mathlib.Core.Bool.{true, false}
 use mathlib.Core.List.{List, [], _∷_}
-use Prim.Native.Nat.{ℕ, zero, suc, _+_, _-_, _≤_}
+use Prim.Native.Nat.{ℕ, _+_, _-_, _≤_}
 use native.Mathlib.Omega.{arith}
 use borrow.Author.Tests.{leb-true}
 use lib.Dec.{leb}
 use lib.ListN.{length}
 use Rattle.monomial.specs.declared.order.Order.{Order}
-use Rattle.monomial.specs.Exponents.{each, product, quotient, divides, compareIn}
+use Rattle.monomial.specs.Exponents.{product, quotient, divides, compareIn}
 use Rattle.monomial.proofs.Places.{length-each, and-both}
 use Rattle.monomial.proofs.OrderLaws.{product-keeps}
 use Rattle.division.specs.Operations.{Operations}

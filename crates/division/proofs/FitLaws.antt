@@ -2,7 +2,7 @@
 use mathlib.Core.Path.{_≡_, refl, subst}
 use mathlib.Core.Bool.{Bool, true, false}
 use mathlib.Core.List.{List, [], _∷_}
-use mathlib.Core.Logic.{_⊎_, inl, inr}
+use mathlib.Core.Logic.{inl, inr}
 use Rattle.polynomial.specs.Terms.{Term}
 use Rattle.division.specs.Division.{Fit, unfit, fits, firstFit}
 use Rattle.division.specs.Divisors.{AllOf, Among, NotBy, Undivided}
@@ -44,3 +44,18 @@ module _ {A : Type 0} (divides : A → A → Bool) (Q : List (Term A) → Type 0
 
   pub unfit-says : (gs : List (List (Term A))) → AllOf Q gs → firstFit divides α gs ≡ unfit → Undivided divides gs α
   unfit-says gs u e = subst (Says gs) e (says gs u)
+
+-- ---- one divisor after the other
+module _ {A : Type 0} (divides : A → A → Bool) (α : A) where
+  pub first-none : firstFit divides α [] ≡ unfit
+  unfolding firstFit
+  first-none = refl
+
+  module _ (g : Term A) (tail : List (Term A)) (gs : List (List (Term A))) where
+    pub first-here : divides (g .mono) α ≡ true → firstFit divides α ((g ∷ tail) ∷ gs) ≡ fits g tail
+    unfolding firstFit
+    first-here e = rw (e, firstFit)
+
+    pub first-later : divides (g .mono) α ≡ false → firstFit divides α ((g ∷ tail) ∷ gs) ≡ firstFit divides α gs
+    unfolding firstFit
+    first-later e = rw (e, firstFit)

@@ -1,12 +1,12 @@
 -- What holds of every monomial in the buckets: an addition and a search keep it. Assumes nothing.
-use mathlib.Core.Path.{_≡_, refl}
+use mathlib.Core.Path.{_≡_}
 use mathlib.Core.List.{List, [], _∷_}
-use Prim.Native.Nat.{ℕ, suc, _*_, Ordering, Ordering·gt}
+use Prim.Native.Nat.{ℕ, suc, Ordering, Ordering·gt}
 use Rattle.polynomial.specs.Terms.{Term, All}
-use Rattle.polynomial.specs.Merge.{merge, keep}
+use Rattle.polynomial.specs.Merge.{merge}
 use Rattle.polynomial.proofs.MergeLaws.{merge-all, all-keep}
 use Rattle.geobucket.specs.Buckets.{held, carry, place, add, sumFrom}
-use Rattle.geobucket.specs.Search.{Pass, seek, Lead, none, lead, Searched, higher, pass, search}
+use Rattle.geobucket.specs.Search.{seek, Lead, none, lead, higher, pass, search}
 use Rattle.geobucket.proofs.AddLaws.{carry-along, place-along}
 use Rattle.geobucket.proofs.SearchLaws.{Above, seek-along, search-along}
 

@@ -1,20 +1,20 @@
 -- The last state of a reduction, finished or stopped: its counts, the leads that it removed, and its remainder so far. Assumes nothing.
-use mathlib.Core.Path.{_≡_, refl, sym, ap, _∙_, subst}
-use mathlib.Core.Bool.{Bool, true, false}
+use mathlib.Core.Path.{_≡_, refl}
+use mathlib.Core.Bool.{Bool}
 use mathlib.Core.List.{List, [], _∷_, _++_}
-use Prim.Native.Nat.{ℕ, zero, suc, _+_, _*_, _^_, _<_, _≤_, Ordering, Ordering·gt}
+use Prim.Native.Nat.{ℕ, zero, suc, _+_, _*_, _<_, _≤_, Ordering, Ordering·gt}
 use native.Mathlib.Omega.{arith}
-use lib.ListN.{length, length-append}
+use lib.ListN.{length}
 use Rattle.residue.specs.Prime.{Prime}
 use Rattle.monomial.specs.TotalOrder.{TotalOrder}
-use Rattle.polynomial.specs.Terms.{Term, All, Canonical}
+use Rattle.polynomial.specs.Terms.{Term, All}
 use Rattle.polynomial.proofs.MergeLaws.{all-map}
 use Rattle.geobucket.specs.Buckets.{empty, held}
 use Rattle.geobucket.specs.Search.{Lead, none, lead, search, putBack, withLead}
-use Rattle.geobucket.specs.Events.{Work, start, added, removed, left}
+use Rattle.geobucket.specs.Events.{Work, start, added, left}
 use Rattle.geobucket.proofs.SearchLaws.{Above, Fewer, finds, Within, search-within}
-use Rattle.geobucket.proofs.EventLaws.{Holds, good-canon, removed-holds, left-ends, start-holds}
-use Rattle.division.specs.Division.{Fit, unfit, firstFit}
+use Rattle.geobucket.proofs.EventLaws.{good-canon, left-ends}
+use Rattle.division.specs.Division.{unfit, firstFit}
 use Rattle.division.specs.Steps.{Reduction, stepsFrom, reduction}
 use Rattle.division.specs.Operations.{Operations}
 use Rattle.division.specs.Divisors.{Valid, AllOf}

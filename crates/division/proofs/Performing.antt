@@ -1,84 +1,128 @@
--- Demand 3 for reductions, finished or stopped: what a reduction does with its geobucket is a list of events, so its comparisons are within the bound, and nothing is lost. Assumes nothing.
+-- Demand 3 for reductions, finished or stopped: what a reduction does with its geobucket is the list of events of its leads, so its comparisons are within the bound, and nothing is lost. Assumes nothing.
 use mathlib.Core.Path.{_≡_, refl, sym, ap, _∙_, subst}
-use mathlib.Core.Bool.{Bool, true, false}
-use mathlib.Core.List.{List, [], _∷_, _++_}
-use Prim.Native.Nat.{ℕ, zero, suc, _+_, _%_, _<_, _≤_, Ordering}
+use mathlib.Core.Bool.{Bool}
+use mathlib.Core.List.{List, [], _∷_, _++_, append-nil, append-assoc}
+use Prim.Native.Nat.{ℕ, _+_, _%_, _<_, _≤_, Ordering}
 use native.Mathlib.Omega.{arith}
-use borrow.Author.Tests.{le-leb}
+use borrow.Author.Tests.{le-leb, lt-leb}
 use lib.ListN.{length}
 use Rattle.residue.specs.Prime.{Prime}
 use Rattle.monomial.specs.TotalOrder.{TotalOrder}
 use Rattle.polynomial.specs.Terms.{Term, total, Canonical}
 use Rattle.geobucket.specs.Buckets.{held, totalIn}
-use Rattle.geobucket.specs.Events.{Event, addition, removal, finding, Work, start, added, removed, left, perform, Polynomials, bound}
+use Rattle.geobucket.specs.Events.{Event, addition, removal, Work, start, added, removed, left, perform, Polynomials, bound}
 use Rattle.geobucket.proofs.EventLaws.{events-bound, events-kept}
+use Rattle.division.specs.Division.{Fit, unfit, fits, firstFit, tailMultiple}
 use Rattle.division.specs.Steps.{Reduction, stepsFrom, reduction}
 use Rattle.division.specs.Operations.{Operations}
 use Rattle.division.specs.Divisors.{Valid, AllOf}
-use Rattle.division.proofs.StateLaws.{State, start-state, step-adds, step-length}
+use Rattle.division.specs.Demanded.{eventsBy, eventsOf, reductionEvents}
+use Rattle.division.proofs.StateLaws.{State, start-state, removed-given, step-adds, step-length}
 use Rattle.division.proofs.StepsAlong.{steps-along}
 use Rattle.division.proofs.Endings.{by-first}
 
+-- ---- one event more in front
 module _ {A : Type 0} (cmp : A → A → Ordering) (p : ℕ) where
-  -- the work v comes from w by a list of events, of canonical polynomials
-  pub record Performed (w v : Work A) : Type 0 where
-    pub events : List (Event A)
-    pub polynomials : Polynomials cmp p events
-    pub work-is : v ≡ perform cmp p events w
+  perform-added : (f : List (Term A)) (es : List (Event A)) (w v : Work A) → held (w .buckets) + length f ≤ 4096 → v ≡ perform cmp p es (added cmp p f w) → v ≡ perform cmp p (addition f ∷ es) w
+  unfolding perform
+  perform-added f es w v h e = rw (le-leb (held (w .buckets) + length f) 4096 h, perform) e
 
-  performed-left : (w : Work A) → Performed w (left cmp p w)
-  unfolding perform Polynomials
-  performed-left w = record { events = finding ∷ []; polynomials = tt; work-is = refl }
+  perform-refused : (f : List (Term A)) (es : List (Event A)) (w : Work A) → 4096 < held (w .buckets) + length f → w ≡ perform cmp p (addition f ∷ es) w
+  unfolding perform
+  perform-refused f es w h = rw (lt-leb (held (w .buckets) + length f) 4096 h, perform)
 
-  performed-none : (w : Work A) → Performed w w
-  unfolding perform Polynomials
-  performed-none w = record { events = []; polynomials = tt; work-is = refl }
+  perform-removed : (es : List (Event A)) (w v : Work A) → v ≡ perform cmp p es (removed cmp p w) → v ≡ perform cmp p (removal ∷ es) w
+  unfolding perform
+  perform-removed es w v e = e
 
-  performed-removed : (w v : Work A) → Performed (removed cmp p w) v → Performed w v
-  unfolding perform Polynomials
-  performed-removed w v q = record { events = removal ∷ q .events; polynomials = q .polynomials; work-is = q .work-is }
+  -- the steps that remove the leads ls make v of w
+  module _ (divides : A → A → Bool) (quotient _·_ : A → A → A) (gs : List (List (Term A))) where
+    record Performs (ls : List (Term A)) (w v : Work A) : Type 0 where
+      polynomials : Polynomials cmp p (eventsOf divides quotient _·_ p gs ls)
+      work-is : v ≡ perform cmp p (eventsOf divides quotient _·_ p gs ls) w
 
-  performed-added : (f : List (Term A)) (w v : Work A) → Canonical cmp p f → held (w .buckets) + length f ≤ 4096 → Performed (added cmp p f w) v → Performed w v
-  unfolding perform Polynomials
-  performed-added f w v c h q = record { events = addition f ∷ q .events; polynomials = (c, q .polynomials); work-is = to (perform cmp p (q .events) (added cmp p f w)) (q .work-is) }
-    where
-      to : (x : Work A) → v ≡ perform cmp p (q .events) (added cmp p f w) → v ≡ perform cmp p (addition f ∷ q .events) w
-      to x e = rw (le-leb (held (w .buckets) + length f) 4096 h, perform) e
+    performs-none : (w : Work A) → Performs [] w (left cmp p w)
+    unfolding perform Polynomials eventsOf
+    performs-none w = record { polynomials = tt; work-is = refl }
+
+    performs-kept : (t : Term A) (ls : List (Term A)) (w v : Work A) → firstFit divides (t .mono) gs ≡ unfit → Performs ls (removed cmp p w) v → Performs (t ∷ ls) w v
+    unfolding Polynomials eventsOf
+    performs-kept t ls w v e q = record {
+      polynomials = subst (λ (x : Fit A). Polynomials cmp p (eventsBy divides quotient _·_ p gs x t (eventsOf divides quotient _·_ p gs ls))) (sym e) (q .polynomials);
+      work-is = subst (λ (x : Fit A). v ≡ perform cmp p (eventsBy divides quotient _·_ p gs x t (eventsOf divides quotient _·_ p gs ls)) w) (sym e) (perform-removed (eventsOf divides quotient _·_ p gs ls) w v (q .work-is));
+    }
+
+    performs-divided : (t g : Term A) (tail ls : List (Term A)) (w v : Work A) → firstFit divides (t .mono) gs ≡ fits g tail → Canonical cmp p (tailMultiple quotient _·_ p t g tail) → held (removed cmp p w .buckets) + length (tailMultiple quotient _·_ p t g tail) ≤ 4096 → Performs ls (added cmp p (tailMultiple quotient _·_ p t g tail) (removed cmp p w)) v → Performs (t ∷ ls) w v
+    unfolding Polynomials eventsOf
+    performs-divided t g tail ls w v e c h q =
+        let m = tailMultiple quotient _·_ p t g tail in
+        record {
+          polynomials = subst (λ (x : Fit A). Polynomials cmp p (eventsBy divides quotient _·_ p gs x t (eventsOf divides quotient _·_ p gs ls))) (sym e) (c, q .polynomials);
+          work-is = subst (λ (x : Fit A). v ≡ perform cmp p (eventsBy divides quotient _·_ p gs x t (eventsOf divides quotient _·_ p gs ls)) w) (sym e)
+              (perform-removed (addition m ∷ eventsOf divides quotient _·_ p gs ls) w v (perform-added m (eventsOf divides quotient _·_ p gs ls) (removed cmp p w) v h (q .work-is)));
+        }
 
 module _ {A : Type 0} (cmp : A → A → Ordering) (O : TotalOrder A cmp) (divides : A → A → Bool) (quotient _·_ : A → A → A) (tooLarge : A → A → Bool) (Is : A → Type 0) (ops : Operations A cmp divides quotient _·_ tooLarge Is) (p : ℕ) (prime : Prime p) (gs : List (List (Term A))) (divisors : AllOf (Valid cmp p Is) gs) (places : ℕ) where
   pos : 0 < p
   pos = omega (arith, prime .above)
 
-  steps-perform : (more leads : ℕ) (r : List (Term A)) (w : Work A) → State cmp p Is divides gs places leads r w → Performed cmp p w (stepsFrom cmp divides quotient _·_ tooLarge p gs places more leads r w .work)
+  -- the leads that the steps from w to v remove, and their events
+  record Done (w v : Work A) : Type 0 where
+    gone : List (Term A)
+    given-is : v .given ≡ w .given ++ gone
+    performs : Performs cmp p divides quotient _·_ gs gone w v
+
+  done-none : (w : Work A) → Done w (left cmp p w)
+  done-none w = record { gone = []; given-is = sym (append-nil (w .given)); performs = performs-none cmp p divides quotient _·_ gs w }
+
+  steps-perform : (more leads : ℕ) (r : List (Term A)) (w : Work A) → State cmp p Is divides gs places leads r w → Done w (stepsFrom cmp divides quotient _·_ tooLarge p gs places more leads r w .work)
   steps-perform =
-      steps-along cmp O divides quotient _·_ tooLarge Is ops p prime gs divisors places (λ more leads r w x. Performed cmp p w (x .work))
-      (λ more leads r w s e. performed-left cmp p w)
-      (λ leads r w at t s e. performed-left cmp p w)
-      (λ more leads r w at t s e u h. performed-left cmp p w)
-      (λ more leads r w at t x s e u k. performed-removed cmp p w (x .work) k)
-      (λ more leads r w at t g tail s e u b. performed-left cmp p w)
-      (λ more leads r w at t g tail s e u b h. performed-left cmp p w)
-      (λ more leads r w at t g tail x s e u b h k.
-      performed-removed cmp p w (x .work)
-      (performed-added cmp p _ (removed cmp p w) (x .work) (step-adds cmp O divides quotient _·_ tooLarge Is ops p prime gs divisors places s at t e g tail u b .canonical)
-      (omega (arith, step-length cmp O divides quotient _·_ tooLarge Is ops p prime gs divisors places s at t e g tail u b)) k))
+      steps-along cmp O divides quotient _·_ tooLarge Is ops p prime gs divisors places (λ more leads r w x. Done w (x .work))
+      (λ more leads r w s e. done-none w)
+      (λ leads r w at t s e. done-none w)
+      (λ more leads r w at t s e u h. done-none w)
+      (λ more leads r w at t x s e u k. record {
+        gone = t ∷ k .gone;
+        given-is = k .given-is ∙ (ap (λ (l : List (Term A)). l ++ k .gone) (removed-given cmp O divides quotient _·_ tooLarge Is ops p prime gs divisors places s at t e) ∙ append-assoc (w .given) (t ∷ []) (k .gone));
+        performs = performs-kept cmp p divides quotient _·_ gs t (k .gone) w (x .work) u (k .performs);
+      })
+      (λ more leads r w at t g tail s e u b. done-none w)
+      (λ more leads r w at t g tail s e u b h. done-none w)
+      (λ more leads r w at t g tail x s e u b h k. record {
+        gone = t ∷ k .gone;
+        given-is = k .given-is ∙ (ap (λ (l : List (Term A)). l ++ k .gone) (removed-given cmp O divides quotient _·_ tooLarge Is ops p prime gs divisors places s at t e) ∙ append-assoc (w .given) (t ∷ []) (k .gone));
+        performs = performs-divided cmp p divides quotient _·_ gs t g tail (k .gone) w (x .work) u (step-adds cmp O divides quotient _·_ tooLarge Is ops p prime gs divisors places s at t e g tail u b .canonical) (omega (arith, step-length cmp O divides quotient _·_ tooLarge Is ops p prime gs divisors places s at t e g tail u b)) (k .performs);
+      })
 
   module _ (limit : ℕ) (f : List (Term A)) (v : Valid cmp p Is f) where
-    abbrev x : Reduction A
-    x = reduction cmp divides quotient _·_ tooLarge p gs places limit f
+    abbrev pub reduced : Reduction A
+    reduced = reduction cmp divides quotient _·_ tooLarge p gs places limit f
 
-    -- "the comparisons counted are exactly those of the published merge and search": the events are performed from the empty geobucket, and each lead that a step removes is given out
-    pub performed : Performed cmp p start (reduction cmp divides quotient _·_ tooLarge p gs places limit f .work)
+    begun : (h : length f ≤ 4096) → Done (added cmp p f start) (stepsFrom cmp divides quotient _·_ tooLarge p gs places limit 0 [] (added cmp p f start) .work)
+    begun h = steps-perform limit 0 [] (added cmp p f start) (start-state cmp O divides quotient _·_ tooLarge Is ops p prime gs divisors places f (v .canonical) (v .are) h)
+
+    -- each polynomial that is added is canonical
+    pub events-canonical : Polynomials cmp p (reductionEvents divides quotient _·_ p gs f (reduced .work .given))
+    unfolding Polynomials eventsOf
+    events-canonical =
+        by-first cmp divides quotient _·_ tooLarge p gs places limit f (λ y. Polynomials cmp p (reductionEvents divides quotient _·_ p gs f (y .work .given)))
+        (λ h. (v .canonical, tt))
+        (λ h. let d = begun h in (v .canonical, subst (λ (l : List (Term A)). Polynomials cmp p (eventsOf divides quotient _·_ p gs l)) (sym (d .given-is)) (d .performs .polynomials)))
+
+    -- what the reduction does with its geobucket are the events of its leads, from the empty one
+    pub reduction-performs : reduced .work ≡ perform cmp p (reductionEvents divides quotient _·_ p gs f (reduced .work .given)) start
     unfolding held
-    performed =
-        by-first cmp divides quotient _·_ tooLarge p gs places limit f (λ y. Performed cmp p start (y .work))
-        (λ h. performed-none cmp p start)
-        (λ h. performed-added cmp p f start _ (v .canonical) (omega arith) (steps-perform limit 0 [] (added cmp p f start) (start-state cmp O divides quotient _·_ tooLarge Is ops p prime gs divisors places f (v .canonical) (v .are) h)))
+    reduction-performs =
+        by-first cmp divides quotient _·_ tooLarge p gs places limit f (λ y. y .work ≡ perform cmp p (reductionEvents divides quotient _·_ p gs f (y .work .given)) start)
+        (λ h. perform-refused cmp p f (eventsOf divides quotient _·_ p gs []) start (omega arith))
+        (λ h.
+        let d = begun h in
+        perform-added cmp p f _ start _ (omega arith) (subst (λ (l : List (Term A)). stepsFrom cmp divides quotient _·_ tooLarge p gs places limit 0 [] (added cmp p f start) .work ≡ perform cmp p (eventsOf divides quotient _·_ p gs l) (added cmp p f start)) (sym (d .given-is)) (d .performs .work-is)))
 
-    -- "they are at most 6·N·M"
-    pub reduction-bound : length (reduction cmp divides quotient _·_ tooLarge p gs places limit f .work .pairs) ≤ bound (length (reduction cmp divides quotient _·_ tooLarge p gs places limit f .work .brought))
-    reduction-bound = subst (λ (w : Work A). length (w .pairs) ≤ bound (length (w .brought))) (sym (performed .work-is)) (events-bound cmp p O pos (performed .events) (performed .polynomials))
+    -- "They are at most 6·N·M"
+    pub reduction-bound : length (reduced .work .pairs) ≤ bound (length (reduced .work .brought))
+    reduction-bound = subst (λ (w : Work A). length (w .pairs) ≤ bound (length (w .brought))) (sym reduction-performs) (events-bound cmp p O pos (reductionEvents divides quotient _·_ p gs f (reduced .work .given)) events-canonical)
 
-    -- "terms given out + terms held = terms brought in, as polynomials modulo p"
-    pub reduction-kept : (m : A) → (total cmp m (reduction cmp divides quotient _·_ tooLarge p gs places limit f .work .given) + totalIn cmp m (reduction cmp divides quotient _·_ tooLarge p gs places limit f .work .buckets)) % p ≡ total cmp m (reduction cmp divides quotient _·_ tooLarge p gs places limit f .work .brought) % p
-    reduction-kept m = subst (λ (w : Work A). (total cmp m (w .given) + totalIn cmp m (w .buckets)) % p ≡ total cmp m (w .brought) % p) (sym (performed .work-is)) (events-kept cmp p O pos (performed .events) (performed .polynomials) m)
+    -- "as polynomials modulo p, terms given out + terms still held = terms brought in"
+    pub reduction-kept : (m : A) → (total cmp m (reduced .work .given) + totalIn cmp m (reduced .work .buckets)) % p ≡ total cmp m (reduced .work .brought) % p
+    reduction-kept m = subst (λ (w : Work A). (total cmp m (w .given) + totalIn cmp m (w .buckets)) % p ≡ total cmp m (w .brought) % p) (sym reduction-performs) (events-kept cmp p O pos (reductionEvents divides quotient _·_ p gs f (reduced .work .given)) events-canonical m)

@@ -1,8 +1,8 @@
 -- What holds before each step of a reduction, and that each step keeps it. Assumes nothing.
 use mathlib.Core.Path.{_≡_, refl, sym, ap, _∙_, subst}
-use mathlib.Core.Bool.{Bool, true, false}
+use mathlib.Core.Bool.{Bool, false}
 use mathlib.Core.List.{List, [], _∷_, _++_}
-use Prim.Native.Nat.{ℕ, zero, suc, _+_, _*_, _<_, _≤_, Ordering, Ordering·gt}
+use Prim.Native.Nat.{ℕ, suc, _+_, _*_, _<_, _≤_, Ordering, Ordering·gt}
 use native.Mathlib.Omega.{arith}
 use lib.ListN.{length, length-append}
 use Rattle.residue.specs.Prime.{Prime}
@@ -11,12 +11,12 @@ use Rattle.polynomial.specs.Terms.{Term, All, Under, Falling, Canonical}
 use Rattle.polynomial.proofs.MergeLaws.{all-map, under-more}
 use Rattle.polynomial.proofs.MultipleLaws.{length-multiple}
 use Rattle.geobucket.specs.Buckets.{empty, held, add}
-use Rattle.geobucket.specs.Search.{Lead, none, lead, search}
+use Rattle.geobucket.specs.Search.{Lead, lead, search}
 use Rattle.geobucket.specs.Events.{Work, start, leadTerms, added, removed}
-use Rattle.geobucket.proofs.AddLaws.{room, adds}
+use Rattle.geobucket.proofs.AddLaws.{adds}
 use Rattle.geobucket.proofs.SearchLaws.{Above, Leads, Fewer, finds}
 use Rattle.geobucket.proofs.EventLaws.{Holds, room-six, good-canon, start-holds, added-holds, removed-holds}
-use Rattle.division.specs.Division.{Fit, unfit, fits, firstFit, tailMultiple}
+use Rattle.division.specs.Division.{unfit, fits, firstFit, tailMultiple}
 use Rattle.division.specs.Steps.{anyTooLarge}
 use Rattle.division.specs.Operations.{Operations}
 use Rattle.division.specs.Divisors.{Valid, AllOf}
@@ -138,7 +138,7 @@ module _ {A : Type 0} (cmp : A → A → Ordering) (O : TotalOrder A cmp) (divid
           fewer = subst (λ (x : Lead A). Fewer cmp p x (search cmp p (w .buckets) .buckets) (w .buckets)) e (a .fewer);
         }
 
-    removed-are : Every Is (search cmp p (w .buckets) .buckets)
+    pub removed-are : Every Is (search cmp p (w .buckets) .buckets)
     removed-are = search-every Is cmp p (w .buckets) (s .are) .1
 
     pub removed-given : removed cmp p w .given ≡ w .given ++ t ∷ []

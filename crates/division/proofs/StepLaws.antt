@@ -1,5 +1,5 @@
 -- The steps of a reduction, one equation for each way that a step can go. Assumes nothing.
-use mathlib.Core.Path.{_≡_, refl, sym, ap, _∙_}
+use mathlib.Core.Path.{_≡_, refl}
 use mathlib.Core.Bool.{Bool, true, false}
 use mathlib.Core.List.{List, [], _∷_, _++_}
 use Prim.Native.Nat.{ℕ, zero, suc, _+_, _<_, _≤_, Ordering}
@@ -7,9 +7,9 @@ use borrow.Author.Tests.{lt-ltb, le-ltb, le-leb, lt-leb}
 use lib.ListN.{length}
 use Rattle.polynomial.specs.Terms.{Term}
 use Rattle.geobucket.specs.Buckets.{held}
-use Rattle.geobucket.specs.Search.{Lead, none, lead, search}
-use Rattle.geobucket.specs.Events.{Work, added, removed, left}
-use Rattle.division.specs.Division.{Fit, unfit, fits, firstFit, tailMultiple}
+use Rattle.geobucket.specs.Search.{none, lead, search}
+use Rattle.geobucket.specs.Events.{Work, added, removed}
+use Rattle.division.specs.Division.{unfit, fits, firstFit, tailMultiple}
 use Rattle.division.specs.Steps.{Reduction, anyTooLarge, stoppedBy, dividing, keeping, stepsFrom}
 
 module _ {A : Type 0} (cmp : A → A → Ordering) (divides : A → A → Bool) (quotient _·_ : A → A → A) (tooLarge : A → A → Bool) (p : ℕ) (gs : List (List (Term A))) (places : ℕ) where

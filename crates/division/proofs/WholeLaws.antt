@@ -8,9 +8,9 @@ use native.Mathlib.Omega.{arith}
 use lib.ListN.{length}
 use Rattle.residue.proofs.Remainder.{add-both}
 use Rattle.monomial.specs.TotalOrder.{TotalOrder}
-use Rattle.polynomial.specs.Terms.{Term, here, total, coefAt, Under, Canonical}
+use Rattle.polynomial.specs.Terms.{Term, here, total, Under, Canonical}
 use Rattle.polynomial.proofs.CoefLaws.{total-nil, total-cons, canonical-unique}
-use Rattle.geobucket.specs.Buckets.{empty, held, Good, totalIn, add, fullSum}
+use Rattle.geobucket.specs.Buckets.{held, Good, totalIn, add, fullSum}
 use Rattle.geobucket.specs.Search.{Lead, none, lead, search, putBack, withLead}
 use Rattle.geobucket.specs.TrueSum.{sumAt, IsZero, IsLead}
 use Rattle.geobucket.proofs.AddLaws.{room, adds}
@@ -65,6 +65,9 @@ module _ {A : Type 0} (cmp : A → A → Ordering) (p : ℕ) where
           let b = sum-right cmp p O pos bs canon in
           let z : IsZero cmp p bs = subst (Right cmp p bs) e (lead-right cmp p O pos bs canon) in
           canonical-unique cmp O p pos _ _ (b .0) nil-canonical (λ m. b .1 m ∙ (z .zero-at m ∙ sym (ap (λ (n : ℕ). n % p) (total-nil cmp m) ∙ zero-mod p)))
+
+      pub left-none : search cmp p bs .answer ≡ none → held (withLead (search cmp p bs .answer) (search cmp p bs .buckets)) ≡ 0
+      left-none e = ap (λ (x : Lead A). held (withLead x cs)) e ∙ subst (λ (x : Lead A). Leads cmp p x cs) e (finds cmp p O pos bs canon .leads)
 
       -- ---- a lead is found
       module _ (at : ℕ) (t : Term A) (e : search cmp p bs .answer ≡ lead at t) where

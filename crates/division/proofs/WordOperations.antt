@@ -1,19 +1,25 @@
--- Words of the layout meet what division asks of monomials: the quotient is the difference, the product the sum, and "too large" an exponent over 127. Assumes nothing.
+-- Words of the layout meet what division asks of monomials: the quotient is the difference, the product the sum, and "too large" an exponent over 127; and these are the operations on exponents. Assumes nothing.
 use mathlib.Core.Path.{_≡_, refl, sym, ap, _∙_}
 use mathlib.Core.Bool.{Bool, true, false, not}
-use mathlib.Core.List.{List}
+use mathlib.Core.List.{List, [], _∷_, map}
 use Prim.Native.Nat.{ℕ, _+_, _-_, _≤_}
 use native.Mathlib.Omega.{arith}
+use lib.ListN.{length}
 use Rattle.monomial.specs.declared.order.Order.{Order}
-use Rattle.monomial.specs.Exponents.{divides, product}
+use Rattle.monomial.specs.Exponents.{divides, quotient, product, compareIn}
 use Rattle.monomial.specs.Layout.{bytes, exponents, below, Layout}
 use Rattle.monomial.specs.Words.{compareWords, dividesWord}
 use Rattle.monomial.proofs.Places.{below-true}
 use Rattle.monomial.proofs.ByteLaws.{bytes-add}
-use Rattle.monomial.proofs.LayoutLaws.{layout-packed}
-use Rattle.monomial.proofs.WordLaws.{divides-layout, product-test, product-layout, quotient-le, quotient-layout, multiply-keeps}
+use Rattle.monomial.proofs.LayoutLaws.{length-exponents, layout-packed}
+use Rattle.monomial.proofs.KeyLaws.{compare-layout}
+use Rattle.monomial.proofs.WordLaws.{divides-layout, product-test, product-exponents, product-layout, quotient-le, quotient-exponents, quotient-layout, multiply-keeps}
+use Rattle.polynomial.specs.Terms.{Term, All}
 use Rattle.division.specs.Steps.{overWord}
 use Rattle.division.specs.Operations.{Operations}
+use Rattle.division.specs.Divisors.{Valid, AllOf}
+use Rattle.division.specs.InExponents.{inExponents}
+use Rattle.division.proofs.Renaming.{Agrees, canonical-renamed}
 
 not-false : (b : Bool) → not b ≡ false → b ≡ true
 not-false true h = refl
@@ -25,6 +31,10 @@ module _ (o : Order) (n : ℕ) (few : n ≤ 6) where
 
   fitting : (a b : ℕ) → Layout o n a → Layout o n b → overWord a b ≡ false → below 128 (product (exponents o n a) (exponents o n b)) ≡ true
   fitting a b la lb h = sym (product-test o n a b few la lb) ∙ not-false (below 128 (product (bytes 6 a) (bytes 6 b))) h
+
+  -- a product of words is over where one of exponents is
+  pub over-exponents : (a b : ℕ) → Layout o n a → Layout o n b → overWord a b ≡ not (below 128 (product (exponents o n a) (exponents o n b)))
+  over-exponents a b la lb = ap not (product-test o n a b few la lb)
 
   word-quotient : (a b : ℕ) → Layout o n a → Layout o n b → dividesWord b a ≡ true → Layout o n (a - b)
   word-quotient a b la lb d = quotient-layout o n a b few la lb (by-exponents a b la lb d)
@@ -43,3 +53,24 @@ module _ (o : Order) (n : ℕ) (few : n ≤ 6) where
     product-is = λ a b la lb h. product-layout o n a b few la lb (fitting a b la lb h);
     keeps = λ m a b lm la lb h k. multiply-keeps o n m a b few lm la lb (fitting m a lm la h) (fitting m b lm lb k);
   }
+
+  -- ---- the same by exponents
+  pub words-agree : Agrees (exponents o n) (λ w. Layout o n w) (compareWords o) dividesWord _-_ _+_ (compareIn o) divides quotient product
+  words-agree = record {
+    compares = λ a b la lb. sym (compare-layout o n a b few la lb);
+    divide = λ a b la lb. sym (divides-layout o n b a few lb la);
+    quotients = λ a b la lb d. sym (quotient-exponents o n a b few la lb (by-exponents a b la lb d));
+    products = λ a b la lb. sym (product-exponents o n a b few la lb);
+  }
+
+  lengths : (f : List (Term ℕ)) → All (λ t. Layout o n (t .mono)) f → All (λ t. length (t .mono) ≡ n) (inExponents o n f)
+  lengths [] a = tt
+  lengths (t ∷ ts) a = (length-exponents o n (t .mono) few, lengths ts (a .1))
+
+  pub valid-exponents : (p : ℕ) (f : List (Term ℕ)) → Valid (compareWords o) p (λ w. Layout o n w) f → Valid (compareIn o) p (λ α. length α ≡ n) (inExponents o n f)
+  valid-exponents p f v = record { canonical = canonical-renamed (exponents o n) (λ w. Layout o n w) (compareWords o) (compareIn o) (words-agree .compares) p f (v .are) (v .canonical); are = lengths f (v .are) }
+
+  pub all-exponents : (p : ℕ) (gs : List (List (Term ℕ))) → AllOf (Valid (compareWords o) p (λ w. Layout o n w)) gs → AllOf (Valid (compareIn o) p (λ α. length α ≡ n)) (map (inExponents o n) gs)
+  unfolding AllOf
+  all-exponents p [] u = tt
+  all-exponents p (g ∷ gs) u = (valid-exponents p g (u .0), all-exponents p gs (u .1))

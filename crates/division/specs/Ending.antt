@@ -8,14 +8,14 @@ use Rattle.polynomial.specs.Terms.{Term}
 use Rattle.geobucket.specs.Buckets.{held}
 use Rattle.geobucket.specs.Events.{start}
 use Rattle.geobucket.specs.TrueSum.{IsZero, IsLead}
-use Rattle.division.specs.Division.{Fit, unfit, fits, firstFit}
+use Rattle.division.specs.Division.{unfit, fits, firstFit}
 use Rattle.division.specs.Steps.{Reduction, anyTooLarge}
 
 module _ {A : Type 0} (cmp : A → A → Ordering) (divides : A → A → Bool) (quotient : A → A → A) (tooLarge : A → A → Bool) (p : ℕ) (gs : List (List (Term A))) (places limit : ℕ) where
   -- The steps end in x with the refusal k, 0 for none: "In a reduction step: 13; then 12, then 11, if a divisor fits, else 10". A stopped step leaves its lead in the buckets, so t is the lead of what they hold.
   pub data Stopping (k : ℕ) (x : Reduction A) : Type 0 where
-    -- no lead is left
-    finished : k ≡ 0 → x .leads ≤ limit → IsZero cmp p (x .work .buckets) → Stopping k x
+    -- no lead is left, and the buckets are empty
+    finished : k ≡ 0 → x .leads ≤ limit → IsZero cmp p (x .work .buckets) → held (x .work .buckets) ≡ 0 → Stopping k x
     -- "13: a non-zero lead is found and the step limit's leads are removed already"
     at-limit : (t : Term A) → k ≡ 13 → x .leads ≡ limit → IsLead cmp p (x .work .buckets) t → Stopping k x
     -- "12: a product has an exponent over 127"

@@ -4,3 +4,5 @@ pub mod Operations
 pub mod Divisors
 pub mod Ending
 pub mod Combination
+pub mod Demanded
+pub mod InExponents
