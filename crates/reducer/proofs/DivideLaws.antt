@@ -1,0 +1,232 @@
+-- A lead that is divided by divisor k: what the functions that a division calls ask, and what it leaves. Assumes nothing.
+use mathlib.Core.Path.{_≡_, refl, sym, ap, ap₂, _∙_, subst}
+use mathlib.Core.Bool.{Bool, true, false}
+use mathlib.Core.List.{List, [], _∷_}
+use Prim.Native.Nat.{ℕ, zero, suc, _+_, _-_, _<_, _≤_}
+use native.Mathlib.Omega.{arith}
+use lib.ListN.{length, getD, take, drop, length-drop}
+use lib.Seq.{length-take-le, take-all, drop-cons}
+use Rattle.residue.specs.declared.factor.Factor.{Factor}
+use Rattle.residue.specs.Share.{shareOf, FactorOf}
+use Rattle.residue.specs.Modular.{Modulus, negative, product, inverseOf}
+use Rattle.residue.proofs.Modular.{negative-below}
+use Rattle.residue.proofs.Inverses.{inverse-below}
+use Rattle.monomial.specs.declared.order.Order.{Order}
+use Rattle.monomial.specs.Words.{compareWords, Packed, dividesWord}
+use Rattle.monomial.proofs.LayoutLaws.{layout-packed}
+use Rattle.polynomial.specs.Terms.{Term, term, terms, All, Canonical}
+use Rattle.polynomial.specs.Multiple.{multiple}
+use Rattle.polynomial.specs.Opening.{partOf, Within}
+use Rattle.merge.specs.Multiplying.{AllPacked, anyOver}
+use Rattle.geobucket.specs.Buckets.{held}
+use Rattle.space.specs.Space.{bucketsIn, heldIn, dropped}
+use Rattle.space.proofs.SpaceLaws.{held-lens}
+use Rattle.space.specs.declared.state.Buckets.{Buckets}
+use Rattle.search.specs.declared.candidate.Candidate.{Candidate}
+use Rattle.buckets.specs.Adding.{AddDone}
+use Rattle.division.specs.Division.{tailMultiple}
+use Rattle.division.specs.Divisors.{Valid}
+use Rattle.division.specs.Steps.{anyTooLarge, overWord}
+use Rattle.division.proofs.TailLaws.{multiplier-good, Added, tail-added}
+use Rattle.division.proofs.WordOperations.{word-operations}
+use Rattle.engine.specs.Runs.{polynomial}
+use Rattle.reducer.specs.declared.state.State.{State}
+use Rattle.reducer.specs.Divisors.{leadWord, leadCoef, OfLayout, Checked, Inverses, Inverting}
+use Rattle.reducer.specs.States.{halted, removed, added}
+use Rattle.reducer.specs.Dividing.{TailAddition, TailAdded, tailOf, Dividing, toAdd, DividedTo, over, many, divided, Divided}
+
+-- ---- "anyOver" of words is "anyTooLarge" of terms
+pub over-terms : (q : ℕ) (ws cs : List ℕ) → length cs ≡ length ws → anyTooLarge overWord q (terms ws cs) ≡ anyOver q ws
+unfolding anyTooLarge anyOver
+over-terms q [] cs e = refl
+over-terms q (w ∷ ws) [] e = absurd (let z : ⊥ = omega arith in z)
+over-terms q (w ∷ ws) (c ∷ cs) e = rw (over-terms q ws cs (let z : length cs ≡ length ws = omega arith in z)) refl
+
+all-packed : (o : Order) (ws cs : List ℕ) → length cs ≡ length ws → All (λ t. OfLayout o (t .mono)) (terms ws cs) → AllPacked ws
+all-packed o [] cs e a = tt
+all-packed o (w ∷ ws) [] e a = absurd (let z : ⊥ = omega arith in z)
+all-packed o (w ∷ ws) (c ∷ cs) e a = (layout-packed o 6 w (omega arith) (a .0), all-packed o ws cs (let z : length cs ≡ length ws = omega arith in z) (a .1))
+
+-- ---- the polynomial of a divisor is its lead and its tail
+pub part-long : (starts : List ℕ) (k : ℕ) (l : List ℕ) → Within starts k (length l) → length (partOf starts k l) ≡ getD starts (k + 1) 0 - getD starts k 0
+part-long starts k l w = length-take-le (getD starts (k + 1) 0 - getD starts k 0) (drop (getD starts k 0) l) (let e = w .ends in omega (arith, w .rise, length-drop (getD starts k 0) l))
+
+pub part-cons : (starts : List ℕ) (k : ℕ) (l : List ℕ) → Within starts k (length l) → getD starts k 0 < getD starts (k + 1) 0 → partOf starts k l ≡ getD l (getD starts k 0) 0 ∷ tailOf starts k l
+part-cons starts k l w rises = by (getD starts (k + 1) 0 - getD starts k 0) (let z : 0 < getD starts (k + 1) 0 - getD starts k 0 = omega arith in z)
+  where
+    a : ℕ
+    a = getD starts k 0
+
+    by : (n : ℕ) → 0 < n → take n (drop (getD starts k 0) l) ≡ getD l (getD starts k 0) 0 ∷ drop 1 (take n (drop (getD starts k 0) l))
+    by zero h = absurd (let z : ⊥ = omega arith in z)
+    by (suc n) h = rw (drop-cons l (getD starts k 0) 0 (let z : getD starts k 0 < length l = omega (arith, w .ends) in z)) refl
+
+-- the part from place 1 on
+pub from-one : (l : List ℕ) → 1 ≤ length l → take (length l - 1) (drop 1 l) ≡ drop 1 l
+from-one l h = take-all (length l - 1) (drop 1 l) (omega (arith, length-drop 1 l))
+
+module _ {o : Order} {p : ℕ} {words coefs starts : List ℕ} {k : ℕ} {s : State} {lead : Candidate} {inverses bw bc ww wc mw mc : List ℕ} (a : Dividing o p words coefs starts k s lead inverses bw bc ww wc mw mc) where
+  -- ---- the divisor
+  pub words-part : Within starts k (length words)
+  words-part = a .checked .parts k (a .high)
+
+  pub coefs-part : Within starts k (length coefs)
+  coefs-part = subst (Within starts k) (sym (a .checked .long)) words-part
+
+  rises : getD starts k 0 < getD starts (k + 1) 0
+  rises = a .checked .not-zero k (a .low) (a .high)
+
+  pub words-cons : partOf starts k words ≡ leadWord words starts k ∷ tailOf starts k words
+  words-cons = part-cons starts k words words-part rises
+
+  pub coefs-cons : partOf starts k coefs ≡ leadCoef coefs starts k ∷ tailOf starts k coefs
+  coefs-cons = part-cons starts k coefs coefs-part rises
+
+  pub inside : getD starts k 0 < length coefs
+  inside = omega (arith, rises, coefs-part .ends)
+
+  pub tail-long : length (tailOf starts k coefs) ≡ length (tailOf starts k words)
+  tail-long = omega (arith, ap length words-cons, ap length coefs-cons, part-long starts k words words-part, part-long starts k coefs coefs-part)
+
+  abbrev divisorLead : Term ℕ
+  divisorLead = term (leadWord words starts k) (leadCoef coefs starts k)
+
+  abbrev tail : List (Term ℕ)
+  tail = terms (tailOf starts k words) (tailOf starts k coefs)
+
+  pub valid : Valid (compareWords o) p (OfLayout o) (divisorLead ∷ tail)
+  valid = subst (Valid (compareWords o) p (OfLayout o)) (ap₂ terms words-cons coefs-cons) (a .checked .valid k (a .high))
+
+  -- ---- the quotient
+  abbrev q : ℕ
+  q = lead .word - leadWord words starts k
+
+  pub quotient-le : leadWord words starts k ≤ lead .word
+  quotient-le = omega (arith, word-operations o 6 (omega arith) .back (lead .word) (leadWord words starts k) (a .of-layout) (valid .are .0) (a .fits))
+
+  pub quotient-packed : Packed q
+  quotient-packed = layout-packed o 6 q (omega arith) (word-operations o 6 (omega arith) .quotient-is (lead .word) (leadWord words starts k) (a .of-layout) (valid .are .0) (a .fits))
+
+  pub tail-packed : AllPacked (tailOf starts k words)
+  tail-packed = all-packed o (tailOf starts k words) (tailOf starts k coefs) tail-long (valid .are .1)
+
+  -- ---- the factor
+  pub inverting : Inverting p coefs starts k inverses
+  inverting = record {
+    modulus = a .checked .modulus;
+    prime = a .checked .prime;
+    low = a .low;
+    there = omega (arith, a .high);
+    inside = inside;
+    pos = valid .canonical .reduced .0 .0;
+    small = valid .canonical .reduced .0 .1;
+    kept = a .kept;
+  }
+
+  abbrev multiplier : ℕ
+  multiplier = product p (negative p (lead .coef)) (inverseOf p (leadCoef coefs starts k))
+
+  pub multiplier-small : multiplier < p
+  multiplier-small = multiplier-good p (lead .coef) (leadCoef coefs starts k) (a .checked .prime) (a .coef-pos) (a .coef-small) (valid .canonical .reduced .0 .0) (valid .canonical .reduced .0 .1) .1
+
+  -- ---- the terms held, less the lead
+  pub held-is : held (bucketsIn (s .buckets) bw bc) ≡ heldIn (s .buckets .len)
+  held-is = held-lens (s .buckets) (a .stands .laid) bw bc (a .stands .words-long) (a .stands .coefs-long)
+
+  -- ---- the multiple of the tail is added
+  module _ (none : anyOver q (tailOf starts k words) ≡ false) (few : held (bucketsIn (dropped (s .buckets) (lead .bucket)) bw bc) + length (tailOf starts k words) ≤ 4096) where
+    none-large : anyTooLarge overWord q tail ≡ false
+    none-large = over-terms q (tailOf starts k words) (tailOf starts k coefs) tail-long ∙ none
+
+    pub to-add : Added (compareWords o) p (OfLayout o) (term (lead .word) (lead .coef)) (toAdd o p words coefs starts k s lead bw bc)
+    to-add = tail-added (compareWords o) dividesWord _-_ _+_ overWord (OfLayout o) (word-operations o 6 (omega arith)) p (a .checked .prime) (term (lead .word) (lead .coef)) divisorLead tail (a .of-layout) (a .coef-pos) (a .coef-small) valid (a .fits) none-large
+
+    module _ {q' : ℕ} (eq : q' ≡ q) {tw tc : List ℕ} (etw : tw ≡ tailOf starts k words) (etc : tc ≡ tailOf starts k coefs) {v : ℕ} (ev : v ≡ multiplier) {f : Factor} (ef : FactorOf p v f) {r : State} (er : r ≡ removed s (lead .bucket)) where
+      made : multiple (λ x y. x + y) (f .prime) (f .value) q' (terms tw tc) ≡ toAdd o p words coefs starts k s lead bw bc
+      made = rw (ef .prime-is, ef .value-is, ev, eq, etw, etc) refl
+
+      pub tail-addition : TailAddition (compareWords o) p f q' tw tc r bw bc ww wc mw mc
+      tail-addition =
+          subst (λ (x : State). TailAddition (compareWords o) p f q' tw tc x bw bc ww wc mw mc) (sym er)
+          (record {
+            stands = a .rest;
+            multiplicands = record {
+              prepared = record {
+                modulus = subst Modulus (sym (ef .prime-is)) (a .checked .modulus);
+                below = omega (arith, ef .value-is, ef .prime-is, ev, multiplier-small);
+                share = ef .share-is ∙ ap₂ shareOf (sym (ef .prime-is)) (sym (ef .value-is));
+              };
+              poly = rw (ef .prime-is, etw, etc) (record { long = tail-long; reduced = valid .canonical .reduced .1 });
+              monomial = subst Packed (sym eq) quotient-packed;
+              packed = subst AllPacked (sym etw) tail-packed;
+              words-room = omega (arith, ap length etw, few, a .scratch-words);
+              coefs-room = omega (arith, ap length etw, few, a .scratch-coefs);
+            };
+            canonical = subst (Canonical (compareWords o) p) (sym made) (to-add .canonical);
+            room = omega (arith, ap length etw, few);
+            work = a .work;
+            few-comparisons = a .few-comparisons;
+            few-brought = a .few-brought;
+          })
+
+      pub divided-done : {s' : State} {bw' bc' : List ℕ} → TailAdded (compareWords o) p f q' tw tc r bw bc s' bw' bc' → DividedTo o p words coefs starts k s lead bw bc s' bw' bc'
+      divided-done {s'} {bw'} {bc'} d =
+          divided none few (d .comparisons)
+          (subst (λ (x : List (Term ℕ)). AddDone (compareWords o) p (dropped (s .buckets) (lead .bucket)) x bw bc bw' bc' (s' .buckets) (d .comparisons)) made (subst (λ (x : State). AddDone (compareWords o) p (x .buckets) (multiple (λ x y. x + y) (f .prime) (f .value) q' (terms tw tc)) bw bc bw' bc' (s' .buckets) (d .comparisons)) er (d .done)))
+          (d .is ∙ ap₂ (λ (x : State) (n : ℕ). added x (s' .buckets) (d .comparisons) n) er (ap length etw))
+
+-- ---- the part that is the divisor, as it is handed on
+module _ {x : ℕ} {l gs : List ℕ} (cons : l ≡ x ∷ drop 1 l) (e : gs ≡ l) where
+  pub part-some : 1 ≤ length gs
+  part-some = omega (arith, ap length (e ∙ cons))
+
+  pub part-lead : getD gs 0 0 ≡ x
+  part-lead = ap (λ (y : List ℕ). getD y 0 0) (e ∙ cons)
+
+  pub part-tail : take (length gs - 1) (drop 1 gs) ≡ drop 1 l
+  part-tail = from-one gs part-some ∙ ap (drop 1) e
+
+-- ---- the tests, as the code makes them
+module _ {o : Order} {p : ℕ} {words coefs starts : List ℕ} {k : ℕ} {s : State} {lead : Candidate} {inverses bw bc ww wc mw mc : List ℕ} (a : Dividing o p words coefs starts k s lead inverses bw bc ww wc mw mc) where
+  module _ {q' : ℕ} (eq : q' ≡ lead .word - leadWord words starts k) {tw : List ℕ} (etw : tw ≡ tailOf starts k words) where
+    pub any-asks : Packed q' × AllPacked tw
+    any-asks = (subst Packed (sym eq) (quotient-packed a), subst AllPacked (sym etw) (tail-packed a))
+
+  module _ {b : Bool} {q' : ℕ} {tw : List ℕ} (eb : b ≡ anyOver q' tw) (eq : q' ≡ lead .word - leadWord words starts k) (etw : tw ≡ tailOf starts k words) where
+    is-over : b ≡ anyOver (lead .word - leadWord words starts k) (tailOf starts k words)
+    is-over = eb ∙ ap₂ anyOver eq etw
+
+    pub over-done : b ≡ true → {s' : State} → s' ≡ halted s 12 → Divided o p words coefs starts k s lead bw bc s' inverses bw bc
+    over-done h e = record { kept = a .kept; done = over (sym is-over ∙ h) e refl refl }
+
+    module _ (no : b ≡ false) {n : ℕ} (en : n ≡ heldIn (s .buckets .len)) where
+      pub not-over : anyOver (lead .word - leadWord words starts k) (tailOf starts k words) ≡ false
+      not-over = sym is-over ∙ no
+
+      pub many-done : 4096 < n - 1 + length tw → {s' : State} → s' ≡ halted s 11 → Divided o p words coefs starts k s lead bw bc s' inverses bw bc
+      many-done h e = record { kept = a .kept; done = many not-over (let z : 4096 < held (bucketsIn (dropped (s .buckets) (lead .bucket)) bw bc) + length (tailOf starts k words) = omega (arith, a .one-less, held-is a, ap length etw) in z) e refl refl }
+
+      pub few-held : n - 1 + length tw ≤ 4096 → held (bucketsIn (dropped (s .buckets) (lead .bucket)) bw bc) + length (tailOf starts k words) ≤ 4096
+      few-held h = omega (arith, a .one-less, held-is a, ap length etw)
+
+  module _ {n : ℕ} (en : n ≡ heldIn (s .buckets .len)) where
+    pub held-some : 1 ≤ n
+    held-some = omega (arith, a .one-less, held-is a)
+
+    pub held-few : n ≤ 4096
+    held-few = omega (arith, a .room, held-is a)
+
+  -- ---- −c divided by the lead coefficient
+  module _ {x y : ℕ} (ex : x ≡ negative p (lead .coef)) (ey : y ≡ inverseOf p (leadCoef coefs starts k)) where
+    pub multiply-asks : Modulus p × (x < p) × (y < p)
+    multiply-asks = (a .checked .modulus, omega (arith, ex, negative-below p pos (lead .coef)), omega (arith, ey, inverse-below p (leadCoef coefs starts k) (a .checked .prime) (valid a .canonical .reduced .0 .0) (valid a .canonical .reduced .0 .1)))
+      where
+        pos : 0 < p
+        pos = omega (arith, a .checked .modulus .two)
+
+    module _ {v : ℕ} (ev : v ≡ product p x y) where
+      pub multiplier-is : v ≡ product p (negative p (lead .coef)) (inverseOf p (leadCoef coefs starts k))
+      multiplier-is = ev ∙ ap₂ (product p) ex ey
+
+      pub factor-asks : Modulus p × (v < p)
+      factor-asks = (a .checked .modulus, omega (arith, multiplier-is, multiplier-small a))

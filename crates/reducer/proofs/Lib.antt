@@ -1,0 +1,7 @@
+pub mod DivisorLaws
+pub mod BeginLaws
+pub mod TailLaws
+pub mod DivideLaws
+pub mod FirstLaws
+pub mod StepLaws
+pub mod ReduceLaws

@@ -1,0 +1,207 @@
+-- The steps of a reduction in turn. Assumes nothing.
+use mathlib.Core.Path.{_≡_, refl, sym, ap, ap₂, _∙_, subst}
+use mathlib.Core.Bool.{Bool, true, false}
+use mathlib.Core.List.{List, [], _∷_, _++_}
+use Prim.Native.Nat.{ℕ, zero, suc, _+_, _-_, _*_, _<_, _≤_, Ordering}
+use native.Mathlib.Omega.{arith}
+use lib.ListN.{length, drop, take}
+use lib.Seq.{drop-drop}
+use Rattle.monomial.specs.declared.order.Order.{Order}
+use Rattle.monomial.specs.Words.{compareWords, dividesWord}
+use Rattle.monomial.proofs.OrderLaws.{words-order}
+use Rattle.polynomial.specs.Terms.{Term, All, terms}
+use Rattle.polynomial.specs.Opening.{partOf, Within}
+use Rattle.geobucket.specs.Buckets.{empty, held, Good, add, addCompared}
+use Rattle.geobucket.specs.Events as events
+use Rattle.geobucket.proofs.AddLaws.{adds}
+use Rattle.geobucket.proofs.EventLaws.{room-six}
+use Rattle.space.specs.Space.{bucketsIn, Stands, noBuckets}
+use Rattle.space.proofs.SpaceLaws.{lists-none, stands-none}
+use Rattle.buckets.specs.Adding.{AddDone}
+use Rattle.division.specs.Divisors.{AllOf}
+use Rattle.division.specs.Steps.{Reduction, overWord, stepsFrom, reductionOfWords}
+use Rattle.division.proofs.HeldTerms.{Every, add-every}
+use Rattle.division.proofs.Endings.{begins, begins-not}
+use Rattle.engine.specs.Runs.{polynomial}
+use Rattle.engine.specs.States.{Addend, Lent, Output, Work}
+use Rattle.reducer.specs.declared.state.State.{State}
+use Rattle.reducer.specs.Divisors.{divisorsOf, OfLayout, Checked, Inverses}
+use Rattle.reducer.specs.Stepping.{Counts, Ended, Going, Reaches, Sound, Stepping, Stepped, Beginning, Begun, refused, begun, Reducible, Reduced}
+use Rattle.reducer.proofs.DivideLaws.{part-long}
+use Rattle.reducer.proofs.StepLaws.{false-true, of-every}
+
+-- the steps that may still come
+abbrev pub leftBy : Bool → ℕ → ℕ
+leftBy true n = suc n
+leftBy false n = 0
+
+pub record Turning (o : Order) (p : ℕ) (words coefs starts : List ℕ) (limit : ℕ) (ow₀ oc₀ bw bc ww wc ow oc inverses mw mc : List ℕ) (s : State) : Type 0 where
+  pub sound : Sound o p limit s bw bc ow oc
+  pub kept : Inverses p coefs starts inverses
+  pub work : Work ww wc
+  pub scratch-words : length mw ≡ 4096
+  pub scratch-coefs : length mc ≡ 4096
+  pub out-long : length ow ≡ length ow₀
+  pub coefs-out-long : length oc ≡ length oc₀
+  pub reaches : Reaches o p (divisorsOf words coefs starts) (length ow₀) limit s bw bc ow oc (reductionOfWords o p (divisorsOf words coefs starts) (length ow₀) limit (polynomial words coefs starts 0))
+  pub words-past : drop (s .terms) ow ≡ drop (s .terms) ow₀
+  pub coefs-past : drop (s .terms) oc ≡ drop (s .terms) oc₀
+
+held-none : held {A = ℕ} empty ≡ 0
+unfolding held
+held-none = refl
+
+every-none : (P : ℕ → Type 0) → Every P empty
+unfolding Every
+every-none P = (tt, (tt, (tt, (tt, (tt, (tt, tt))))))
+
+module _ {o : Order} {p : ℕ} {words coefs starts : List ℕ} {limit : ℕ} (a : Reducible o p words coefs starts limit) where
+  -- ---- polynomial 0
+  pub first-words : Within starts 0 (length words)
+  first-words = a .checked .parts 0 (omega (arith, a .checked .some))
+
+  pub first-coefs : Within starts 0 (length coefs)
+  first-coefs = subst (Within starts 0) (sym (a .checked .long)) first-words
+
+  module _ {fw fc : List ℕ} (ew : fw ≡ partOf starts 0 words) (ec : fc ≡ partOf starts 0 coefs) where
+    pub addend : Addend (compareWords o) p fw fc
+    addend = record {
+      long = ap length ec ∙ (part-long starts 0 coefs first-coefs ∙ sym (ap length ew ∙ part-long starts 0 words first-words));
+      canonical = rw (ew, ec) (a .checked .valid 0 (omega (arith, a .checked .some)) .canonical);
+    }
+
+    module _ {bw bc ww wc ow oc : List ℕ} (l : Lent bw bc ww wc ow oc) where
+      pub beginning : Beginning p bw bc ww wc
+      beginning = record { modulus = a .checked .modulus; words-long = l .words-long; coefs-long = l .coefs-long; work = l .work }
+
+      module _ {inverses mw mc ww' wc' : List ℕ} (i : Inverses p coefs starts inverses) (lmw : length mw ≡ 4096) (lmc : length mc ≡ 4096) (lw : length ww' ≡ length ww) (lc : length wc' ≡ length wc) where
+        pub turn-start : {s : State} {bw' bc' : List ℕ} → Begun (compareWords o) p (terms fw fc) bw bc s bw' bc' → Turning o p words coefs starts limit ow oc bw' bc' ww' wc' ow oc inverses mw mc s
+        turn-start {s} {bw'} {bc'} b = by b
+          where
+            gs : List (List (Term ℕ))
+            gs = divisorsOf words coefs starts
+
+            f-is : terms fw fc ≡ polynomial words coefs starts 0
+            f-is = ap₂ terms ew ec
+
+            from : (x : State) (bw' bc' : List ℕ) → Sound o p limit x bw' bc' ow oc → Reaches o p (divisorsOf words coefs starts) (length ow) limit x bw' bc' ow oc (reductionOfWords o p (divisorsOf words coefs starts) (length ow) limit (polynomial words coefs starts 0)) → Turning o p words coefs starts limit ow oc bw' bc' ww' wc' ow oc inverses mw mc x
+            from x bw' bc' s r = record {
+              sound = s;
+              kept = i;
+              work = record { words-long = lw ∙ l .work .words-long; coefs-long = lc ∙ l .work .coefs-long };
+              scratch-words = lmw;
+              scratch-coefs = lmc;
+              out-long = refl;
+              coefs-out-long = refl;
+              reaches = r;
+              words-past = refl;
+              coefs-past = refl;
+            }
+
+            by : Begun (compareWords o) p (terms fw fc) bw bc s bw' bc' → Turning o p words coefs starts limit ow oc bw' bc' ww' wc' ow oc inverses mw mc s
+            by (refused h es ebw ebc) =
+                let x : State = record { buckets = noBuckets; comparisons = 0; brought = 0; leads = 0; terms = 0; more = false; stop = 11 } in
+                rw (ebw, ebc)
+                (subst (λ (y : State). Turning o p words coefs starts limit ow oc bw bc ww' wc' ow oc inverses mw mc y) (sym es)
+                (from x bw bc
+                (record {
+                  stands = stands-none (compareWords o) p bw bc (a .checked .modulus) (l .words-long) (l .coefs-long);
+                  room = omega (arith, ap held (lists-none bw bc), held-none);
+                  of-layout = subst (AllOf (λ b. All (λ t. OfLayout o (t .mono)) b)) (sym (lists-none bw bc)) (of-every (OfLayout o) empty (every-none (OfLayout o)));
+                  output = record { same-long = l .same-long; fits = omega arith };
+                  few-leads = omega arith;
+                  few-comparisons = λ q. absurd (false-true q);
+                  few-brought = λ q. absurd (false-true q);
+                })
+                (record {
+                  going = λ q. absurd (false-true q);
+                  ended = λ q.
+                      subst (Ended x bw bc ow oc) (sym (begins-not (compareWords o) dividesWord _-_ _+_ overWord p gs (length ow) limit (polynomial words coefs starts 0) (subst (λ (g : List (Term ℕ)). 4096 < length g) f-is h)))
+                      (record { stop-is = refl; leads-are = refl; remainder-is = refl; counts = record { buckets-are = lists-none bw bc; comparisons-are = refl; brought-are = refl } });
+                })))
+            by (begun h n e es) =
+                let f = terms fw fc in
+                let valid = a .checked .valid 0 (omega (arith, a .checked .some)) in
+                let none = lists-none bw bc in
+                let lists : bucketsIn (s .buckets) bw' bc' ≡ add (compareWords o) p f empty = e .lists-are ∙ ap (add (compareWords o) p f) none in
+                let x : State = record { buckets = s .buckets; comparisons = n; brought = length f; leads = 0; terms = 0; more = true; stop = 0 } in
+                subst (λ (y : State). Turning o p words coefs starts limit ow oc bw' bc' ww' wc' ow oc inverses mw mc y) (sym es)
+                (from x bw' bc'
+                (record {
+                  stands = e .stands;
+                  room = omega (arith, ap held lists, adds (compareWords o) p (words-order o) (omega (arith, a .checked .modulus .two)) f empty (omega (arith, room-six {A = ℕ} empty refl, held-none)) (addend .canonical) (subst (Good (compareWords o) p 4) none (stands-none (compareWords o) p bw bc (a .checked .modulus) (l .words-long) (l .coefs-long) .good)) .size, held-none);
+                  of-layout = subst (AllOf (λ b. All (λ t. OfLayout o (t .mono)) b)) (sym lists) (of-every (OfLayout o) _ (add-every (OfLayout o) (compareWords o) p f empty (subst (All (λ t. OfLayout o (t .mono))) (sym f-is) (valid .are)) (every-none (OfLayout o))));
+                  output = record { same-long = l .same-long; fits = omega arith };
+                  few-leads = omega arith;
+                  few-comparisons = λ q. omega (arith, e .few);
+                  few-brought = λ q. omega arith;
+                })
+                (record {
+                  going = λ q. record {
+                    work = events.added (compareWords o) p f events.start;
+                    counts = record {
+                      buckets-are = lists;
+                      comparisons-are = e .count-is ∙ ap (λ (y : List (List (Term ℕ))). length (addCompared (compareWords o) p f y)) none;
+                      brought-are = refl;
+                    };
+                    comes-to =
+                        ap (λ (m : ℕ). stepsFrom (compareWords o) dividesWord _-_ _+_ overWord p gs (length ow) m 0 [] (events.added (compareWords o) p f events.start)) (let z : limit - 0 ≡ limit = omega arith in z)
+                        ∙ (ap (λ (g : List (Term ℕ)). stepsFrom (compareWords o) dividesWord _-_ _+_ overWord p gs (length ow) limit 0 [] (events.added (compareWords o) p g events.start)) f-is
+                        ∙ sym (begins (compareWords o) dividesWord _-_ _+_ overWord p gs (length ow) limit (polynomial words coefs starts 0) (subst (λ (g : List (Term ℕ)). length g ≤ 4096) f-is h)));
+                  };
+                  ended = λ q. absurd (false-true (sym q));
+                }))
+
+  -- ---- in a turn
+  module _ {ow₀ oc₀ bw bc ww wc ow oc inverses mw mc : List ℕ} {s : State} (v : Turning o p words coefs starts limit ow₀ oc₀ bw bc ww wc ow oc inverses mw mc s) where
+    module _ (more : s .more ≡ true) where
+      pub turn-asks : Stepping o p words coefs starts limit s inverses bw bc ww wc mw mc ow oc
+      turn-asks = record {
+        checked = a .checked;
+        few-steps = a .few-steps;
+        more = more;
+        sound = v .sound;
+        kept = v .kept;
+        work = v .work;
+        scratch-words = v .scratch-words;
+        scratch-coefs = v .scratch-coefs;
+      }
+
+      module _ {s' : State} {inverses' bw' bc' ow' oc' : List ℕ} (d : Stepped o p words coefs starts limit s bw bc ow oc s' inverses' bw' bc' ow' oc') where
+        past : {i j : ℕ} (x y : List ℕ) → i ≤ j → drop i x ≡ drop i y → drop j x ≡ drop j y
+        past {i} {j} x y le e =
+            let z : i + (j - i) ≡ j = omega arith in
+            ap (λ (n : ℕ). drop n x) (sym z) ∙ (sym (drop-drop (j - i) i x) ∙ (ap (drop (j - i)) e ∙ (drop-drop (j - i) i y ∙ ap (λ (n : ℕ). drop n y) z)))
+
+        pub turn-on : {ww' wc' mw' mc' : List ℕ} → length ww' ≡ length ww → length wc' ≡ length wc → length mw' ≡ length mw → length mc' ≡ length mc → length ow' ≡ length ow → length oc' ≡ length oc → Turning o p words coefs starts limit ow₀ oc₀ bw' bc' ww' wc' ow' oc' inverses' mw' mc' s'
+        turn-on lw lc lmw lmc low loc = record {
+          sound = d .sound;
+          kept = d .kept;
+          work = record { words-long = lw ∙ v .work .words-long; coefs-long = lc ∙ v .work .coefs-long };
+          scratch-words = lmw ∙ v .scratch-words;
+          scratch-coefs = lmc ∙ v .scratch-coefs;
+          out-long = low ∙ v .out-long;
+          coefs-out-long = loc ∙ v .coefs-out-long;
+          reaches =
+              let R = reductionOfWords o p (divisorsOf words coefs starts) (length ow₀) limit (polynomial words coefs starts 0) in
+              let g = subst (λ (n : ℕ). Going o p (divisorsOf words coefs starts) n limit s bw bc ow oc R) (sym (v .out-long)) (v .reaches .going more) in
+              subst (λ (n : ℕ). Reaches o p (divisorsOf words coefs starts) n limit s' bw' bc' ow' oc' R) (v .out-long) (d .reaches R g);
+          words-past = d .words-past ∙ past ow ow₀ (d .longer) (v .words-past);
+          coefs-past = d .coefs-past ∙ past oc oc₀ (d .longer) (v .coefs-past);
+        }
+
+        pub turn-less : leftBy (s' .more) (limit - s' .leads) < leftBy (s .more) (limit - s .leads)
+        turn-less = subst (λ (b : Bool). leftBy (s' .more) (limit - s' .leads) < leftBy b (limit - s .leads)) (sym more) (by (s' .more) refl)
+          where
+            by : (b : Bool) → s' .more ≡ b → leftBy b (limit - s' .leads) < suc (limit - s .leads)
+            by true e = let q = d .further e in omega (arith, q .0, q .1)
+            by false e = omega arith
+
+    pub turn-end : s .more ≡ false → Reduced o p words coefs starts limit ow₀ oc₀ s bw bc ow oc
+    turn-end e = record {
+      stands = v .sound .stands;
+      output = v .sound .output;
+      ended = v .reaches .ended e;
+      words-past = v .words-past;
+      coefs-past = v .coefs-past;
+    }

@@ -1,0 +1,434 @@
+-- One step of a reduction: the state that it leaves is sound, and on the way to what the published steps come to. Assumes nothing.
+use mathlib.Core.Path.{_≡_, refl, sym, ap, ap₂, _∙_, subst}
+use mathlib.Core.Bool.{Bool, true, false}
+use mathlib.Core.List.{List, [], _∷_, _++_}
+use Prim.Native.Nat.{ℕ, zero, suc, _+_, _-_, _*_, _<_, _≤_, Ordering}
+use native.Mathlib.Decide.{decLe}
+use native.Mathlib.Numerals.{add-one}
+use native.Mathlib.Omega.{arith}
+use lib.ListN.{length, drop, set, length-append, length-set}
+use Rattle.monomial.specs.declared.order.Order.{Order}
+use Rattle.monomial.specs.TotalOrder.{TotalOrder}
+use Rattle.monomial.specs.Layout.{Layout}
+use Rattle.monomial.specs.Words.{compareWords, dividesWord, Packed}
+use Rattle.monomial.proofs.OrderLaws.{words-order}
+use Rattle.monomial.proofs.LayoutLaws.{layout-packed}
+use Rattle.polynomial.specs.Terms.{Term, term, All, terms}
+use Rattle.polynomial.proofs.TermLists.{length-terms}
+use Rattle.polynomial.proofs.MultipleLaws.{length-multiple}
+use Rattle.merge.specs.Multiplying.{anyOver}
+use Rattle.geobucket.specs.Buckets.{held, add, addCompared}
+use Rattle.geobucket.specs.Search.{Lead, none, lead, search, withLead}
+use Rattle.geobucket.specs.Events as events
+use Rattle.geobucket.proofs.SearchLaws.{Canon, Within, Fewer, Leads as LeadOf, Finds, search-within, finds}
+use Rattle.geobucket.proofs.AddLaws.{adds}
+use Rattle.geobucket.proofs.EventLaws.{good-canon, room-six}
+use Rattle.space.specs.Space.{bucketsIn, Stands, dropped}
+use Rattle.space.specs.declared.state.Buckets.{Buckets}
+use Rattle.space.proofs.SpaceLaws.{from-long}
+use Rattle.search.specs.declared.candidate.Candidate.{Candidate}
+use Rattle.search.specs.Candidates.{candidateOf}
+use Rattle.search.specs.Searching.{Removal, FindDone, TakeDone}
+use Rattle.search.proofs.FindLaws.{shrunk-long}
+use Rattle.search.proofs.TakeLaws.{Has, the-lead, removal-asks, take-lead}
+use Rattle.buckets.specs.Adding.{AddDone}
+use Rattle.division.specs.Divisors.{AllOf}
+use Rattle.division.specs.Division.{unfit, fits, firstFit, tailMultiple}
+use Rattle.division.specs.Steps.{Reduction, anyTooLarge, stoppedBy, stepsFrom, overWord}
+use Rattle.division.proofs.HeldTerms.{Every, OfLead, add-every, search-every}
+use Rattle.division.proofs.TailLaws.{Added}
+use Rattle.division.proofs.Lasts.{with-every}
+use Rattle.division.proofs.WholeLaws.{left-none, left-held}
+use Rattle.division.proofs.StepLaws.{step-none, step-limit, step-kept, step-full, step-large, step-many, step-divided}
+use Rattle.engine.specs.States.{Output}
+use Rattle.engine.proofs.OutputLaws.{written-long, grown, grown-output, words-past, coefs-past}
+use Rattle.reducer.specs.declared.state.State.{State}
+use Rattle.reducer.specs.Divisors.{leadWord, leadCoef, divisorsOf, OfLayout, Checked, Leads, FirstFit, Inverses}
+use Rattle.reducer.specs.States.{searched, halted, removed, added, kept}
+use Rattle.reducer.specs.Dividing.{Dividing, DividedTo, over, many, divided, Divided, tailOf, toAdd}
+use Rattle.reducer.specs.Stepping.{Keeping, Kept, full, put, Counts, remainderIn, Ended, Going, Reaches, Sound, Stepping, Stepped}
+use Rattle.reducer.proofs.DivideLaws.{over-terms, tail-long, to-add}
+use Rattle.reducer.proofs.FirstLaws.{leads-there, fit-none, fit-some}
+
+pub false-true : false ≡ true → ⊥
+false-true e = let z : _≡_ {A = ℕ} 0 1 = ap (λ (b : Bool). elim b [ true ↦ 1 | false ↦ 0 ]) e in let q : ⊥ = omega arith in q
+
+-- ---- what holds of every monomial, in the two ways that it is said
+pub every-of : (P : ℕ → Type 0) (bs : List (List (Term ℕ))) → AllOf (λ b. All (λ t. P (t .mono)) b) bs → Every P bs
+unfolding AllOf Every
+every-of P [] a = tt
+every-of P (b ∷ bs) a = (a .0, every-of P bs (a .1))
+
+pub of-every : (P : ℕ → Type 0) (bs : List (List (Term ℕ))) → Every P bs → AllOf (λ b. All (λ t. P (t .mono)) b) bs
+unfolding AllOf Every
+of-every P [] a = tt
+of-every P (b ∷ bs) a = (a .0, of-every P bs (a .1))
+
+-- ---- the search
+pub searches : {o : Order} {p : ℕ} {words coefs starts : List ℕ} {limit : ℕ} {s : State} {inverses bw bc ww wc mw mc ow oc : List ℕ} → Stepping o p words coefs starts limit s inverses bw bc ww wc mw mc ow oc → {b : Buckets} {bc' : List ℕ} {k : Candidate} → FindDone (compareWords o) p (bucketsIn (s .buckets) bw bc) b bw bc' k → (s .comparisons < 2000000000000000000) × (k .count < 1000000)
+searches a d = (omega (arith, a .sound .few-comparisons (a .more), a .sound .few-leads, a .few-steps), omega (arith, d .few))
+
+-- ---- once the lead was searched for
+module _ {o : Order} {p : ℕ} {words coefs starts : List ℕ} {limit : ℕ} {s : State} {inverses bw bc ww wc mw mc ow oc : List ℕ} (a : Stepping o p words coefs starts limit s inverses bw bc ww wc mw mc ow oc)
+    {b : Buckets} {bc' : List ℕ} {k : Candidate} (d : FindDone (compareWords o) p (bucketsIn (s .buckets) bw bc) b bw bc' k) {t : State} (et : t ≡ searched s b (k .count)) where
+  abbrev cmp : ℕ → ℕ → Ordering
+  cmp = compareWords o
+
+  abbrev bs : List (List (Term ℕ))
+  bs = bucketsIn (s .buckets) bw bc
+
+  O : TotalOrder ℕ (compareWords o)
+  O = words-order o
+
+  pos : 0 < p
+  pos = omega (arith, a .checked .modulus .two)
+
+  canon : Canon (compareWords o) p (bucketsIn (s .buckets) bw bc)
+  canon = good-canon cmp p 4 bs (a .sound .stands .good)
+
+  six : length (bucketsIn (s .buckets) bw bc) ≡ 6
+  six = from-long _ 0 6
+
+  found : Finds (compareWords o) p (bucketsIn (s .buckets) bw bc) (search (compareWords o) p (bucketsIn (s .buckets) bw bc))
+  found = finds cmp p O pos bs canon
+
+  every : OfLead (OfLayout o) (search (compareWords o) p (bucketsIn (s .buckets) bw bc) .answer) × Every (OfLayout o) (search (compareWords o) p (bucketsIn (s .buckets) bw bc) .buckets)
+  every = search-every (OfLayout o) cmp p bs (every-of (OfLayout o) bs (a .sound .of-layout))
+
+  left-few : held (withLead (search (compareWords o) p (bucketsIn (s .buckets) bw bc) .answer) (search (compareWords o) p (bucketsIn (s .buckets) bw bc) .buckets)) ≤ 4096
+  left-few = by (search cmp p bs .answer) refl
+    where
+      by : (x : Lead ℕ) → search cmp p bs .answer ≡ x → held (withLead (search cmp p bs .answer) (search cmp p bs .buckets)) ≤ 4096
+      by none e = omega (arith, left-none cmp p O pos bs canon e)
+      by (lead at u) e = let f : held (search cmp p bs .buckets) < held bs = subst (λ (x : Lead ℕ). Fewer cmp p x (search cmp p bs .buckets) bs) e (found .fewer) in omega (arith, left-held cmp p O pos bs canon at u e, a .sound .room)
+
+  count-is : k .count ≡ length (search (compareWords o) p (bucketsIn (s .buckets) bw bc) .pairs)
+  count-is = ap (λ (x : Candidate). x .count) (d .candidate-is) ∙ by (search cmp p bs .answer) (length (search cmp p bs .pairs))
+    where
+      by : (x : Lead ℕ) (n : ℕ) → candidateOf x n .count ≡ n
+      by none n = refl
+      by (lead at u) n = refl
+
+  -- ---- the step ends the reduction with the lead left where it is
+  halted-sound : (r : ℕ) → Sound o p limit (halted (searched s b (k .count)) r) bw bc' ow oc
+  halted-sound r = record {
+    stands = d .stands;
+    room = omega (arith, ap held (d .lists-are), left-few);
+    of-layout = subst (AllOf (λ b. All (λ t. OfLayout o (t .mono)) b)) (sym (d .lists-are)) (of-every (OfLayout o) _ (with-every (OfLayout o) (search cmp p bs .answer) (search cmp p bs .buckets) (every .0) (every .1)));
+    output = a .sound .output;
+    few-leads = a .sound .few-leads;
+    few-comparisons = λ e. absurd (false-true e);
+    few-brought = λ e. absurd (false-true e);
+  }
+
+  halted-ended : (r : ℕ) (R : Reduction ℕ) (w : events.Work ℕ) → Counts s bw bc w → stoppedBy (compareWords o) dividesWord _-_ _+_ overWord p (divisorsOf words coefs starts) (length ow) r (s .leads) (remainderIn s ow oc) w ≡ R → Ended (halted (searched s b (k .count)) r) bw bc' ow oc R
+  halted-ended r R w c e =
+      subst (Ended (halted (searched s b (k .count)) r) bw bc' ow oc) e
+      (record {
+        stop-is = refl;
+        leads-are = refl;
+        remainder-is = refl;
+        counts = record {
+          buckets-are = d .lists-are ∙ ap (λ (x : List (List (Term ℕ))). withLead (search cmp p x .answer) (search cmp p x .buckets)) (c .buckets-are);
+          comparisons-are = ap₂ (λ (m n : ℕ). m + n) (c .comparisons-are) (count-is ∙ ap (λ (x : List (List (Term ℕ))). length (search cmp p x .pairs)) (c .buckets-are)) ∙ sym (length-append (w .pairs) (search cmp p (w .buckets) .pairs));
+          brought-are = c .brought-are;
+        };
+      })
+
+  halted-step : (r : ℕ) → ((w : events.Work ℕ) → Counts s bw bc w → stepsFrom (compareWords o) dividesWord _-_ _+_ overWord p (divisorsOf words coefs starts) (length ow) (limit - s .leads) (s .leads) (remainderIn s ow oc) w ≡ stoppedBy (compareWords o) dividesWord _-_ _+_ overWord p (divisorsOf words coefs starts) (length ow) r (s .leads) (remainderIn s ow oc) w)
+      → {s' : State} → s' ≡ halted t r → {inverses' : List ℕ} → Inverses p coefs starts inverses' → Stepped o p words coefs starts limit s bw bc ow oc s' inverses' bw bc' ow oc
+  halted-step r steps {s'} es {inverses'} i =
+      subst (λ (x : State). Stepped o p words coefs starts limit s bw bc ow oc x inverses' bw bc' ow oc) (sym (es ∙ ap (λ (x : State). halted x r) et))
+      (record {
+        sound = halted-sound r;
+        kept = i;
+        further = λ e. absurd (false-true e);
+        reaches = λ R g. record {
+          going = λ e. absurd (false-true e);
+          ended = λ e. halted-ended r R (g .work) (g .counts) (sym (steps (g .work) (g .counts)) ∙ g .comes-to);
+        };
+        longer = omega arith;
+        words-past = refl;
+        coefs-past = refl;
+      })
+
+  -- ---- zero was found
+  answer-none : k .bucket ≡ 6 → search (compareWords o) p (bucketsIn (s .buckets) bw bc) .answer ≡ none
+  answer-none h = by (search cmp p bs .answer) refl
+    where
+      long : length (search cmp p bs .buckets) ≡ 6
+      long = shrunk-long (search cmp p bs .buckets) bs (found .short) ∙ six
+
+      by : (x : Lead ℕ) → search cmp p bs .answer ≡ x → search cmp p bs .answer ≡ none
+      by none e = e
+      by (lead at u) e =
+          let w : at < length (search cmp p bs .buckets) = subst (λ (x : Lead ℕ). Within cmp p x (search cmp p bs .buckets)) e (search-within cmp p bs) in
+          let q : k .bucket ≡ at = ap (λ (x : Candidate). x .bucket) (d .candidate-is ∙ ap (λ (x : Lead ℕ). candidateOf x (length (search cmp p bs .pairs))) e) in
+          absurd (let z : ⊥ = omega (arith, w, long, q) in z)
+
+  pub zero-step : k .bucket ≡ 6 → {s' : State} → s' ≡ halted t 0 → Stepped o p words coefs starts limit s bw bc ow oc s' inverses bw bc' ow oc
+  zero-step h es =
+      halted-step 0
+      (λ w c. step-none cmp dividesWord _-_ _+_ overWord p (divisorsOf words coefs starts) (length ow) (limit - s .leads) (s .leads) (remainderIn s ow oc) w (ap (λ (x : List (List (Term ℕ))). search cmp p x .answer) (sym (c .buckets-are)) ∙ answer-none h))
+      es (a .kept)
+
+  -- ---- a lead was found
+  module _ (ne : k .bucket ≡ 6 → ⊥) where
+    L : Has (search (compareWords o) p (bucketsIn (s .buckets) bw bc) .answer)
+    L = the-lead O canon six d ne
+
+    in-work : (w : events.Work ℕ) → Counts s bw bc w → search (compareWords o) p (w .buckets) .answer ≡ lead (L .at) (L .term)
+    in-work w c = ap (λ (x : List (List (Term ℕ))). search cmp p x .answer) (sym (c .buckets-are)) ∙ L .is
+
+    candidate : k ≡ candidateOf (lead (L .at) (L .term)) (length (search (compareWords o) p (bucketsIn (s .buckets) bw bc) .pairs))
+    candidate = d .candidate-is ∙ ap (λ (x : Lead ℕ). candidateOf x (length (search cmp p bs .pairs))) (L .is)
+
+    word-is : k .word ≡ L .term .mono
+    word-is = ap (λ (x : Candidate). x .word) candidate
+
+    coef-is : k .coef ≡ L .term .coef
+    coef-is = ap (λ (x : Candidate). x .coef) candidate
+
+    term-is : term (k .word) (k .coef) ≡ L .term
+    term-is = ap₂ (λ (m c : ℕ). term m c) word-is coef-is
+
+    reduced : LeadOf (compareWords o) p (lead (L .at) (L .term)) (search (compareWords o) p (bucketsIn (s .buckets) bw bc) .buckets)
+    reduced = subst (λ (x : Lead ℕ). LeadOf cmp p x (search cmp p bs .buckets)) (L .is) (found .leads)
+
+    word-layout : OfLayout o (k .word)
+    word-layout = subst (OfLayout o) (sym word-is) (subst (OfLead (OfLayout o)) (L .is) (every .0))
+
+    fewer : held (search (compareWords o) p (bucketsIn (s .buckets) bw bc) .buckets) < held (bucketsIn (s .buckets) bw bc)
+    fewer = subst (λ (x : Lead ℕ). Fewer cmp p x (search cmp p bs .buckets) bs) (L .is) (found .fewer)
+
+    taken : TakeDone (compareWords o) p (bucketsIn (s .buckets) bw bc) (dropped b (k .bucket)) bw bc' k
+    taken = take-lead O canon six d ne refl
+
+    -- no step is left
+    pub limit-step : t .leads ≡ limit → {s' : State} → s' ≡ halted t 13 → Stepped o p words coefs starts limit s bw bc ow oc s' inverses bw bc' ow oc
+    limit-step h es =
+        let h' : s .leads ≡ limit = ap (λ (x : State). x .leads) (sym et) ∙ h in
+        let none-left : limit - s .leads ≡ 0 = omega arith in
+        halted-step 13
+        (λ w c. ap (λ (m : ℕ). stepsFrom cmp dividesWord _-_ _+_ overWord p (divisorsOf words coefs starts) (length ow) m (s .leads) (remainderIn s ow oc) w) none-left ∙ step-limit cmp dividesWord _-_ _+_ overWord p (divisorsOf words coefs starts) (length ow) (s .leads) (remainderIn s ow oc) w (L .at) (L .term) (in-work w c))
+        es (a .kept)
+
+    pub first-asks : Leads words starts × Packed (k .word)
+    first-asks = (leads-there (a .checked), layout-packed o 6 (k .word) (omega arith) word-layout)
+
+    module _ (room : t .leads ≡ limit → ⊥) where
+      few : s .leads < limit
+      few = let q : s .leads ≡ limit → ⊥ = λ e. room (ap (λ (x : State). x .leads) et ∙ e) in lt-of (s .leads) limit (a .sound .few-leads) q
+        where
+          lt-of : (m n : ℕ) → m ≤ n → (m ≡ n → ⊥) → m < n
+          lt-of m n l q = by (decLe n m)
+            where
+              by : Dec (n ≤ m) → m < n
+              by (yes h) = absurd (q (omega arith))
+              by (no h) = omega arith
+
+      one-left : limit - s .leads ≡ suc (limit - suc (s .leads))
+      one-left = omega (arith, few)
+
+      -- ---- the lead is divided by divisor i
+      module _ {i : ℕ} (f : FirstFit words starts (k .word) i) where
+        pub divide-asks : i + 1 < length starts → Dividing o p words coefs starts i t k inverses bw bc' ww wc mw mc
+        divide-asks high =
+            subst (λ (x : State). Dividing o p words coefs starts i x k inverses bw bc' ww wc mw mc) (sym et)
+            (record {
+              checked = a .checked;
+              low = f .low;
+              high = high;
+              fits = f .here high;
+              stands = d .stands;
+              room = omega (arith, ap held (d .lists-are), left-few);
+              removal = removal-asks O canon six d ne;
+              rest = taken .stands;
+              one-less = ap held (d .lists-are) ∙ (left-held cmp p O pos bs canon (L .at) (L .term) (L .is) ∙ (let z : suc (held (search cmp p bs .buckets)) ≡ held (bucketsIn (dropped b (k .bucket)) bw bc') + 1 = omega (arith, ap held (taken .lists-are)) in z));
+              of-layout = word-layout;
+              coef-pos = omega (arith, coef-is, reduced .0);
+              coef-small = omega (arith, coef-is, reduced .1);
+              kept = a .kept;
+              work = a .work;
+              scratch-words = a .scratch-words;
+              scratch-coefs = a .scratch-coefs;
+              few-leads = omega (arith, few, a .few-steps);
+              few-comparisons = omega (arith, few, a .few-steps, a .sound .few-comparisons (a .more), d .few);
+              few-brought = omega (arith, few, a .few-steps, a .sound .few-brought (a .more));
+            })
+
+        pub keep-asks : Keeping t k ow oc
+        keep-asks =
+            subst (λ (x : State). Keeping x k ow oc) (sym et)
+            (record { removal = removal-asks O canon six d ne; few-leads = omega (arith, few, a .few-steps); output = a .sound .output })
+
+        -- the definition finds the same divisor
+        module _ (high : i + 1 < length starts) where
+          D : Dividing o p words coefs starts i t k inverses bw bc' ww wc mw mc
+          D = divide-asks high
+
+          g : Term ℕ
+          g = term (leadWord words starts i) (leadCoef coefs starts i)
+
+          tail : List (Term ℕ)
+          tail = terms (tailOf starts i words) (tailOf starts i coefs)
+
+          tail-is : length (terms (tailOf starts i words) (tailOf starts i coefs)) ≡ length (tailOf starts i words)
+          tail-is = length-terms (tailOf starts i words) (tailOf starts i coefs) (tail-long D)
+
+          fit : firstFit dividesWord (L .term .mono) (divisorsOf words coefs starts) ≡ fits (term (leadWord words starts i) (leadCoef coefs starts i)) (terms (tailOf starts i words) (tailOf starts i coefs))
+          fit = ap (λ (m : ℕ). firstFit dividesWord m (divisorsOf words coefs starts)) (sym word-is) ∙ fit-some (a .checked) f high
+
+          large-is : anyTooLarge overWord (L .term .mono - leadWord words starts i) (terms (tailOf starts i words) (tailOf starts i coefs)) ≡ anyOver (k .word - leadWord words starts i) (tailOf starts i words)
+          large-is = over-terms (L .term .mono - leadWord words starts i) (tailOf starts i words) (tailOf starts i coefs) (tail-long D) ∙ ap (λ (m : ℕ). anyOver (m - leadWord words starts i) (tailOf starts i words)) (sym word-is)
+
+          rest-is : (w : events.Work ℕ) → Counts s bw bc w → search (compareWords o) p (w .buckets) .buckets ≡ bucketsIn (dropped b (k .bucket)) bw bc'
+          rest-is w c = ap (λ (x : List (List (Term ℕ))). search cmp p x .buckets) (sym (c .buckets-are)) ∙ sym (taken .lists-are)
+
+          rest-of : held (bucketsIn (dropped (t .buckets) (k .bucket)) bw bc') ≡ held (bucketsIn (dropped b (k .bucket)) bw bc')
+          rest-of = ap (λ (x : State). held (bucketsIn (dropped (x .buckets) (k .bucket)) bw bc')) et
+
+          -- where a step is left
+          abbrev Steps : (more leads : ℕ) → List (Term ℕ) → events.Work ℕ → Reduction ℕ
+          Steps more leads r w = stepsFrom cmp dividesWord _-_ _+_ overWord p (divisorsOf words coefs starts) (length ow) more leads r w
+
+          at-more : (w : events.Work ℕ) {x : Reduction ℕ} → Steps (suc (limit - suc (s .leads))) (s .leads) (remainderIn s ow oc) w ≡ x → Steps (limit - s .leads) (s .leads) (remainderIn s ow oc) w ≡ x
+          at-more w e = ap (λ (m : ℕ). Steps m (s .leads) (remainderIn s ow oc) w) one-left ∙ e
+
+          divided-to : {inverses' : List ℕ} → Inverses p coefs starts inverses' → {bw' bc'' : List ℕ} {b' : Buckets} {m : ℕ}
+              → anyOver (k .word - leadWord words starts i) (tailOf starts i words) ≡ false → held (bucketsIn (dropped b (k .bucket)) bw bc') + length (tailOf starts i words) ≤ 4096
+              → AddDone (compareWords o) p (dropped b (k .bucket)) (tailMultiple _-_ _+_ p (L .term) (term (leadWord words starts i) (leadCoef coefs starts i)) (terms (tailOf starts i words) (tailOf starts i coefs))) bw bc' bw' bc'' b' m
+              → Added (compareWords o) p (OfLayout o) (L .term) (tailMultiple _-_ _+_ p (L .term) (term (leadWord words starts i) (leadCoef coefs starts i)) (terms (tailOf starts i words) (tailOf starts i coefs)))
+              → Stepped o p words coefs starts limit s bw bc ow oc (added (removed (searched s b (k .count)) (k .bucket)) b' m (length (tailOf starts i words))) inverses' bw' bc'' ow oc
+          divided-to i' {bw'} {bc''} {b'} {m} no-over small e u = record {
+            sound = record {
+              stands = e .stands;
+              room = omega (arith, ap held (e .lists-are), adds cmp p O pos h cs (omega (arith, room-six cs (from-long _ 0 6), h-long)) (u .canonical) (taken .stands .good) .size, h-long);
+              of-layout = subst (AllOf (λ b. All (λ t. OfLayout o (t .mono)) b)) (sym (e .lists-are)) (of-every (OfLayout o) _ (add-every (OfLayout o) cmp p h cs (u .are) (subst (Every (OfLayout o)) (sym (taken .lists-are)) (every .1))));
+              output = a .sound .output;
+              few-leads = omega (arith, few);
+              few-comparisons = λ q. omega (arith, a .sound .few-comparisons (a .more), d .few, e .few);
+              few-brought = λ q. omega (arith, a .sound .few-brought (a .more), small);
+            };
+            kept = i';
+            further = λ q. (refl, few);
+            reaches = λ R v. record {
+              going = λ q. record {
+                work = events.added cmp p h (events.removed cmp p (v .work));
+                counts = record {
+                  buckets-are = e .lists-are ∙ ap (add cmp p h) (sym (rest-is (v .work) (v .counts)));
+                  comparisons-are = counted (v .work) (v .counts);
+                  brought-are = ap (λ (n : ℕ). n + length (tailOf starts i words)) (v .counts .brought-are) ∙ (ap (λ (n : ℕ). length (v .work .brought) + n) (sym h-long) ∙ sym (length-append (v .work .brought) h));
+                };
+                comes-to = ap (λ (n : ℕ). Steps (limit - n) n (remainderIn s ow oc) (events.added cmp p h (events.removed cmp p (v .work)))) (add-one (s .leads)) ∙ (sym (at-more (v .work) (step-divided cmp dividesWord _-_ _+_ overWord p (divisorsOf words coefs starts) (length ow) (limit - suc (s .leads)) (s .leads) (remainderIn s ow oc) (v .work) (L .at) (L .term) (in-work (v .work) (v .counts)) (term (leadWord words starts i) (leadCoef coefs starts i)) (terms (tailOf starts i words) (tailOf starts i coefs)) fit (large-is ∙ no-over) (omega (arith, ap held (rest-is (v .work) (v .counts)), tail-is)))) ∙ v .comes-to);
+              };
+              ended = λ q. absurd (false-true (sym q ∙ a .more));
+            };
+            longer = omega arith;
+            words-past = refl;
+            coefs-past = refl;
+          }
+            where
+              h : List (Term ℕ)
+              h = tailMultiple _-_ _+_ p (L .term) (term (leadWord words starts i) (leadCoef coefs starts i)) (terms (tailOf starts i words) (tailOf starts i coefs))
+
+              cs : List (List (Term ℕ))
+              cs = bucketsIn (dropped b (k .bucket)) bw bc'
+
+              h-long : length (tailMultiple _-_ _+_ p (L .term) (term (leadWord words starts i) (leadCoef coefs starts i)) (terms (tailOf starts i words) (tailOf starts i coefs))) ≡ length (tailOf starts i words)
+              h-long = length-multiple _+_ p _ _ (terms (tailOf starts i words) (tailOf starts i coefs)) ∙ tail-is
+
+              counted : (w : events.Work ℕ) (c : Counts s bw bc w) → s .comparisons + k .count + m ≡ length ((w .pairs ++ search cmp p (w .buckets) .pairs) ++ addCompared cmp p h (search cmp p (w .buckets) .buckets))
+              counted w c =
+                  let x : s .comparisons ≡ length (w .pairs) = c .comparisons-are in
+                  let y : k .count ≡ length (search cmp p (w .buckets) .pairs) = count-is ∙ ap (λ (x : List (List (Term ℕ))). length (search cmp p x .pairs)) (c .buckets-are) in
+                  let z : m ≡ length (addCompared cmp p h (search cmp p (w .buckets) .buckets)) = e .count-is ∙ ap (λ (x : List (List (Term ℕ))). length (addCompared cmp p h x)) (sym (rest-is w c)) in
+                  omega (arith, x, y, z, length-append (w .pairs) (search cmp p (w .buckets) .pairs), length-append (w .pairs ++ search cmp p (w .buckets) .pairs) (addCompared cmp p h (search cmp p (w .buckets) .buckets)))
+
+          pub divided-step : {s' : State} {inverses' bw' bc'' : List ℕ} → Divided o p words coefs starts i t k bw bc' s' inverses' bw' bc'' → Stepped o p words coefs starts limit s bw bc ow oc s' inverses' bw' bc'' ow oc
+          divided-step {s'} {inverses'} {bw'} {bc''} v = by (v .done)
+            where
+              by : DividedTo o p words coefs starts i t k bw bc' s' bw' bc'' → Stepped o p words coefs starts limit s bw bc ow oc s' inverses' bw' bc'' ow oc
+              by (over h es ew ec) =
+                  rw (ew, ec)
+                  (halted-step 12
+                  (λ w c. at-more w (step-large cmp dividesWord _-_ _+_ overWord p (divisorsOf words coefs starts) (length ow) (limit - suc (s .leads)) (s .leads) (remainderIn s ow oc) w (L .at) (L .term) (in-work w c) (term (leadWord words starts i) (leadCoef coefs starts i)) (terms (tailOf starts i words) (tailOf starts i coefs)) fit (large-is ∙ h)))
+                  es (v .kept))
+              by (many h l es ew ec) =
+                  rw (ew, ec)
+                  (halted-step 11
+                  (λ w c. at-more w (step-many cmp dividesWord _-_ _+_ overWord p (divisorsOf words coefs starts) (length ow) (limit - suc (s .leads)) (s .leads) (remainderIn s ow oc) w (L .at) (L .term) (in-work w c) (term (leadWord words starts i) (leadCoef coefs starts i)) (terms (tailOf starts i words) (tailOf starts i coefs)) fit (large-is ∙ h) (omega (arith, ap held (rest-is w c), tail-is, rest-of))))
+                  es (v .kept))
+              by (divided h l m e es) =
+                  let few-terms : held (bucketsIn (dropped b (k .bucket)) bw bc') + length (tailOf starts i words) ≤ 4096 = omega (arith, rest-of) in
+                  let u = to-add D h l in
+                  let e' : AddDone cmp p (dropped b (k .bucket)) (tailMultiple _-_ _+_ p (term (k .word) (k .coef)) (term (leadWord words starts i) (leadCoef coefs starts i)) (terms (tailOf starts i words) (tailOf starts i coefs))) bw bc' bw' bc'' (s' .buckets) m = subst (λ (x : State). AddDone cmp p (dropped (x .buckets) (k .bucket)) (toAdd o p words coefs starts i x k bw bc') bw bc' bw' bc'' (s' .buckets) m) et e in
+                  subst (λ (x : State). Stepped o p words coefs starts limit s bw bc ow oc x inverses' bw' bc'' ow oc) (sym (es ∙ ap (λ (x : State). added (removed x (k .bucket)) (s' .buckets) m (length (tailOf starts i words))) et))
+                  (divided-to (v .kept) h few-terms
+                  (subst (λ (x : Term ℕ). AddDone cmp p (dropped b (k .bucket)) (tailMultiple _-_ _+_ p x (term (leadWord words starts i) (leadCoef coefs starts i)) (terms (tailOf starts i words) (tailOf starts i coefs))) bw bc' bw' bc'' (s' .buckets) m) term-is e')
+                  (subst (λ (x : Term ℕ). Added cmp p (OfLayout o) x (tailMultiple _-_ _+_ p x (term (leadWord words starts i) (leadCoef coefs starts i)) (terms (tailOf starts i words) (tailOf starts i coefs)))) term-is u))
+
+        -- ---- the lead goes to the remainder
+        module _ (low : length starts ≤ i + 1) where
+          no-fit : firstFit dividesWord (L .term .mono) (divisorsOf words coefs starts) ≡ unfit
+          no-fit = ap (λ (m : ℕ). firstFit dividesWord m (divisorsOf words coefs starts)) (sym word-is) ∙ fit-none (a .checked) f low
+
+          at-next : (w : events.Work ℕ) {x : Reduction ℕ} → stepsFrom (compareWords o) dividesWord _-_ _+_ overWord p (divisorsOf words coefs starts) (length ow) (suc (limit - suc (s .leads))) (s .leads) (remainderIn s ow oc) w ≡ x → stepsFrom (compareWords o) dividesWord _-_ _+_ overWord p (divisorsOf words coefs starts) (length ow) (limit - s .leads) (s .leads) (remainderIn s ow oc) w ≡ x
+          at-next w e = ap (λ (m : ℕ). stepsFrom cmp dividesWord _-_ _+_ overWord p (divisorsOf words coefs starts) (length ow) m (s .leads) (remainderIn s ow oc) w) one-left ∙ e
+
+          pub kept-step : {s' : State} {ow' oc' : List ℕ} → Kept t k ow oc s' ow' oc' → Stepped o p words coefs starts limit s bw bc ow oc s' inverses bw bc' ow' oc'
+          kept-step {s'} {ow'} {oc'} v = by v
+            where
+              terms-same : t .terms ≡ s .terms
+              terms-same = ap (λ (x : State). x .terms) et
+
+              put-to : s .terms < length ow → Stepped o p words coefs starts limit s bw bc ow oc (kept (searched s b (k .count)) (k .bucket)) inverses bw bc' (set ow (s .terms) (k .word)) (set oc (s .terms) (k .coef))
+              put-to h =
+                  let out = a .sound .output in
+                  let x = k .word ∷ [] in
+                  let y = k .coef ∷ [] in
+                  let fit : s .terms + length x ≤ length ow = omega arith in
+                  let grows : remainderIn (kept (searched s b (k .count)) (k .bucket)) (set ow (s .terms) (k .word)) (set oc (s .terms) (k .coef)) ≡ remainderIn s ow oc ++ L .term ∷ [] = grown out x y refl fit ∙ ap (λ (u : Term ℕ). remainderIn s ow oc ++ (u ∷ [])) term-is in
+                  record {
+                    sound = record {
+                      stands = taken .stands;
+                      room = omega (arith, ap held (taken .lists-are), fewer, a .sound .room);
+                      of-layout = subst (AllOf (λ b. All (λ t. OfLayout o (t .mono)) b)) (sym (taken .lists-are)) (of-every (OfLayout o) _ (every .1));
+                      output = grown-output out x y refl fit;
+                      few-leads = omega (arith, few);
+                      few-comparisons = λ q. omega (arith, a .sound .few-comparisons (a .more), d .few);
+                      few-brought = λ q. omega (arith, a .sound .few-brought (a .more));
+                    };
+                    kept = a .kept;
+                    further = λ q. (refl, few);
+                    reaches = λ R g. record {
+                      going = λ q. record {
+                        work = events.removed cmp p (g .work);
+                        counts = record {
+                          buckets-are = taken .lists-are ∙ ap (λ (x : List (List (Term ℕ))). search cmp p x .buckets) (g .counts .buckets-are);
+                          comparisons-are = ap₂ (λ (m n : ℕ). m + n) (g .counts .comparisons-are) (count-is ∙ ap (λ (x : List (List (Term ℕ))). length (search cmp p x .pairs)) (g .counts .buckets-are)) ∙ sym (length-append (g .work .pairs) (search cmp p (g .work .buckets) .pairs));
+                          brought-are = g .counts .brought-are;
+                        };
+                        comes-to = place-at R (g .work) grows (sym (at-next (g .work) (step-kept cmp dividesWord _-_ _+_ overWord p (divisorsOf words coefs starts) (length ow) (limit - suc (s .leads)) (s .leads) (remainderIn s ow oc) (g .work) (L .at) (L .term) (in-work (g .work) (g .counts)) no-fit (omega (arith, written-long out)))) ∙ g .comes-to);
+                      };
+                      ended = λ q. absurd (false-true (sym q ∙ a .more));
+                    };
+                    longer = omega arith;
+                    words-past = words-past out x y refl fit;
+                    coefs-past = coefs-past out x y refl fit;
+                  }
+                where
+                  place-at : (R : Reduction ℕ) (w : events.Work ℕ) {r : List (Term ℕ)} → r ≡ remainderIn s ow oc ++ L .term ∷ [] → stepsFrom (compareWords o) dividesWord _-_ _+_ overWord p (divisorsOf words coefs starts) (length ow) (limit - suc (s .leads)) (suc (s .leads)) (remainderIn s ow oc ++ L .term ∷ []) (events.removed (compareWords o) p w) ≡ R
+                      → stepsFrom (compareWords o) dividesWord _-_ _+_ overWord p (divisorsOf words coefs starts) (length ow) (limit - (s .leads + 1)) (s .leads + 1) r (events.removed (compareWords o) p w) ≡ R
+                  place-at R w er e = ap₂ (λ (n : ℕ) (r : List (Term ℕ)). stepsFrom cmp dividesWord _-_ _+_ overWord p (divisorsOf words coefs starts) (length ow) (limit - n) n r (events.removed cmp p w)) (add-one (s .leads)) er ∙ e
+
+              by : Kept t k ow oc s' ow' oc' → Stepped o p words coefs starts limit s bw bc ow oc s' inverses bw bc' ow' oc'
+              by (full h es ew ec) =
+                  rw (ew, ec)
+                  (halted-step 10
+                  (λ w c. at-next w (step-full cmp dividesWord _-_ _+_ overWord p (divisorsOf words coefs starts) (length ow) (limit - suc (s .leads)) (s .leads) (remainderIn s ow oc) w (L .at) (L .term) (in-work w c) no-fit (omega (arith, written-long (a .sound .output), terms-same))))
+                  es (a .kept))
+              by (put h es ew ec) =
+                  let ew' : ow' ≡ set ow (s .terms) (k .word) = ew ∙ ap (λ (n : ℕ). set ow n (k .word)) terms-same in
+                  let ec' : oc' ≡ set oc (s .terms) (k .coef) = ec ∙ ap (λ (n : ℕ). set oc n (k .coef)) terms-same in
+                  rw (ew', ec') (subst (λ (x : State). Stepped o p words coefs starts limit s bw bc ow oc x inverses bw bc' (set ow (s .terms) (k .word)) (set oc (s .terms) (k .coef))) (sym (es ∙ ap (λ (x : State). kept x (k .bucket)) et)) (put-to (omega (arith, terms-same))))

@@ -1,0 +1,70 @@
+-- The divisors as they are lent: "Polynomial 0 is added first; the others are divisors." What the search for a fitting one and the inverse of its lead coefficient ask and give. Assumes nothing.
+use Prim.Native.Nat.{ℕ, _+_, _-_, _<_, _≤_}
+use mathlib.Core.Path.{_≡_}
+use mathlib.Core.Bool.{true, false}
+use mathlib.Core.List.{List}
+use mathlib.Core.Logic.{_⊎_}
+use lib.ListN.{length, getD}
+use Rattle.residue.specs.Modular.{Modulus, inverseOf}
+use Rattle.residue.specs.Prime.{Prime}
+use Rattle.monomial.specs.declared.order.Order.{Order}
+use Rattle.monomial.specs.Layout.{Layout}
+use Rattle.monomial.specs.Words.{compareWords, Packed, dividesWord}
+use Rattle.polynomial.specs.Terms.{Term}
+use Rattle.polynomial.specs.Opening.{Within}
+use Rattle.space.specs.Space.{listFrom}
+use Rattle.division.specs.Divisors.{Valid}
+use Rattle.engine.specs.Runs.{polynomial}
+
+-- the lead of polynomial k
+abbrev pub leadWord : (words starts : List ℕ) → ℕ → ℕ
+leadWord words starts k = getD words (getD starts k 0) 0
+
+abbrev pub leadCoef : (coefs starts : List ℕ) → ℕ → ℕ
+leadCoef coefs starts k = getD coefs (getD starts k 0) 0
+
+-- the polynomials from 1 on
+abbrev pub divisorsOf : (words coefs starts : List ℕ) → List (List (Term ℕ))
+divisorsOf words coefs starts = listFrom (polynomial words coefs starts) 1 (length starts - 2)
+
+-- a word of the layout; those of fewer variables are words of six
+abbrev pub OfLayout : Order → ℕ → Type 0
+OfLayout o w = Layout o 6 w
+
+-- polynomials that passed the opening checks of a reduction
+pub record Checked (o : Order) (p : ℕ) (words coefs starts : List ℕ) : Type 0 where
+  pub modulus : Modulus p
+  pub prime : Prime p
+  pub long : length coefs ≡ length words
+  pub some : 1 < length starts
+  pub parts : (k : ℕ) → k + 1 < length starts → Within starts k (length words)
+  pub valid : (k : ℕ) → k + 1 < length starts → Valid (compareWords o) p (OfLayout o) (polynomial words coefs starts k)
+  pub not-zero : (k : ℕ) → 1 ≤ k → k + 1 < length starts → getD starts k 0 < getD starts (k + 1) 0
+
+-- the leads of the divisors are there
+pub record Leads (words starts : List ℕ) : Type 0 where
+  pub some : 1 < length starts
+  pub there : (k : ℕ) → 1 ≤ k → k + 1 < length starts → getD starts k 0 < length words
+  pub packed : (k : ℕ) → 1 ≤ k → k + 1 < length starts → Packed (leadWord words starts k)
+
+-- "The first divisor in the list whose lead monomial divides α"
+pub record FirstFit (words starts : List ℕ) (α k : ℕ) : Type 0 where
+  pub low : 1 ≤ k
+  pub high : k + 1 ≤ length starts
+  pub before : (j : ℕ) → 1 ≤ j → j < k → dividesWord (leadWord words starts j) α ≡ false
+  pub here : k + 1 < length starts → dividesWord (leadWord words starts k) α ≡ true
+
+-- the inverses of the lead coefficients of the first 1,024 divisors, as far as they were asked for
+pub record Inverses (p : ℕ) (coefs starts inverses : List ℕ) : Type 0 where
+  pub long : length inverses ≡ 1024
+  pub each : (j : ℕ) → j < 1024 → (getD inverses j 0 ≡ 0) ⊎ (getD inverses j 0 ≡ inverseOf p (leadCoef coefs starts (j + 1)))
+
+pub record Inverting (p : ℕ) (coefs starts : List ℕ) (k : ℕ) (inverses : List ℕ) : Type 0 where
+  pub modulus : Modulus p
+  pub prime : Prime p
+  pub low : 1 ≤ k
+  pub there : k < length starts
+  pub inside : getD starts k 0 < length coefs
+  pub pos : 0 < leadCoef coefs starts k
+  pub small : leadCoef coefs starts k < p
+  pub kept : Inverses p coefs starts inverses

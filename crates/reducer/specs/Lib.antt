@@ -1,0 +1,4 @@
+pub mod Divisors
+pub mod States
+pub mod Dividing
+pub mod Stepping

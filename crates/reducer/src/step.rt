@@ -1,0 +1,87 @@
+// One step of a reduction.
+use crate::divide::divide;
+use crate::divisor::first_fit;
+use crate::state::State;
+use monomial::order::Order;
+use search::candidate::Candidate;
+use search::lead::find_lead;
+ghost use Rattle.reducer.specs.Stepping.{Keeping, Kept, Stepping, Stepped};
+
+// Finds the lead, then divides it by the first divisor whose lead monomial divides it, or puts it to
+// the remainder. Stops with 13 where a lead is found and the limit's leads are removed already.
+pub fn step<'a>(
+    order: Order,
+    p: u32,
+    words: &'a [u64],
+    coefs: &'a [u32],
+    starts: &[usize],
+    limit: u64,
+    s: State,
+    inverses: &mut [u32],
+    bw: &mut [u64],
+    bc: &mut [u32],
+    ww: &mut [u64],
+    wc: &mut [u32],
+    mw: &mut [u64],
+    mc: &mut [u32],
+    ow: &mut [u64],
+    oc: &mut [u32],
+) -> State
+    requires { ⌜ Stepping order p (now words) (now coefs) (now starts) limit s (now inverses) (now bw) (now bc) (now ww) (now wc) (now mw) (now mc) (now ow) (now oc) ⌝ }
+    ensures { λ r. ⌜ Stepped order p (now (words .entry)) (now (coefs .entry)) (now (starts .entry)) limit s (now (bw .entry)) (now (bc .entry)) (now (ow .entry)) (now (oc .entry)) r (now (inverses .exit)) (now (bw .exit)) (now (bc .exit)) (now (ow .exit)) (now (oc .exit)) ⌝ }
+{
+    let f = find_lead(order, p, s.buckets, bw, bc);
+    let lead = f.candidate;
+    let t = s.search(f.buckets, lead.count);
+    if lead.bucket == 6 {
+        return t.halt(0);
+    }
+    if t.leads == limit {
+        return t.halt(13);
+    }
+    let k = first_fit(words, starts, lead.word);
+    if k + 1 < starts.len() {
+        return divide(
+            order,
+            p,
+            words,
+            coefs,
+            starts,
+            k,
+            t,
+            lead,
+            inverses,
+            bw,
+            bc,
+            ww,
+            wc,
+            mw,
+            mc,
+        );
+    }
+    keep(t, lead, ow, oc)
+}
+
+// Puts the lead to the remainder, or refuses with 10 where the output has no place for it.
+fn keep(s: State, lead: Candidate, ow: &mut [u64], oc: &mut [u32]) -> State
+    requires { ⌜ Keeping s lead (now ow) (now oc) ⌝ }
+    ensures { λ r. ⌜ Kept s lead (now (ow .entry)) (now (oc .entry)) r (now (ow .exit)) (now (oc .exit)) ⌝ }
+{
+    let at = s.terms;
+    if at >= ow.len() {
+        return s.halt(10);
+    }
+    ow[at] = lead.word;
+    oc[at] = lead.coef;
+    let t = s.remove(lead);
+    let buckets = t.buckets;
+    State {
+        buckets,
+        comparisons: t.comparisons,
+        brought: t.brought,
+        leads: t.leads,
+        terms: at + 1,
+        more: t.more,
+        stop: t.stop,
+    }
+}

@@ -1,0 +1,97 @@
+// The steps of a reduction in turn.
+use crate::state::State;
+use crate::step::step;
+use buckets::add::add;
+use monomial::order::Order;
+use polynomial::part::coefs_of;
+use polynomial::part::words_of;
+use space::state::empty;
+ghost use Rattle.monomial.specs.Words.{compareWords};
+ghost use Rattle.polynomial.specs.Terms.{terms};
+ghost use Rattle.engine.specs.States.{Addend, Lent};
+ghost use Rattle.reducer.specs.Stepping.{Reducible, Beginning, Begun, Reduced};
+
+// The reduction of polynomial 0 by the others, all of which passed the opening checks.
+pub fn reduce_all<'a>(
+    order: Order,
+    p: u32,
+    words: &'a [u64],
+    coefs: &'a [u32],
+    starts: &[usize],
+    limit: u64,
+    bw: &mut [u64],
+    bc: &mut [u32],
+    ww: &mut [u64],
+    wc: &mut [u32],
+    ow: &mut [u64],
+    oc: &mut [u32],
+) -> State
+    requires { ⌜ Reducible order p (now words) (now coefs) (now starts) limit × Lent (now bw) (now bc) (now ww) (now wc) (now ow) (now oc) ⌝ }
+    ensures { λ r. ⌜ Reduced order p (now (words .entry)) (now (coefs .entry)) (now (starts .entry)) limit (now (ow .entry)) (now (oc .entry)) r (now (bw .exit)) (now (bc .exit)) (now (ow .exit)) (now (oc .exit)) ⌝ }
+{
+    let mut inverses = [0u32; 1024];
+    let mut mw = [0u64; 4096];
+    let mut mc = [0u32; 4096];
+    let fw = words_of(words, starts, 0);
+    let fc = coefs_of(coefs, starts, 0);
+    let mut s = begin(order, p, fw, fc, bw, bc, ww, wc);
+    while s.more {
+        s = step(
+            order,
+            p,
+            words,
+            coefs,
+            starts,
+            limit,
+            s,
+            &mut inverses,
+            bw,
+            bc,
+            ww,
+            wc,
+            &mut mw,
+            &mut mc,
+            ow,
+            oc,
+        );
+    }
+    s
+}
+
+// Polynomial 0 is added first. It is refused with 11 where it has over 4,096 terms.
+fn begin<'a>(
+    order: Order,
+    p: u32,
+    fw: &'a [u64],
+    fc: &'a [u32],
+    bw: &mut [u64],
+    bc: &mut [u32],
+    ww: &mut [u64],
+    wc: &mut [u32],
+) -> State
+    requires { ⌜ Addend (compareWords order) p (now fw) (now fc) × Beginning p (now bw) (now bc) (now ww) (now wc) ⌝ }
+    ensures { λ r. ⌜ Begun (compareWords order) p (terms (now (fw .entry)) (now (fc .entry))) (now (bw .entry)) (now (bc .entry)) r (now (bw .exit)) (now (bc .exit)) ⌝ }
+{
+    if fw.len() > 4096 {
+        return State {
+            buckets: empty(),
+            comparisons: 0,
+            brought: 0,
+            leads: 0,
+            terms: 0,
+            more: false,
+            stop: 11,
+        };
+    }
+    let r = add(order, p, empty(), fw, fc, bw, bc, ww, wc);
+    let buckets = r.buckets;
+    State {
+        buckets,
+        comparisons: r.comparisons,
+        brought: fw.len() as u64,
+        leads: 0,
+        terms: 0,
+        more: true,
+        stop: 0,
+    }
+}
