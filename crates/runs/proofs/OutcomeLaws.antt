@@ -43,10 +43,10 @@ module _ {at : ℕ} {ow oc : List ℕ} (o : Output at ow oc) where
   lc : length (take at oc) ≡ at
   lc = length-take-le at oc (omega (arith, o .fits, o .same-long))
 
-  words-whole : (ow₀ : List ℕ) → drop at ow ≡ drop at ow₀ → ow ≡ T.words (T.terms (part 0 at ow) (part 0 at oc)) ++ drop (length (T.terms (part 0 at ow) (part 0 at oc))) ow₀
+  pub words-whole : (ow₀ : List ℕ) → drop at ow ≡ drop at ow₀ → ow ≡ T.words (T.terms (part 0 at ow) (part 0 at oc)) ++ drop (length (T.terms (part 0 at ow) (part 0 at oc))) ow₀
   words-whole ow₀ e = sym (take-append-drop at ow) ∙ ap₂ (λ (x y : List ℕ). x ++ y) (sym (words-terms (take at ow) (take at oc) (lc ∙ sym lw))) (e ∙ ap (λ (n : ℕ). drop n ow₀) (sym (written-long o)))
 
-  coefs-whole : (oc₀ : List ℕ) → drop at oc ≡ drop at oc₀ → oc ≡ T.coefs (T.terms (part 0 at ow) (part 0 at oc)) ++ drop (length (T.terms (part 0 at ow) (part 0 at oc))) oc₀
+  pub coefs-whole : (oc₀ : List ℕ) → drop at oc ≡ drop at oc₀ → oc ≡ T.coefs (T.terms (part 0 at ow) (part 0 at oc)) ++ drop (length (T.terms (part 0 at ow) (part 0 at oc))) oc₀
   coefs-whole oc₀ e = sym (take-append-drop at oc) ∙ ap₂ (λ (x y : List ℕ). x ++ y) (sym (coefs-terms (take at ow) (take at oc) (lc ∙ sym lw))) (e ∙ ap (λ (n : ℕ). drop n oc₀) (sym (written-long o)))
 
 -- a run that ended or was stopped

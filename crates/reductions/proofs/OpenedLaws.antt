@@ -1,0 +1,52 @@
+-- What a reduction that no opening check refuses can be done with. Assumes nothing.
+use mathlib.Core.Path.{_≡_, refl, sym, ap, _∙_}
+use mathlib.Core.List.{List, [], _∷_}
+use Prim.Native.Nat.{ℕ, _+_, _<_, _≤_}
+use native.Mathlib.Omega.{arith}
+use lib.ListN.{length, take, drop, take-append-drop, length-drop}
+use lib.Seq.{take-all}
+use Rattle.monomial.specs.declared.order.Order.{Order}
+use Rattle.monomial.specs.Exponents.{orderOf, degree}
+use Rattle.monomial.specs.Layout.{fields, Below, Layout}
+use Rattle.monomial.proofs.Places.{zeros, degree-append, degree-zeros}
+use Rattle.monomial.proofs.LayoutLaws.{length-fields}
+use Rattle.polynomial.specs.Terms.{Term, All}
+use Rattle.polynomial.proofs.MergeLaws.{all-map}
+use Rattle.polynomial.proofs.OpeningLaws.{passes}
+use Rattle.polynomial.proofs.StartLaws.{good-within}
+use Rattle.opening.specs.Reduction.{ReductionOpened}
+use Rattle.engine.specs.Runs.{polynomial}
+use Rattle.engine.specs.States.{Lent}
+use Rattle.reducer.specs.Stepping.{Reducible}
+
+-- a word of the layout in n variables is one in six
+layout-six : (o : Order) (n w : ℕ) → n ≤ 6 → Layout o n w → Layout o 6 w
+layout-six o n w few l = record {
+  degree-is = l .degree-is ∙ sym (ap degree (take-all 6 (fields o w) (omega (arith, length-fields o w))) ∙ (ap degree (sym (take-append-drop n (fields o w))) ∙ (degree-append (take n (fields o w)) (drop n (fields o w)) ∙ (let z : degree (take n (fields o w)) + degree (drop n (fields o w)) ≡ degree (take n (fields o w)) = omega (arith, ap degree (zeros (drop n (fields o w)) (l .beyond)), degree-zeros (length (drop n (fields o w)))) in z))));
+  tops = l .tops;
+  beyond = none (drop 6 (fields o w)) (omega (arith, length-drop 6 (fields o w), length-fields o w));
+}
+  where
+    none : (α : List ℕ) → length α ≤ 0 → Below 1 α
+    none [] h = tt
+    none (a ∷ α) h = absurd (let z : ⊥ = omega arith in z)
+
+module _ {p order n : ℕ} {words coefs ss : List ℕ} {steps lbw lbc lww lwc low loc : ℕ} (o : ReductionOpened p order n words coefs ss steps lbw lbc lww lwc low loc) where
+  pub reducible : Reducible (orderOf order) p words coefs ss steps
+  reducible = record {
+    checked = record {
+      modulus = record { two = o .prime .above; limit = omega (arith, o .limit) };
+      prime = o .prime;
+      long = sym (o .lent);
+      some = o .some;
+      parts = λ k h. good-within ss (length words) (o .starts) k h;
+      valid = λ k h.
+          let v = passes (orderOf order) n p (polynomial words coefs ss k) (o .polynomials k h) in
+          record { canonical = v .0; are = all-map {P = λ t. Layout (orderOf order) n (t .mono)} {Q = λ t. Layout (orderOf order) 6 (t .mono)} (λ t l. layout-six (orderOf order) n (t .mono) (o .n-high) l) (polynomial words coefs ss k) (v .1) };
+      not-zero = o .divisors;
+    };
+    few-steps = o .few-steps;
+  }
+
+pub spaces : {p order n : ℕ} {words coefs ss : List ℕ} {steps : ℕ} (bw bc ww wc ow oc : List ℕ) → ReductionOpened p order n words coefs ss steps (length bw) (length bc) (length ww) (length wc) (length ow) (length oc) → Lent bw bc ww wc ow oc
+spaces bw bc ww wc ow oc o = record { words-long = o .bucket-words; coefs-long = o .bucket-coefs; work = record { words-long = o .work-words; coefs-long = o .work-coefs }; same-long = sym (o .output) }
