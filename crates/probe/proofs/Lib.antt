@@ -3,3 +3,4 @@ pub mod LendingLaws
 pub mod Moduli
 pub mod Packing
 mod Probing
+mod ProbingReductions

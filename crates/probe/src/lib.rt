@@ -4,5 +4,6 @@
 mod geobuckets;
 mod monomials;
 mod polynomials;
+mod reduction;
 mod residues;
 mod whole;
