@@ -13,7 +13,7 @@ use std::collections::BTreeSet;
 use std::ops::RangeInclusive;
 
 /// Of so many reductions one is large; of so many one may be long.
-const LARGE_EVERY: u64 = 16;
+const LARGE_EVERY: u64 = 12;
 const LONG_EVERY: u64 = 100;
 
 /// The most leads of a reduction, and of a long one. Some would have very many.
@@ -241,14 +241,20 @@ fn large_lens(random: &mut Random) -> (usize, usize) {
 }
 
 /// A divisor whose lead has exponents of 60 alone, with a tail of so many terms below it, where there
-/// are so many.
+/// are so many; sometimes one exponent of the lead is 59, so that multiples of the tail are over 127.
 fn large_divisor(random: &mut Random, (order, n, p): Setting, tail: usize) -> Vec<Term> {
-    let mut found = BTreeSet::from([vec![TOP; n]]);
+    let mut lead = vec![TOP; n];
+    if random.below(4) == 0 {
+        lead[up_to(random, n - 1)] -= 1;
+    }
+    let mut found = BTreeSet::new();
     for _ in 0..4 * tail {
-        if found.len() <= tail {
-            found.insert(monomial(random, n, TOP));
+        let below = monomial(random, n, TOP);
+        if found.len() < tail && order.compare(&below, &lead).is_lt() {
+            found.insert(below);
         }
     }
+    found.insert(lead);
     let monomials = falling(order, found.into_iter().collect());
     with_coefs(random, p, monomials)
 }

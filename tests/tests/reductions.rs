@@ -527,7 +527,7 @@ fn falling_terms(order: Order, count: usize) -> Vec<Term> {
 }
 
 /// Polynomial 0 may have 4,096 terms and not one more, whatever the step limit is; and a tail may fill
-/// the place of the lead and what is free, and not one more. 12 comes before 11.
+/// the place of the lead and what is free, and not one more.
 #[test]
 fn most_terms() {
     let random = &mut Random::new(89);
@@ -564,6 +564,42 @@ fn most_terms() {
             if len > MOST {
                 assert_eq!(left.tally, Tally::default(), "{about}");
             }
+        }
+    }
+}
+
+/// Where a step has several causes to stop, 13 comes first, then 12, then 11; and 10 only without a
+/// divisor that fits.
+#[test]
+fn several_causes() {
+    let random = &mut Random::new(90);
+    let mut lender = Lender::new(random);
+    for order in Order::ALL {
+        let setting = (order, 2, 32_003);
+        let small = |terms| polynomial(order, 2, terms);
+        let unlike = small(&[(1, [0, 1]), (1, [0, 0])]);
+        // Both multiples of a tail of two terms are too many; one has an exponent over 127.
+        let over = small(&[(1, [1, 0]), (1, [0, 1]), (1, [0, 0])]);
+        let many = small(&[(1, [2, 0]), (1, [1, 0]), (1, [0, 0])]);
+        let one = small(&[(1, [1, 0])]);
+        let full = falling_terms(order, MOST);
+        for (f, divisors, limit, expected) in [
+            (&full, vec![&over], 0, (13, 0)),
+            (&full, vec![&over, &many], 1, (12, 0)),
+            (&full, vec![&many, &over], 1, (11, 0)),
+            (&full, vec![&one, &over], 1, (13, 1)),
+            (&full, vec![], 0, (13, 0)),
+            (&full, vec![], 1, (10, 0)),
+            (&unlike, vec![&over], 0, (13, 0)),
+            (&unlike, vec![&over, &many], 1, (10, 0)),
+        ] {
+            let polynomials: Vec<Vec<Term>> = [f].into_iter().chain(divisors).cloned().collect();
+            let given = Given::new(setting, &polynomials);
+            let about = format!("{order:?}, {:?}, limit {limit}", &polynomials[1..]);
+            let loan = lender.lend(random, 0);
+            let (answer, left) = both(&given, limit, loan, &about);
+            assert_eq!((answer.refusal, answer.finished), expected, "{about}");
+            assert_eq!(left.tally.held, f.len() as u64 - answer.finished, "{about}");
         }
     }
 }
