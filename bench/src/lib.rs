@@ -1,19 +1,25 @@
-//! Merges, geobuckets and runs for the benchmark: the proved ones through the static library `probe`,
-//! and others in plain Rust. `lists` makes what they merge; `buckets` times geobuckets, `runs` whole
-//! runs, and `workload` runs from a file.
+//! Merges, geobuckets, runs and reductions for the benchmark: the proved ones through the static
+//! library `probe`, and others in plain Rust. `lists` makes what they merge; `buckets` times
+//! geobuckets, `runs` and `reductions` whole calls, and `workload` calls from a file.
 pub mod buckets;
 #[path = "../../tests/src/c_functions.rs"]
 pub mod c_functions;
 pub mod geobucket;
+pub mod given;
 pub mod lists;
+pub mod loan;
 pub mod merge;
 #[path = "../../tests/src/monomial.rs"]
 pub mod monomial;
+pub mod plain_opening;
+pub mod plain_reduction;
 pub mod plain_run;
 pub mod proved;
 pub mod proved_buckets;
+pub mod proved_reduction;
 pub mod proved_run;
 #[path = "../../tests/src/random.rs"]
 pub mod random;
+pub mod reductions;
 pub mod runs;
 pub mod workload;

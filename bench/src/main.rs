@@ -1,5 +1,5 @@
 //! Times the proved functions beside the same in plain Rust, and prints the table that is asked for
-//! by its name; or does the run of a workload's file: `calls FILE`, `time FILE SECONDS` or
+//! by its name; or does the calls of a workload's file: `calls FILE`, `time FILE SECONDS` or
 //! `passes FILE N`. It fails only where results differ.
 use bench::buckets;
 use bench::c_functions::Counts;
@@ -7,6 +7,7 @@ use bench::lists::{pair, List, Order};
 use bench::merge::{branching, masks, Merge};
 use bench::proved;
 use bench::random::Random;
+use bench::reductions::reductions;
 use bench::runs::runs;
 use bench::workload::Workload;
 use std::hint::black_box;
@@ -40,10 +41,11 @@ fn main() {
         ["leads"] => buckets::leads(),
         ["settling"] => buckets::settling(),
         ["runs"] => runs(),
+        ["reductions"] => reductions(),
         ["calls", file] => workload(file).calls(),
         ["time", file, seconds] => workload(file).time(seconds.parse().expect("seconds")),
         ["passes", file, passes] => workload(file).passes(passes.parse().expect("passes")),
-        _ => panic!("merges, buckets, leads, settling, runs, calls, time or passes"),
+        _ => panic!("merges, buckets, leads, settling, runs, reductions, calls, time or passes"),
     }
 }
 

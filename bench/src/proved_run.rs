@@ -1,11 +1,17 @@
 //! The proved run, through the static library `probe`.
 use crate::c_functions::{probe_run, RunResult};
 use crate::geobucket::Memory;
+use crate::given::Given;
 use crate::lists::List;
-use crate::plain_run::Given;
 
 /// Does a run. The tally as it comes is 0.
-pub fn run(order: u32, given: &Given, memory: &mut Memory, output: &mut List) -> RunResult {
+pub fn run(
+    order: u32,
+    given: &Given,
+    operations: &[usize],
+    memory: &mut Memory,
+    output: &mut List,
+) -> RunResult {
     // SAFETY: the function takes any numbers and slices, stays within the length of each slice, and
     // keeps no reference.
     unsafe {
@@ -23,8 +29,8 @@ pub fn run(order: u32, given: &Given, memory: &mut Memory, output: &mut List) ->
             given.terms.coefs.len(),
             given.starts.as_ptr(),
             given.starts.len(),
-            given.operations.as_ptr(),
-            given.operations.len(),
+            operations.as_ptr(),
+            operations.len(),
             memory.space.words.as_mut_ptr(),
             memory.space.words.len(),
             memory.space.coefs.as_mut_ptr(),

@@ -4,56 +4,29 @@ use crate::buckets::{
     in_turn, Best, Cancellation, Maker, Operation, OPERATIONS, ORDERS, P, ROUNDS,
 };
 use crate::c_functions::RunResult;
-use crate::geobucket::Memory;
-use crate::lists::{List, Order};
-use crate::plain_run::{self, Given, ADD, LEAD};
+use crate::given::Given;
+use crate::lists::Order;
+use crate::loan::Loan;
+use crate::plain_run::{self, ADD, LEAD};
 use crate::proved_run;
 use crate::random::Random;
 
 const VARIABLES: u32 = 6;
 
-/// What is lent to a run.
-struct Loan {
-    memory: Memory,
-    output: List,
-}
-
-impl Loan {
-    /// Places that are not 0, so that the machine has really given them.
-    fn new() -> Self {
-        let mut loan = Loan {
-            memory: Memory::new(),
-            output: List::of(OPERATIONS),
-        };
-        let Memory { space, work, .. } = &mut loan.memory;
-        for list in [space, work, &mut loan.output] {
-            list.words.fill(1);
-            list.coefs.fill(1);
-        }
-        loan
-    }
-}
-
 /// A list of operations as a run is given it. Each addition has a polynomial of its own.
-fn given(operations: &[Operation]) -> Given {
-    let mut given = Given {
-        p: P,
-        n: VARIABLES,
-        starts: vec![0],
-        ..Given::default()
-    };
+fn given(operations: &[Operation]) -> (Given, Vec<usize>) {
+    let mut given = Given::new(P, VARIABLES);
+    let mut pairs = Vec::new();
     for operation in operations {
         match operation {
             Operation::Add(f) => {
-                given.operations.extend([ADD, given.starts.len() - 1]);
-                given.terms.words.extend_from_slice(&f.words);
-                given.terms.coefs.extend_from_slice(&f.coefs);
-                given.starts.push(given.terms.words.len());
+                pairs.extend([ADD, given.count()]);
+                given.push(f);
             }
-            Operation::Take => given.operations.extend([LEAD, 0]),
+            Operation::Take => pairs.extend([LEAD, 0]),
         }
     }
-    given
+    (given, pairs)
 }
 
 /// One kind of runs, and the least times for each comparison and for each operation.
@@ -80,8 +53,8 @@ impl Row {
     fn pass(&mut self, random: &mut Random, round: usize) {
         let order = self.order;
         let operations = Maker::new(random, order, self.cancellation).operations(random);
-        let given = given(&operations);
-        let (mut proved, mut plain) = (Loan::new(), Loan::new());
+        let (given, pairs) = given(&operations);
+        let (mut proved, mut plain) = (Loan::new(OPERATIONS), Loan::new(OPERATIONS));
         let mut results = [RunResult::default(); 2];
         let [first, second] = &mut results;
         let (times, comparisons) = in_turn(
@@ -91,13 +64,15 @@ impl Row {
                     *first = proved_run::run(
                         order.number(),
                         &given,
+                        &pairs,
                         &mut proved.memory,
                         &mut proved.output,
                     );
                     first.comparisons
                 },
                 &mut || {
-                    *second = plain_run::run(order, &given, &mut plain.memory, &mut plain.output);
+                    *second =
+                        plain_run::run(order, &given, &pairs, &mut plain.memory, &mut plain.output);
                     second.comparisons
                 },
             ],
@@ -126,9 +101,7 @@ impl Row {
 fn compare([first, second]: [RunResult; 2], [proved, plain]: [&Loan; 2]) {
     assert_eq!(first, second, "results differ");
     assert_eq!((first.refusal, first.finished), (0, OPERATIONS as u64));
-    assert!(proved.output == plain.output, "outputs differ");
-    assert!(proved.memory.space == plain.memory.space, "buckets differ");
-    assert!(proved.memory.work == plain.memory.work, "work differs");
+    proved.compare(plain);
 }
 
 /// Whole runs: nanoseconds for each comparison, and for each operation.

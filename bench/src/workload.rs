@@ -1,129 +1,249 @@
-//! Workloads from a file, as lines of fields parted by one space: `workload NAME`, `kind run`,
-//! `prime P`, `order lp`, `Dp` or `dp`, `vars N`, `places N` (output places, where there are not to be
-//! 4,000,000), `poly TERM ..` and `ops OP ..`; an operation is `aK` (adds polynomial K), `l` (takes the
-//! lead) or `s` (the full sum), a term a coefficient, a colon, and exponents parted by dots. A line
-//! that begins with `#` is a comment.
-use crate::c_functions::RunResult;
-use crate::geobucket::Memory;
+//! Workloads from a file, as lines of fields parted by one space: `workload NAME`, `kind run` or
+//! `kind reduction`, `prime P`, `order lp`, `Dp` or `dp`, `vars N`, `places N` (output places, where
+//! there are not to be 4,000,000, or 16,384 in reductions). A run has lines `poly TERM ..` and
+//! `ops OP ..`; an operation is `aK` (adds polynomial K), `l` (takes the lead) or `s` (the full sum).
+//! Reductions have lines `input TERM ..`, each a call of its own, and `divisor TERM ..`, in turn, and
+//! may have `limit L`, the step limit. A term is a coefficient, a colon, and exponents parted by dots.
+//! A line that begins with `#` is a comment.
+use crate::c_functions::{ReductionResult, RunResult};
+use crate::given::Given;
 use crate::lists::List;
+use crate::loan::Loan;
 use crate::monomial::Order;
-use crate::plain_run::{Given, ADD, LEAD, SUM};
+use crate::plain_reduction::MOST_LEADS;
+use crate::plain_run::{ADD, LEAD, SUM};
+use crate::proved_reduction;
 use crate::proved_run;
 use std::time::{Duration, Instant};
 
-const PLACES: usize = 4_000_000;
+const RUN_PLACES: usize = 4_000_000;
+const REDUCTION_PLACES: usize = 16_384;
 
-/// One run of a workload, and what is lent to it.
+/// A run with its operations, or a reduction with its step limit.
+enum Call {
+    Run(Given, Vec<usize>),
+    Reduction(Given, u64),
+}
+
+/// What a call gave, or the sum of what several gave.
+#[derive(Clone, Copy, Default)]
+struct Outcome {
+    refusal: u64,
+    finished: u64,
+    /// The output places written.
+    places: u64,
+    comparisons: u64,
+    brought: u64,
+    given: u64,
+    held: u64,
+}
+
+impl From<RunResult> for Outcome {
+    fn from(r: RunResult) -> Self {
+        Outcome {
+            refusal: r.refusal,
+            finished: r.finished,
+            places: r.places,
+            comparisons: r.comparisons,
+            brought: r.brought,
+            given: r.given,
+            held: r.held,
+        }
+    }
+}
+
+impl From<ReductionResult> for Outcome {
+    fn from(r: ReductionResult) -> Self {
+        Outcome {
+            refusal: r.refusal,
+            finished: r.leads,
+            places: r.given,
+            comparisons: r.comparisons,
+            brought: r.brought,
+            given: r.given,
+            held: r.held,
+        }
+    }
+}
+
+impl Outcome {
+    fn add(&mut self, other: Outcome) {
+        self.finished += other.finished;
+        self.comparisons += other.comparisons;
+        self.brought += other.brought;
+        self.given += other.given;
+        self.held += other.held;
+    }
+}
+
+/// The keys and values of a file.
+struct Lines<'a>(Vec<(&'a str, &'a str)>);
+
+impl<'a> Lines<'a> {
+    fn new(text: &'a str) -> Self {
+        let parted = text.lines().map(|l| l.split_once(' ').unwrap_or((l, "")));
+        let kept = parted.filter(|(key, _)| !key.is_empty() && !key.starts_with('#'));
+        Lines(kept.collect())
+    }
+
+    fn all<'b>(&'b self, key: &'b str) -> impl Iterator<Item = &'a str> + 'b {
+        self.0.iter().filter(move |l| l.0 == key).map(|l| l.1)
+    }
+
+    fn value(&self, key: &str) -> Option<&'a str> {
+        self.all(key).next()
+    }
+
+    fn order(&self) -> Order {
+        let name = self.value("order");
+        let named = |o: &Order| Some(o.name()) == name;
+        Order::ALL.into_iter().find(named).expect("no such order")
+    }
+
+    /// No polynomials so far.
+    fn setting(&self) -> Given {
+        Given::new(
+            number(self.value("prime").expect("no prime")),
+            number(self.value("vars").expect("no vars")),
+        )
+    }
+
+    fn run(&self) -> Vec<Call> {
+        let mut given = self.setting();
+        self.all("poly")
+            .for_each(|f| given.push(&terms(self.order(), f)));
+        let operations = self.all("ops").flat_map(str::split_whitespace);
+        let pairs = operations.flat_map(operation).collect();
+        vec![Call::Run(given, pairs)]
+    }
+
+    fn reductions(&self) -> Vec<Call> {
+        let limit = self.value("limit").map_or(MOST_LEADS, number);
+        let reduction = |input| {
+            let mut given = self.setting();
+            for f in [input].into_iter().chain(self.all("divisor")) {
+                given.push(&terms(self.order(), f));
+            }
+            Call::Reduction(given, limit)
+        };
+        self.all("input").map(reduction).collect()
+    }
+}
+
+/// The calls of a workload, and what is lent to them.
 pub struct Workload {
     name: String,
-    order: Order,
-    given: Given,
-    memory: Memory,
-    output: List,
+    order: u32,
+    calls: Vec<Call>,
+    loan: Loan,
 }
 
 impl Workload {
     pub fn read(text: &str) -> Self {
-        let lines = || {
-            let parted = text.lines().map(|l| l.split_once(' ').unwrap_or((l, "")));
-            parted.filter(|(key, _)| !key.is_empty() && !key.starts_with('#'))
+        let lines = Lines::new(text);
+        let (calls, places) = match lines.value("kind") {
+            Some("run") => (lines.run(), RUN_PLACES),
+            Some("reduction") => (lines.reductions(), REDUCTION_PLACES),
+            _ => panic!("neither a run nor reductions"),
         };
-        let value = |key| lines().find(|l| l.0 == key).map(|l| l.1);
-        assert_eq!(value("kind"), Some("run"), "not a run");
-        let order = Order::ALL.into_iter();
-        let order = order.filter(|o| Some(o.name()) == value("order")).next();
-        let mut workload = Workload {
-            name: value("workload").unwrap_or_default().to_string(),
-            order: order.expect("no such order"),
-            given: Given {
-                p: number(value("prime").expect("no prime")),
-                n: number(value("vars").expect("no vars")),
-                starts: vec![0],
-                ..Given::default()
-            },
-            memory: Memory::new(),
-            output: List::of(value("places").map_or(PLACES, number)),
-        };
-        for (key, rest) in lines() {
-            match key {
-                "poly" => workload.polynomial(rest),
-                "ops" => rest.split_whitespace().for_each(|o| workload.operation(o)),
-                _ => (),
+        Workload {
+            name: lines.value("workload").unwrap_or_default().to_string(),
+            order: lines.order().number(),
+            calls,
+            loan: Loan::new(lines.value("places").map_or(places, number)),
+        }
+    }
+
+    fn call(&mut self, k: usize) -> Outcome {
+        let Loan { memory, output } = &mut self.loan;
+        match &self.calls[k] {
+            Call::Run(given, pairs) => {
+                proved_run::run(self.order, given, pairs, memory, output).into()
+            }
+            Call::Reduction(given, limit) => {
+                proved_reduction::reduce(self.order, given, *limit, memory, output).into()
             }
         }
-        workload
     }
 
-    fn polynomial(&mut self, terms: &str) {
-        for term in terms.split_whitespace() {
-            let (coef, exponents) = term.split_once(':').expect("no colon in a term");
-            let exponents: Vec<u8> = exponents.split('.').map(number).collect();
-            self.given.terms.words.push(self.order.word(&exponents));
-            self.given.terms.coefs.push(number(coef));
+    /// Does all calls once, and gives the sum.
+    fn pass(&mut self) -> Outcome {
+        let mut sum = Outcome::default();
+        for k in 0..self.calls.len() {
+            sum.add(self.call(k));
         }
-        self.given.starts.push(self.given.terms.words.len());
+        sum
     }
 
-    fn operation(&mut self, operation: &str) {
-        let pair = match operation {
-            "l" => [LEAD, 0],
-            "s" => [SUM, 0],
-            _ => [
-                ADD,
-                number(operation.strip_prefix('a').expect("no such operation")),
-            ],
-        };
-        self.given.operations.extend(pair);
-    }
-
-    fn run(&mut self) -> RunResult {
-        proved_run::run(
-            self.order.number(),
-            &self.given,
-            &mut self.memory,
-            &mut self.output,
-        )
-    }
-
-    /// Prints the answer, the tally, and a hash of the output places written and of the bucket space.
+    /// Prints for each call the answer, the tally, and a hash of the output places written and of the
+    /// bucket space.
     pub fn calls(&mut self) {
-        let r = self.run();
-        let Memory { space, work, .. } = &self.memory;
-        assert!(work.words.iter().all(|&w| w == 0) && work.coefs.iter().all(|&c| c == 0));
-        let mut hash = 0xcbf2_9ce4_8422_2325;
-        eat(&mut hash, &self.output, r.places as usize);
-        eat(&mut hash, space, space.words.len());
-        println!(
-            "{} call 0 refusal {} finished {} comparisons {} in {} out {} held {} hash {hash:016x}",
-            self.name, r.refusal, r.finished, r.comparisons, r.brought, r.given, r.held
-        );
+        for k in 0..self.calls.len() {
+            let r = self.call(k);
+            let (space, work) = (&self.loan.memory.space, &self.loan.memory.work);
+            assert!(work.words.iter().all(|&w| w == 0) && work.coefs.iter().all(|&c| c == 0));
+            let mut hash = 0xcbf2_9ce4_8422_2325;
+            eat(&mut hash, &self.loan.output, r.places as usize);
+            eat(&mut hash, space, space.words.len());
+            println!(
+                "{} call {k} refusal {} finished {} comparisons {} in {} out {} held {} hash {hash:016x}",
+                self.name, r.refusal, r.finished, r.comparisons, r.brought, r.given, r.held
+            );
+        }
     }
 
     /// Times passes for so many seconds, one at least, and prints the least and the median in seconds.
     pub fn time(&mut self, seconds: f64) {
         let (begin, most) = (Instant::now(), Duration::from_secs_f64(seconds));
-        let (mut times, mut r) = (Vec::new(), RunResult::default());
+        let (mut times, mut r) = (Vec::new(), Outcome::default());
         while times.is_empty() || begin.elapsed() < most {
             let start = Instant::now();
-            r = self.run();
+            r = self.pass();
             times.push(start.elapsed().as_secs_f64());
         }
         times.sort_by(f64::total_cmp);
         println!(
-            "{} passes {} min {:.9} median {:.9} calls 1 finished {} comparisons {} in {} out {} held {}",
-            self.name, times.len(), times[0], times[times.len() / 2],
+            "{} passes {} min {:.9} median {:.9} calls {} finished {} comparisons {} in {} out {} held {}",
+            self.name, times.len(), times[0], times[times.len() / 2], self.calls.len(),
             r.finished, r.comparisons, r.brought, r.given, r.held
         );
     }
 
     /// Does exactly so many passes, for counting instructions.
     pub fn passes(&mut self, passes: u64) {
-        let mut r = RunResult::default();
-        (0..passes).for_each(|_| r = self.run());
+        let mut r = Outcome::default();
+        (0..passes).for_each(|_| r = self.pass());
         println!(
-            "{} calls 1 finished {} comparisons {} in {}",
-            self.name, r.finished, r.comparisons, r.brought
+            "{} calls {} finished {} comparisons {} in {}",
+            self.name,
+            self.calls.len(),
+            r.finished,
+            r.comparisons,
+            r.brought
         );
+    }
+}
+
+/// The words and coefficients of a polynomial.
+fn terms(order: Order, text: &str) -> List {
+    let mut list = List::default();
+    for term in text.split_whitespace() {
+        let (coef, exponents) = term.split_once(':').expect("no colon in a term");
+        let exponents: Vec<u8> = exponents.split('.').map(number).collect();
+        list.words.push(order.word(&exponents));
+        list.coefs.push(number(coef));
+    }
+    list
+}
+
+fn operation(text: &str) -> [usize; 2] {
+    match text {
+        "l" => [LEAD, 0],
+        "s" => [SUM, 0],
+        _ => [
+            ADD,
+            number(text.strip_prefix('a').expect("no such operation")),
+        ],
     }
 }
 

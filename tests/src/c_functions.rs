@@ -23,6 +23,20 @@ pub struct RunResult {
     pub held: u64,
 }
 
+/// What a reduction gives: refusal 0 is none; `leads` is the leads removed, and `terms` those of the
+/// remainder, 0 where refused; and the tally.
+#[repr(C)]
+#[derive(Clone, Copy, Debug, Default, PartialEq, Eq)]
+pub struct ReductionResult {
+    pub refusal: u64,
+    pub leads: u64,
+    pub terms: u64,
+    pub comparisons: u64,
+    pub brought: u64,
+    pub given: u64,
+    pub held: u64,
+}
+
 extern "C" {
     pub fn probe_merge(
         order: u32,
@@ -130,4 +144,33 @@ extern "C" {
         oc: *mut u32,
         oc_len: usize,
     ) -> RunResult;
+    /// The first four numbers are the tally as it came.
+    pub fn probe_reduce(
+        comparisons: u64,
+        brought: u64,
+        given: u64,
+        held: u64,
+        p: u32,
+        order: u32,
+        n: u32,
+        words: *const u64,
+        words_len: usize,
+        coefs: *const u32,
+        coefs_len: usize,
+        starts: *const usize,
+        starts_len: usize,
+        limit: u64,
+        bw: *mut u64,
+        bw_len: usize,
+        bc: *mut u32,
+        bc_len: usize,
+        ww: *mut u64,
+        ww_len: usize,
+        wc: *mut u32,
+        wc_len: usize,
+        ow: *mut u64,
+        ow_len: usize,
+        oc: *mut u32,
+        oc_len: usize,
+    ) -> ReductionResult;
 }

@@ -1,9 +1,9 @@
-//! Damage to a run, so that an opening check refuses it.
+//! Damage to the polynomials and loans of a run or a reduction, so that an opening check refuses it.
+use crate::call::{Given, Loan};
 use crate::generate::up_to;
 use crate::monomial::{Order, FIELDS};
 use crate::random::Random;
 use crate::residue;
-use crate::run::{Given, Loan, ADD, LEAD, SUM};
 
 /// What is damaged.
 #[derive(Clone, Copy, Debug, PartialEq, Eq)]
@@ -16,20 +16,16 @@ pub enum Damage {
     BucketSpace,
     WorkSpace,
     Starts,
-    Pairs,
-    Code,
-    Absent,
-    SecondNumber,
     Coefficient,
     Word,
     Fall,
 }
 
-/// Numbers that are no operation, no polynomial, and not 0.
+/// Numbers that are no operation, no polynomial, no place, and not 0.
 const FAR: [usize; 5] = [usize::MAX, usize::MAX - 1, 1 << 63, 1 << 32, (1 << 32) + 1];
 
 impl Damage {
-    pub const ALL: [Damage; 15] = [
+    pub const ALL: [Damage; 11] = [
         Damage::Prime,
         Damage::Order,
         Damage::Variables,
@@ -38,10 +34,6 @@ impl Damage {
         Damage::BucketSpace,
         Damage::WorkSpace,
         Damage::Starts,
-        Damage::Pairs,
-        Damage::Code,
-        Damage::Absent,
-        Damage::SecondNumber,
         Damage::Coefficient,
         Damage::Word,
         Damage::Fall,
@@ -50,7 +42,7 @@ impl Damage {
     /// Damage to the terms of a polynomial.
     pub const TERMS: [Damage; 3] = [Damage::Coefficient, Damage::Word, Damage::Fall];
 
-    /// The refusal of a run with this damage alone, where it has something to damage.
+    /// The refusal of a call with this damage alone, where it has something to damage.
     pub fn number(self) -> u64 {
         match self {
             Damage::Prime => 1,
@@ -60,9 +52,7 @@ impl Damage {
             | Damage::OutputLengths
             | Damage::BucketSpace
             | Damage::WorkSpace
-            | Damage::Starts
-            | Damage::Pairs => 8,
-            Damage::Code | Damage::Absent | Damage::SecondNumber => 9,
+            | Damage::Starts => 8,
             Damage::Coefficient => 4,
             Damage::Word => 5,
             Damage::Fall => 6,
@@ -80,23 +70,6 @@ impl Damage {
             Damage::BucketSpace => resize(random, &mut loan.space.0, &mut loan.space.1),
             Damage::WorkSpace => resize(random, &mut loan.work.0, &mut loan.work.1),
             Damage::Starts => starts(random, &mut given.starts),
-            Damage::Pairs => pairs(random, &mut given.operations),
-            Damage::Code => {
-                let code = random.pick(&[0, 4, 5, 257, usize::MAX, 1 << 32, (1 << 32) + 1]);
-                operation(random, given, [code, 0]);
-            }
-            Damage::Absent => {
-                let polynomials = given.starts.len().saturating_sub(1);
-                let far = random_far(random);
-                let k = random.pick(&[polynomials, polynomials, polynomials + 1, far]);
-                operation(random, given, [ADD, k]);
-            }
-            Damage::SecondNumber => {
-                let code = random.pick(&[LEAD, SUM]);
-                let far = random_far(random);
-                let second = random.pick(&[1, 2, far]);
-                operation(random, given, [code, second]);
-            }
             Damage::Coefficient => coefficient(random, given),
             Damage::Word => word(random, given),
             Damage::Fall => fall(random, given),
@@ -104,7 +77,8 @@ impl Damage {
     }
 }
 
-fn random_far(random: &mut Random) -> usize {
+/// A number that is far from any that is used.
+pub fn far(random: &mut Random) -> usize {
     random.pick(&FAR)
 }
 
@@ -151,7 +125,7 @@ fn resize(random: &mut Random, words: &mut Vec<u64>, coefs: &mut Vec<u32>) {
 fn starts(random: &mut Random, starts: &mut Vec<usize>) {
     let last = starts.len().saturating_sub(1);
     let end = starts.last().copied().unwrap_or(0);
-    let far = random_far(random);
+    let far = far(random);
     let over = end.saturating_add(random.pick(&[1, 2, far]));
     match random.below(7) {
         0 => starts.clear(),
@@ -163,30 +137,6 @@ fn starts(random: &mut Random, starts: &mut Vec<usize>) {
         5 if last > 0 && end > 0 => drop(starts.splice(1..1, [end, 0])),
         _ => starts.push(over),
     }
-}
-
-/// Leaves half of a pair.
-fn pairs(random: &mut Random, operations: &mut Vec<usize>) {
-    match operations.len() {
-        0 => operations.push(LEAD),
-        len if random.below(2) == 0 => operations.truncate(len - 1),
-        _ => operations.push(random.pick(&[0, ADD, LEAD, SUM])),
-    }
-}
-
-/// Puts a pair in the place of another, often of the last, or behind all.
-fn operation(random: &mut Random, given: &mut Given, pair: [usize; 2]) {
-    let pairs = given.operations.len() / 2;
-    if pairs == 0 || random.below(4) == 0 {
-        // Also where half a pair is left.
-        given.operations.splice(2 * pairs..2 * pairs, pair);
-        return;
-    }
-    let k = match random.below(2) {
-        0 => pairs - 1,
-        _ => up_to(random, pairs - 1),
-    };
-    given.operations[2 * k..2 * k + 2].copy_from_slice(&pair);
 }
 
 /// Makes a coefficient 0, or p or more.

@@ -1,20 +1,29 @@
 //! A second program for what the proved crates compute. `monomial`, `residue`, `polynomial`,
-//! `geobucket` and `run` are plain models, which share no code with the proved crates; `probe`,
-//! `probe_buckets` and `probe_run` call the proved functions; `generate`, `operations`, `run_lists`
-//! and `damage` make what they are given.
+//! `geobucket`, `call`, `course`, `run` and `reduction` are plain models, which share no code with the
+//! proved crates; `probe`, `probe_buckets`, `probe_run` and `probe_reduction` call the proved
+//! functions; the other modules make what they are given.
 pub mod c_functions;
+pub mod call;
+pub mod course;
 pub mod damage;
 pub mod generate;
 pub mod geobucket;
+pub mod lender;
 pub mod monomial;
 pub mod operations;
 pub mod polynomial;
+pub mod pools;
 pub mod probe;
 pub mod probe_buckets;
+pub mod probe_reduction;
 pub mod probe_run;
 pub mod random;
+pub mod reduction;
+pub mod reduction_damage;
+pub mod reduction_lists;
 pub mod residue;
 pub mod run;
+pub mod run_damage;
 pub mod run_lists;
 
 /// How many cases a group of generated tests has: the variable SECOND_CASES, or 50,000.

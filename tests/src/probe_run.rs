@@ -1,9 +1,9 @@
 //! The proved run, through the static library `probe`.
 use crate::c_functions::probe_run;
-use crate::run::{Answer, Given, Loan, Tally};
+use crate::call::{Answer, Given, Loan, Tally};
 
 /// Does a run. It takes any numbers and lists.
-pub fn run(given: &Given, loan: &mut Loan) -> Answer {
+pub fn run(given: &Given, operations: &[usize], loan: &mut Loan) -> Answer {
     // SAFETY: the function asks nothing, stays within the length of each slice, and keeps no
     // reference.
     let result = unsafe {
@@ -21,8 +21,8 @@ pub fn run(given: &Given, loan: &mut Loan) -> Answer {
             given.coefs.len(),
             given.starts.as_ptr(),
             given.starts.len(),
-            given.operations.as_ptr(),
-            given.operations.len(),
+            operations.as_ptr(),
+            operations.len(),
             loan.space.0.as_mut_ptr(),
             loan.space.0.len(),
             loan.space.1.as_mut_ptr(),

@@ -1,14 +1,14 @@
 //! Generated runs that pass the opening checks. Each operation is made from what the buckets hold
 //! when it comes, as if there were output for all.
+use crate::call::{Given, Setting};
 use crate::generate::{falling, monomial, negative, up_to, with_coefs};
 use crate::geobucket::{Geobucket, MOST};
-use crate::monomial::{Order, FIELDS, LIMIT};
+use crate::monomial::{Order, LIMIT};
 use crate::operations::{Operation, Operations};
 use crate::polynomial::Term;
+use crate::pools::Pools;
 use crate::random::Random;
-use crate::residue::is_prime;
-use crate::run::{Given, ADD, LARGEST_PRIME, LEAD, SUM};
-use std::collections::BTreeSet;
+use crate::run::{ADD, LEAD, SUM};
 
 /// Of so many runs one is large and one is long; of so many one fills the buckets.
 const LARGE_EVERY: u64 = 25;
@@ -18,35 +18,11 @@ const FILL_EVERY: u64 = 4 * LARGE_EVERY;
 const SHORT: usize = 12;
 const LARGE: usize = 6;
 
-/// The falling monomials that large polynomials are parts of, more than are held. In one variable
-/// there are only 128.
-const POOL: usize = 6_000;
-
-/// An order, a number of variables and a prime.
-pub type Setting = (Order, usize, u32);
-
-/// All orders and numbers of variables in turn, and any prime, often one of the ends.
-pub fn setting(random: &mut Random, case: u64) -> Setting {
-    let order = Order::ALL[(case % 3) as usize];
-    let n = 1 + (case / 3 % FIELDS as u64) as usize;
-    (order, n, prime(random))
-}
-
-fn prime(random: &mut Random) -> u32 {
-    match random.below(2) {
-        0 => random.pick(&[2, 3, 5, 7, 32_003, 65_519, LARGEST_PRIME]),
-        _ => {
-            let most = 2 + random.below(u64::from(LARGEST_PRIME - 1)) as u32;
-            let prime = |p: &u32| is_prime(*p);
-            (2..=most).rev().find(prime).expect("2 is prime")
-        }
-    }
-}
-
 /// A run, and the length that the output must have for each operation that writes there.
 #[derive(Clone, Debug)]
 pub struct Made {
     pub given: Given,
+    pub operations: Vec<usize>,
     pub needs: Vec<usize>,
 }
 
@@ -64,10 +40,9 @@ impl Made {
     }
 }
 
-/// Makes runs. Falling monomials for large polynomials are made once, for each order and number of
-/// variables.
+/// Makes runs.
 pub struct Runs {
-    pools: Vec<Vec<Vec<u8>>>,
+    pools: Pools,
 }
 
 impl Default for Runs {
@@ -78,19 +53,9 @@ impl Default for Runs {
 
 impl Runs {
     pub fn new() -> Self {
-        let random = &mut Random::new(71);
-        let mut pools = Vec::new();
-        for order in Order::ALL {
-            for n in 1..=FIELDS {
-                pools.push(pool(random, order, n));
-            }
+        Runs {
+            pools: Pools::new(),
         }
-        Runs { pools }
-    }
-
-    fn pool(&self, (order, n, _): Setting) -> &[Vec<u8>] {
-        let row = order.number() as usize - 1;
-        &self.pools[FIELDS * row + n - 1]
     }
 
     /// A run in some setting: a short one, a long one, a large one or one that fills the buckets.
@@ -99,7 +64,7 @@ impl Runs {
         let fills = case % FILL_EVERY == 2;
         let long = fills || case % LARGE_EVERY == 1;
         if case % LARGE_EVERY == 0 {
-            list.large(random, self.pool(setting));
+            list.large(random, self.pools.of(setting));
         } else {
             // Operations of case 0 fill the buckets.
             let mut operations = Operations::new(random, u64::from(!fills), setting);
@@ -111,17 +76,6 @@ impl Runs {
         }
         list.made()
     }
-}
-
-/// Falling monomials, each once.
-fn pool(random: &mut Random, order: Order, n: usize) -> Vec<Vec<u8>> {
-    let mut found = BTreeSet::new();
-    for _ in 0..2 * POOL {
-        if found.len() < POOL {
-            found.insert(monomial(random, n, LIMIT));
-        }
-    }
-    falling(order, found.into_iter().collect())
 }
 
 /// A run in the making.
@@ -149,7 +103,8 @@ impl List {
 
     fn made(self) -> Made {
         Made {
-            given: Given::new(self.setting, &self.polynomials, self.operations),
+            given: Given::new(self.setting, &self.polynomials),
+            operations: self.operations,
             needs: self.needs,
         }
     }
@@ -267,7 +222,19 @@ impl List {
 }
 
 /// A run of small numbers of any kind, good or not.
-pub fn hostile(random: &mut Random) -> Given {
+pub fn hostile(random: &mut Random) -> (Given, Vec<usize>) {
+    let given = hostile_polynomials(random);
+    let pair = |random: &mut Random| match random.below(32) {
+        0 => [up_to(random, 4), up_to(random, 2)],
+        1..=20 => [ADD, up_to(random, given.starts.len() - 2)],
+        _ => [random.pick(&[LEAD, SUM]), 0],
+    };
+    let operations = (0..up_to(random, 6)).flat_map(|_| pair(random)).collect();
+    (given, operations)
+}
+
+/// Polynomials of small numbers of any kind, good or not.
+pub fn hostile_polynomials(random: &mut Random) -> Given {
     let order = random.pick(&[1, 1, 2, 2, 3, 3, 3, 0, 4]);
     let n = random.pick(&[1, 1, 1, 2, 2, 6, 0, 7]);
     let p = random.pick(&[2, 2, 3, 3, 3, 7, 65_521, 1, 4]);
@@ -283,12 +250,6 @@ pub fn hostile(random: &mut Random) -> Given {
     if random.below(8) > 0 {
         starts.sort_unstable();
     }
-    let pair = |random: &mut Random| match random.below(32) {
-        0 => [up_to(random, 4), up_to(random, 2)],
-        1..=20 => [ADD, up_to(random, starts.len() - 2)],
-        _ => [random.pick(&[LEAD, SUM]), 0],
-    };
-    let operations = (0..up_to(random, 6)).flat_map(|_| pair(random)).collect();
     Given {
         p,
         order,
@@ -296,7 +257,6 @@ pub fn hostile(random: &mut Random) -> Given {
         words,
         coefs,
         starts,
-        operations,
     }
 }
 

@@ -1,15 +1,19 @@
 //! Generated runs of the proved engine against the model: good, damaged and hostile ones. The
 //! variable SECOND_CASES sets the size, as for the other generated tests.
+use second::call::{Answer, Given, Loan, Setting, Tally};
 use second::cases;
 use second::damage::Damage;
-use second::generate::{places, up_to};
-use second::geobucket::{most_comparisons, MOST, PLACES};
+use second::generate::up_to;
+use second::geobucket::{most_comparisons, MOST};
+use second::lender::{assert_same, Lender};
 use second::monomial::Order;
 use second::polynomial::Term;
+use second::pools::setting;
 use second::probe_run;
 use second::random::Random;
-use second::run::{self, Answer, Given, Loan, Space, Tally, ADD, LEAD, MOST_OPERATIONS, SUM, WORK};
-use second::run_lists::{hostile, setting, Runs, Setting};
+use second::run::{self, ADD, LEAD, MOST_OPERATIONS, SUM};
+use second::run_damage::RunDamage;
+use second::run_lists::{hostile, Runs};
 
 /// One of so many cases is a run.
 const CASES_PER_RUN: u64 = 2;
@@ -23,9 +27,6 @@ const REFUSALS: [usize; 10] = [1, 2, 3, 4, 5, 6, 8, 9, 10, 11];
 /// The opening refusals in their order. The last three come by polynomial and place.
 const OPENING: [u64; 5] = [1, 2, 3, 8, 9];
 
-/// After so many runs the contents of what is lent are made anew.
-const RUNS_PER_CONTENTS: u64 = 64;
-
 /// How often each pair of kinds of damage is done.
 const EACH_PAIR: usize = 30;
 
@@ -34,6 +35,9 @@ const ENOUGH: usize = 10;
 
 /// An operation.
 type Pair = [usize; 2];
+
+/// What a run reads: polynomials and operations.
+type Run = (Given, Vec<usize>);
 
 /// What the runs met.
 #[derive(Debug, Default)]
@@ -84,75 +88,14 @@ impl Met {
     }
 }
 
-/// Lends spaces with any contents: rubbish, or what an earlier run left there.
-struct Lender {
-    lent: u64,
-    rubbish: [Space; 2],
-    left: [Space; 2],
-}
-
-impl Lender {
-    fn new(random: &mut Random) -> Self {
-        let rubbish = rubbish(random);
-        Lender {
-            lent: 0,
-            left: rubbish.clone(),
-            rubbish,
-        }
-    }
-
-    fn lend(&mut self, random: &mut Random, output: usize) -> Loan {
-        self.lent += 1;
-        if self.lent % RUNS_PER_CONTENTS == 0 {
-            self.rubbish = rubbish(random);
-        }
-        let contents = match random.below(4) {
-            0 => &self.left,
-            _ => &self.rubbish,
-        };
-        let [space, work] = contents.clone();
-        Loan {
-            space,
-            work,
-            output: places(random, output, output),
-            tally: tally(random),
-        }
-    }
-
-    /// Keeps the spaces that a run left, where they are whole.
-    fn keep(&mut self, loan: Loan) {
-        let lens = |(words, coefs): &Space| (words.len(), coefs.len());
-        if lens(&loan.space) == (PLACES, PLACES) && lens(&loan.work) == (WORK, WORK) {
-            self.left = [loan.space, loan.work];
-        }
-    }
-}
-
-/// A bucket space and a work space with any contents.
-fn rubbish(random: &mut Random) -> [Space; 2] {
-    [places(random, PLACES, PLACES), places(random, WORK, WORK)]
-}
-
-/// A tally as it came, with any counts.
-fn tally(random: &mut Random) -> Tally {
-    Tally {
-        comparisons: random.word(),
-        brought: random.word(),
-        given: random.word(),
-        held: random.word(),
-    }
-}
-
 /// Does a run with the model and with the proved engine. Answer, output, both spaces and the tally
 /// must be the same.
-fn both(given: &Given, loan: Loan, about: &str) -> (Answer, Loan) {
+fn both((given, operations): &Run, loan: Loan, about: &str) -> (Answer, Loan) {
     let (mut expected, mut proved) = (loan.clone(), loan);
-    let answer = run::run(given, &mut expected);
-    assert_eq!(probe_run::run(given, &mut proved), answer, "{about}");
-    assert_eq!(proved.tally, expected.tally, "{about}");
-    assert!(proved.output == expected.output, "{about}: output");
-    assert!(proved.space == expected.space, "{about}: bucket space");
-    assert!(proved.work == expected.work, "{about}: work space");
+    let answer = run::run(given, operations, &mut expected);
+    let own = probe_run::run(given, operations, &mut proved);
+    assert_eq!(own, answer, "{about}");
+    assert_same(&proved, &expected, about);
     (answer, expected)
 }
 
@@ -162,13 +105,15 @@ fn at_opening(answer: Answer) -> bool {
 }
 
 /// Damage of one kind or of several, or of several to the terms alone, or none.
-fn damages(random: &mut Random) -> Vec<Damage> {
+fn damages(random: &mut Random) -> Vec<RunDamage> {
     let some = 2 + up_to(random, 2);
+    let all = RunDamage::all();
+    let terms = Damage::TERMS.map(RunDamage::Call);
     match random.below(20) {
         0..=9 => Vec::new(),
-        10..=13 => vec![random.pick(&Damage::ALL)],
-        14..=16 => (0..some).map(|_| random.pick(&Damage::ALL)).collect(),
-        _ => (0..some).map(|_| random.pick(&Damage::TERMS)).collect(),
+        10..=13 => vec![random.pick(&all)],
+        14..=16 => (0..some).map(|_| random.pick(&all)).collect(),
+        _ => (0..some).map(|_| random.pick(&terms)).collect(),
     }
 }
 
@@ -181,7 +126,7 @@ fn generated() {
     let mut lender = Lender::new(random);
     let mut met = Met::default();
     for case in 0..cases() / CASES_PER_RUN {
-        let (given, loan, about) = match random.below(20) {
+        let (run, loan, about) = match random.below(20) {
             0 => {
                 let output = random.pick(&[0, 1, 2, 20, 20]);
                 let loan = lender.lend(random, output);
@@ -191,16 +136,17 @@ fn generated() {
                 let setting = setting(random, case);
                 let made = runs.made(random, case, setting);
                 let output = made.output_len(random);
-                let (mut given, mut loan) = (made.given, lender.lend(random, output));
+                let mut loan = lender.lend(random, output);
+                let (mut given, mut operations) = (made.given, made.operations);
                 let damages = damages(random);
                 for damage in &damages {
-                    damage.on(random, &mut given, &mut loan);
+                    damage.on(random, &mut given, &mut operations, &mut loan);
                 }
                 let about = format!("case {case} {setting:?}, {damages:?}");
-                (given, loan, about)
+                ((given, operations), loan, about)
             }
         };
-        let (answer, left) = both(&given, loan, &about);
+        let (answer, left) = both(&run, loan, &about);
         if !at_opening(answer) {
             let Tally {
                 comparisons,
@@ -221,20 +167,20 @@ fn generated() {
 fn damage_in_pairs() {
     let random = &mut Random::new(62);
     let mut lender = Lender::new(random);
-    for first in Damage::ALL {
-        for second in Damage::ALL {
+    for first in RunDamage::all() {
+        for second in RunDamage::all() {
             for time in 0..EACH_PAIR {
                 let about = format!("{first:?} and {second:?}, time {time}");
                 let order = Order::ALL[time % 3];
-                let mut given = listing_in(order, 2 + time % 5);
+                let (mut given, mut operations) = listing_in(order, 2 + time % 5);
                 let mut loan = lender.lend(random, ENOUGH);
-                first.on(random, &mut given, &mut loan);
+                first.on(random, &mut given, &mut operations, &mut loan);
                 // The same kind twice may undo itself.
                 if second != first {
-                    second.on(random, &mut given, &mut loan);
+                    second.on(random, &mut given, &mut operations, &mut loan);
                 }
                 let before = loan.clone();
-                let (answer, left) = both(&given, loan, &about);
+                let (answer, left) = both(&(given, operations), loan, &about);
                 assert!(left == before, "{about}");
                 expect_first(answer, [first, second], &about);
             }
@@ -243,8 +189,8 @@ fn damage_in_pairs() {
 }
 
 /// The refusal that comes first in the opening order, or one of the two of terms.
-fn expect_first(answer: Answer, damages: [Damage; 2], about: &str) {
-    let numbers = damages.map(Damage::number);
+fn expect_first(answer: Answer, damages: [RunDamage; 2], about: &str) {
+    let numbers = damages.map(RunDamage::number);
     let expected = match OPENING.into_iter().find(|r| numbers.contains(r)) {
         Some(number) => answer.refusal == number,
         None => numbers.contains(&answer.refusal),
@@ -254,8 +200,8 @@ fn expect_first(answer: Answer, damages: [Damage; 2], about: &str) {
 }
 
 /// A run of these polynomials and operations.
-fn run_of(setting: Setting, polynomials: &[Vec<Term>], pairs: &[Pair]) -> Given {
-    Given::new(setting, polynomials, pairs.concat())
+fn run_of(setting: Setting, polynomials: &[Vec<Term>], pairs: &[Pair]) -> Run {
+    (Given::new(setting, polynomials), pairs.concat())
 }
 
 /// The two polynomials of the listing of document 01, in an order and in n variables.
@@ -277,7 +223,7 @@ fn listing_polynomials(order: Order, n: usize) -> [Vec<Term>; 2] {
 }
 
 /// The listing of document 01, in an order and in n variables.
-fn listing_in(order: Order, n: usize) -> Given {
+fn listing_in(order: Order, n: usize) -> Run {
     let pairs = [[ADD, 0], [ADD, 1], [LEAD, 0], [SUM, 0]];
     run_of((order, n, 7), &listing_polynomials(order, n), &pairs)
 }
@@ -288,8 +234,8 @@ fn listing() {
     let random = &mut Random::new(63);
     let loan = Lender::new(random).lend(random, ENOUGH);
     let before = loan.output.clone();
-    let given = listing_in(Order::DegRevLex, 2);
-    let (answer, left) = both(&given, loan, "listing");
+    let run = listing_in(Order::DegRevLex, 2);
+    let (answer, left) = both(&run, loan, "listing");
     let expected = Answer {
         refusal: 0,
         finished: 4,
@@ -319,10 +265,10 @@ fn places_of_a_sum() {
     let mut lender = Lender::new(random);
     let polynomials = listing_polynomials(Order::DegRevLex, 2);
     let pairs = [[ADD, 0], [ADD, 1], [SUM, 0]];
-    let given = run_of((Order::DegRevLex, 2, 7), &polynomials, &pairs);
+    let run = run_of((Order::DegRevLex, 2, 7), &polynomials, &pairs);
     for output in 0..9 {
         let loan = lender.lend(random, output);
-        let (answer, left) = both(&given, loan, &format!("{output} places"));
+        let (answer, left) = both(&run, loan, &format!("{output} places"));
         let (refusal, finished, places, held) = match output {
             0..=6 => (10, 2, 0, 6),
             _ => (0, 3, 5, 0),
@@ -342,9 +288,9 @@ fn no_polynomials() {
     let random = &mut Random::new(65);
     let mut lender = Lender::new(random);
     let ask = |pairs: &[Pair], starts: &[usize]| {
-        let mut given = run_of((Order::Lex, 1, 2), &[], pairs);
-        given.starts = starts.to_vec();
-        given
+        let mut run = run_of((Order::Lex, 1, 2), &[], pairs);
+        run.0.starts = starts.to_vec();
+        run
     };
     for (pairs, starts, output, expected) in [
         (&[[LEAD, 0], [SUM, 0]][..], &[0][..], 2, [0, 2, 2]),
@@ -392,10 +338,10 @@ fn most_terms() {
             (&[[ADD, 0], [SUM, 0], [ADD, 0]], [0, 3, 4_097], 4_096),
             (&[[ADD, 3]], [11, 0, 0], 0),
         ] {
-            let given = run_of((order, 2, 32_003), &polynomials, pairs);
+            let run = run_of((order, 2, 32_003), &polynomials, pairs);
             let loan = lender.lend(random, MOST + 1);
             let about = format!("{order:?} {pairs:?}");
-            let (answer, left) = both(&given, loan, &about);
+            let (answer, left) = both(&run, loan, &about);
             let numbers = [answer.refusal, answer.finished, answer.places];
             assert_eq!((numbers, left.tally.held), (expected, held), "{about}");
         }
@@ -410,7 +356,7 @@ fn order_in_terms() {
     let mut lender = Lender::new(random);
     // Two polynomials of two terms each, the same ones.
     let f = vec![(vec![2, 0], 1), (vec![0, 1], 1)];
-    let good = run_of((Order::DegRevLex, 2, 7), &[f.clone(), f], &[]);
+    let good = Given::new((Order::DegRevLex, 2, 7), &[f.clone(), f]);
     let rise = (good.words[1], good.words[0]);
     for (coefs, words, falls, expected) in [
         (&[][..], &[][..], [true, true], 0),
@@ -439,7 +385,7 @@ fn order_in_terms() {
         words.iter().for_each(|&k: &usize| given.words[k] ^= 1 << 7);
         let about = format!("coefficients {coefs:?}, words {words:?}, falls {falls:?}");
         let loan = lender.lend(random, 0);
-        let (answer, _) = both(&given, loan, &about);
+        let (answer, _) = both(&(given, Vec::new()), loan, &about);
         assert_eq!((answer.refusal, answer.finished), (expected, 0), "{about}");
     }
 }
@@ -449,22 +395,22 @@ fn order_in_terms() {
 fn most_operations() {
     let random = &mut Random::new(68);
     let mut lender = Lender::new(random);
-    let mut given = run_of((Order::DegLex, 3, 101), &[Vec::new()], &[]);
+    let mut run = run_of((Order::DegLex, 3, 101), &[Vec::new()], &[]);
     // The code 0 is unknown, which comes after the length.
     for (len, expected) in [
         (2 * MOST_OPERATIONS, 9),
         (2 * MOST_OPERATIONS + 1, 8),
         (2 * MOST_OPERATIONS + 2, 8),
     ] {
-        given.operations = vec![0; len];
+        run.1 = vec![0; len];
         let loan = lender.lend(random, 0);
-        let (answer, _) = both(&given, loan, &format!("{len} numbers"));
+        let (answer, _) = both(&run, loan, &format!("{len} numbers"));
         assert_eq!((answer.refusal, answer.finished), (expected, 0), "{len}");
     }
     // Additions of zero.
-    given.operations = [ADD, 0].repeat(MOST_OPERATIONS);
+    run.1 = [ADD, 0].repeat(MOST_OPERATIONS);
     let loan = lender.lend(random, 0);
-    let (answer, left) = both(&given, loan, "additions of zero");
+    let (answer, left) = both(&run, loan, "additions of zero");
     assert_eq!(answer.finished, MOST_OPERATIONS as u64);
     assert_eq!((answer.refusal, left.tally), (0, Tally::default()));
 }

@@ -1,0 +1,111 @@
+//! The opening checks that runs and reductions share, in plain Rust.
+use crate::geobucket::Memory;
+use crate::given::Given;
+use crate::lists::{List, Terms};
+
+const LARGEST_PRIME: u32 = 65_521;
+
+/// The places of the bucket space and of the work space.
+const SPACE: usize = 5_460;
+const WORK: usize = 8_192;
+
+/// The degree of a word, and the exponents of all six fields.
+const DEGREE: u64 = 0xffff << 48;
+const EXPONENTS: u64 = 0x7f7f_7f7f_7f7f;
+
+/// Every other field.
+const EVEN: u64 = 0x00ff_00ff_00ff;
+
+/// The refusals of the prime and of the number of variables, or 0.
+pub fn setting_refusal(given: &Given) -> u64 {
+    if given.p > LARGEST_PRIME || !is_prime(given.p) {
+        return 1;
+    }
+    match given.n {
+        1..=6 => 0,
+        _ => 3,
+    }
+}
+
+/// The refusal of the first polynomial that has one, or 0, by words that are compared by a key.
+/// `first_below` says that the field of x1 is the lowest.
+#[inline(always)]
+pub fn polynomials_refusal(
+    key: impl Fn(u64) -> u64 + Copy,
+    first_below: bool,
+    given: &Given,
+) -> u64 {
+    let allowed = DEGREE | exponents(first_below, given.n);
+    for k in 0..given.count() {
+        let terms = given.polynomial(k);
+        if !polynomial_good(key, given.p, allowed, terms) {
+            return polynomial_refusal(given.p, allowed, terms);
+        }
+    }
+    0
+}
+
+fn is_prime(p: u32) -> bool {
+    p >= 2 && (2..).take_while(|d| d * d <= p).all(|d| p % d != 0)
+}
+
+/// The bits of the exponents of n variables.
+fn exponents(first_below: bool, n: u32) -> u64 {
+    let unused = 8 * (6 - n);
+    if first_below {
+        EXPONENTS >> unused
+    } else {
+        EXPONENTS >> unused << unused
+    }
+}
+
+/// Whether the lists and the spaces have the right lengths, and the starts are good.
+pub fn sizes_good(given: &Given, memory: &Memory, output: &List) -> bool {
+    let lens = |list: &List| (list.words.len(), list.coefs.len());
+    let (words, coefs) = lens(&given.terms);
+    let starts = &given.starts;
+    words == coefs
+        && output.words.len() == output.coefs.len()
+        && lens(&memory.space) == (SPACE, SPACE)
+        && lens(&memory.work) == (WORK, WORK)
+        && starts.first() == Some(&0)
+        && starts.last() == Some(&words)
+        && starts.windows(2).all(|pair| pair[0] <= pair[1])
+}
+
+/// Whether a word is of the layout with these bits: its degree is the sum of its fields, first by
+/// two and then by three.
+#[inline(always)]
+fn in_layout(allowed: u64, word: u64) -> bool {
+    let fields = word & !DEGREE;
+    let by_two = (fields & EVEN) + (fields >> 8 & EVEN);
+    let sum = by_two.wrapping_mul(0x1_0001_0001) >> 32 & 0xffff;
+    word & !allowed == 0 && word >> 48 == sum
+}
+
+/// Whether a polynomial is not refused. There is no branch on the terms.
+#[inline(always)]
+fn polynomial_good(key: impl Fn(u64) -> u64, p: u32, allowed: u64, (words, coefs): Terms) -> bool {
+    let mut good = true;
+    for (&word, &coef) in words.iter().zip(coefs) {
+        good &= coef.wrapping_sub(1) < p - 1;
+        good &= in_layout(allowed, word);
+    }
+    for pair in words.windows(2) {
+        good &= key(pair[0]) > key(pair[1]);
+    }
+    good
+}
+
+/// The refusal of a polynomial that has one.
+fn polynomial_refusal(p: u32, allowed: u64, (words, coefs): Terms) -> u64 {
+    for (&word, &coef) in words.iter().zip(coefs) {
+        if coef == 0 || coef >= p {
+            return 4;
+        }
+        if !in_layout(allowed, word) {
+            return 5;
+        }
+    }
+    6
+}

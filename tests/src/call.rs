@@ -1,0 +1,131 @@
+//! What runs and reductions share: the polynomials that they read, what they are lent, what they
+//! answer, and the opening checks of these (document 01, "Terms" and "Refusals by cause").
+use crate::geobucket::PLACES;
+use crate::monomial::{Order, FIELDS};
+use crate::polynomial::{lent, part, refusal, starts_good, Term};
+use crate::residue;
+
+/// The largest prime that is taken.
+pub const LARGEST_PRIME: u32 = 65_521;
+
+/// The places of the work space, for words and for coefficients.
+pub const WORK: usize = 8_192;
+
+/// Words and coefficients of a space.
+pub type Space = (Vec<u64>, Vec<u32>);
+
+/// An order, a number of variables and a prime.
+pub type Setting = (Order, usize, u32);
+
+/// Polynomials as they are lent, with their setting: any numbers and any lists.
+#[derive(Clone, Debug, Default, PartialEq, Eq)]
+pub struct Given {
+    pub p: u32,
+    pub order: u32,
+    pub n: u32,
+    pub words: Vec<u64>,
+    pub coefs: Vec<u32>,
+    pub starts: Vec<usize>,
+}
+
+#[derive(Clone, Copy, Debug, Default, PartialEq, Eq)]
+pub struct Tally {
+    pub comparisons: u64,
+    pub brought: u64,
+    pub given: u64,
+    pub held: u64,
+}
+
+/// What a call is lent and sets: bucket space, work space, output and tally, with any contents.
+#[derive(Clone, Debug, Default, PartialEq, Eq)]
+pub struct Loan {
+    pub space: Space,
+    pub work: Space,
+    pub output: Space,
+    pub tally: Tally,
+}
+
+/// The refusal, 0 for none; the operations or leads finished; and the output places written, 0 where
+/// refused. A reduction writes a place for each term of the remainder.
+#[derive(Clone, Copy, Debug, Default, PartialEq, Eq)]
+pub struct Answer {
+    pub refusal: u64,
+    pub finished: u64,
+    pub places: u64,
+}
+
+impl Answer {
+    /// A refusal after so many operations or leads.
+    pub fn refused(refusal: u64, finished: u64) -> Self {
+        Answer {
+            refusal,
+            finished,
+            places: 0,
+        }
+    }
+}
+
+impl Given {
+    /// These polynomials, each behind the one before.
+    pub fn new((order, n, p): Setting, polynomials: &[Vec<Term>]) -> Self {
+        let mut given = Given {
+            p,
+            order: order.number(),
+            n: n as u32,
+            starts: vec![0],
+            ..Given::default()
+        };
+        for f in polynomials {
+            let (words, coefs) = lent(order, f);
+            given.words.extend(words);
+            given.coefs.extend(coefs);
+            given.starts.push(given.words.len());
+        }
+        given
+    }
+
+    /// The order and the number of variables, or the refusal 1, 2 or 3.
+    pub fn setting(&self) -> Result<(Order, usize), u64> {
+        if self.p > LARGEST_PRIME || !residue::is_prime(self.p) {
+            return Err(1);
+        }
+        let order = Order::ALL.into_iter().find(|o| o.number() == self.order);
+        let order = order.ok_or(2_u64)?;
+        match self.n as usize {
+            n @ 1..=FIELDS => Ok((order, n)),
+            _ => Err(3),
+        }
+    }
+
+    /// Whether the lists and the spaces have the right lengths, and the starts are good.
+    pub fn sizes_good(&self, loan: &Loan) -> bool {
+        let lens = |(words, coefs): &Space| (words.len(), coefs.len());
+        self.words.len() == self.coefs.len()
+            && loan.output.0.len() == loan.output.1.len()
+            && lens(&loan.space) == (PLACES, PLACES)
+            && lens(&loan.work) == (WORK, WORK)
+            && starts_good(&self.starts, self.words.len())
+    }
+
+    /// All polynomials by their exponents, or the refusal 4, 5 or 6 of the first that has one.
+    pub fn polynomials(&self, (order, n): (Order, usize)) -> Result<Vec<Vec<Term>>, u64> {
+        let count = self.starts.len() - 1;
+        (0..count).map(|k| self.polynomial(order, n, k)).collect()
+    }
+
+    /// Polynomial k by its exponents, or its refusal.
+    fn polynomial(&self, order: Order, n: usize, k: usize) -> Result<Vec<Term>, u64> {
+        let places = part(&self.starts, k, self.words.len()).expect("the starts are good");
+        let (words, coefs) = (&self.words[places.clone()], &self.coefs[places]);
+        match refusal(order, n, self.p, words, coefs) {
+            0 => Ok(terms(order, n, words, coefs)),
+            number => Err(u64::from(number)),
+        }
+    }
+}
+
+/// The terms of words of the layout in n variables, by their exponents.
+pub fn terms(order: Order, n: usize, words: &[u64], coefs: &[u32]) -> Vec<Term> {
+    let monomials = words.iter().map(|&w| order.fields(w)[..n].to_vec());
+    monomials.zip(coefs.iter().copied()).collect()
+}

@@ -1,0 +1,67 @@
+//! Settings for runs and reductions, and falling monomials for large polynomials.
+use crate::call::{Setting, LARGEST_PRIME};
+use crate::generate::{falling, monomial};
+use crate::monomial::{Order, FIELDS, LIMIT};
+use crate::random::Random;
+use crate::residue::is_prime;
+use std::collections::BTreeSet;
+
+/// The falling monomials that large polynomials are parts of, more than are held. In one variable
+/// there are only 128.
+const POOL: usize = 6_000;
+
+/// All orders and numbers of variables in turn, and any prime, often one of the ends.
+pub fn setting(random: &mut Random, case: u64) -> Setting {
+    let order = Order::ALL[(case % 3) as usize];
+    let n = 1 + (case / 3 % FIELDS as u64) as usize;
+    (order, n, prime(random))
+}
+
+fn prime(random: &mut Random) -> u32 {
+    match random.below(2) {
+        0 => random.pick(&[2, 3, 5, 7, 32_003, 65_519, LARGEST_PRIME]),
+        _ => {
+            let most = 2 + random.below(u64::from(LARGEST_PRIME - 1)) as u32;
+            let prime = |p: &u32| is_prime(*p);
+            (2..=most).rev().find(prime).expect("2 is prime")
+        }
+    }
+}
+
+/// Falling monomials, made once for each order and number of variables.
+pub struct Pools(Vec<Vec<Vec<u8>>>);
+
+impl Default for Pools {
+    fn default() -> Self {
+        Pools::new()
+    }
+}
+
+impl Pools {
+    pub fn new() -> Self {
+        let random = &mut Random::new(71);
+        let mut pools = Vec::new();
+        for order in Order::ALL {
+            for n in 1..=FIELDS {
+                pools.push(pool(random, order, n));
+            }
+        }
+        Pools(pools)
+    }
+
+    pub fn of(&self, (order, n, _): Setting) -> &[Vec<u8>] {
+        let row = order.number() as usize - 1;
+        &self.0[FIELDS * row + n - 1]
+    }
+}
+
+/// Falling monomials, each once.
+fn pool(random: &mut Random, order: Order, n: usize) -> Vec<Vec<u8>> {
+    let mut found = BTreeSet::new();
+    for _ in 0..2 * POOL {
+        if found.len() < POOL {
+            found.insert(monomial(random, n, LIMIT));
+        }
+    }
+    falling(order, found.into_iter().collect())
+}

@@ -1,0 +1,605 @@
+//! Reductions of the proved engine against the model: document 01's known results, and generated
+//! good, damaged and hostile ones. The variable SECOND_CASES sets the size, as for the other
+//! generated tests.
+use second::call::{terms, Answer, Given, Loan, Setting, Tally};
+use second::cases;
+use second::damage::Damage;
+use second::generate::up_to;
+use second::geobucket::{most_comparisons, MOST};
+use second::lender::{assert_same, Lender};
+use second::monomial::{divides, quotient, Order};
+use second::polynomial::{multiple, sum, Term};
+use second::pools::setting;
+use second::probe_reduction;
+use second::random::Random;
+use second::reduction::{self, MOST_LEADS};
+use second::reduction_damage::ReductionDamage;
+use second::reduction_lists::{combination, coprime, Made, Reductions};
+use second::residue;
+use second::run_lists::hostile_polynomials;
+
+/// One of so many cases is a reduction.
+const CASES_PER_REDUCTION: u64 = 2;
+
+/// Each refusal, and each kind of reduction, must be met once in so many cases.
+const CASES_PER_KIND: u64 = 500;
+
+/// The refusals that a reduction can give, and 0 for none.
+const REFUSALS: [usize; 13] = [0, 1, 2, 3, 4, 5, 6, 7, 8, 10, 11, 12, 13];
+
+/// The opening refusals in their order, but 4, 5 and 6, which come by polynomial and place.
+const BEFORE_TERMS: [u64; 4] = [1, 2, 3, 8];
+const TERMS: [u64; 3] = [4, 5, 6];
+
+/// How often each pair of kinds of damage is done.
+const EACH_PAIR: usize = 30;
+
+/// Output places that are enough for small reductions.
+const ENOUGH: usize = 10;
+
+/// The setting of the known results.
+const KNOWN: Setting = (Order::DegRevLex, 2, 7);
+
+/// What the reductions met.
+#[derive(Debug, Default)]
+struct Met {
+    reductions: u64,
+    /// By number, from 0 for none.
+    refusals: [u64; 14],
+    /// Those that were stopped by 10 to 13 after some leads.
+    stopped_later: [u64; 4],
+    /// Those that were finished with no lead, or with the remainder zero after some leads.
+    nothing: u64,
+    zero: u64,
+    /// Those that were finished with exactly the step limit's leads, and with no output place left.
+    at_limit: u64,
+    output_full: u64,
+    leads: u64,
+    comparisons: u64,
+}
+
+impl Met {
+    fn reduction(&mut self, limit: u64, answer: Answer, left: &Loan) {
+        self.reductions += 1;
+        self.refusals[answer.refusal as usize] += 1;
+        self.leads += answer.finished;
+        if !at_opening(answer) {
+            self.comparisons += left.tally.comparisons;
+        }
+        if answer.refusal >= 10 && answer.finished > 0 {
+            self.stopped_later[answer.refusal as usize - 10] += 1;
+        }
+        if answer.refusal == 0 {
+            let (leads, places) = (answer.finished, answer.places);
+            self.nothing += u64::from(leads == 0);
+            self.zero += u64::from(leads > 0 && places == 0);
+            self.at_limit += u64::from(leads > 0 && leads == limit);
+            self.output_full += u64::from(leads > 0 && places == left.output.0.len() as u64);
+        }
+    }
+
+    /// That each refusal was met often enough, and each kind of reduction.
+    fn whole(&self) {
+        println!("{self:?}");
+        let kinds = [self.nothing, self.zero, self.at_limit, self.output_full];
+        let met = REFUSALS.map(|number| self.refusals[number]);
+        let least = cases() / CASES_PER_KIND;
+        for often in met.iter().chain(&kinds).chain(&self.stopped_later) {
+            assert!(*often >= least, "{self:?}");
+        }
+    }
+}
+
+/// Does a reduction with the model and with the proved engine. Answer, output, both spaces and the
+/// tally must be the same.
+fn both(given: &Given, limit: u64, loan: Loan, about: &str) -> (Answer, Loan) {
+    let (mut expected, mut proved) = (loan.clone(), loan);
+    let answer = reduction::reduce(given, limit, &mut expected);
+    let own = probe_reduction::reduce(given, limit, &mut proved);
+    assert_eq!(own, answer, "{about}");
+    assert_same(&proved, &expected, about);
+    (answer, expected)
+}
+
+/// Whether the reduction was refused by an opening check.
+fn at_opening(answer: Answer) -> bool {
+    (1..10).contains(&answer.refusal)
+}
+
+/// Damage of one kind or of several, or of several to the divisors and terms alone, or none.
+fn damages(random: &mut Random) -> Vec<ReductionDamage> {
+    let some = 2 + up_to(random, 2);
+    let all = ReductionDamage::all();
+    let mut terms = Damage::TERMS.map(ReductionDamage::Call).to_vec();
+    terms.push(ReductionDamage::ZeroDivisor);
+    match random.below(20) {
+        0..=9 => Vec::new(),
+        10..=13 => vec![random.pick(&all)],
+        14..=16 => (0..some).map(|_| random.pick(&all)).collect(),
+        _ => (0..some).map(|_| random.pick(&terms)).collect(),
+    }
+}
+
+/// A reduction, what is lent to it, and what to say of it.
+struct Case {
+    given: Given,
+    limit: u64,
+    loan: Loan,
+    about: String,
+}
+
+/// A reduction of small numbers of any kind, with any step limit.
+fn hostile_case(random: &mut Random, lender: &mut Lender, case: u64) -> Case {
+    let any = random.word();
+    let output = random.pick(&[0, 1, 2, 20, 20]);
+    Case {
+        given: hostile_polynomials(random),
+        limit: random.pick(&[0, 1, 2, 5, MOST_LEADS, MOST_LEADS, MOST_LEADS + 1, any]),
+        loan: lender.lend(random, output),
+        about: format!("case {case}, hostile"),
+    }
+}
+
+/// A good reduction, which is then damaged as often as not.
+fn made_case(random: &mut Random, lender: &mut Lender, made: Made, about: &str) -> Case {
+    let output = made.output_len(random);
+    let (mut limit, mut loan) = (made.limit(random), lender.lend(random, output));
+    let mut given = made.given;
+    let damages = damages(random);
+    for damage in &damages {
+        damage.on(random, &mut given, &mut limit, &mut loan);
+    }
+    Case {
+        given,
+        limit,
+        loan,
+        about: format!("{about}, limit {limit}, {output} places, {damages:?}"),
+    }
+}
+
+/// Generated reductions: 25,000. Of twenty, one is hostile, and half of the others are damaged.
+#[test]
+fn generated() {
+    let random = &mut Random::new(81);
+    let reductions = Reductions::new();
+    let mut lender = Lender::new(random);
+    let mut met = Met::default();
+    for case in 0..cases() / CASES_PER_REDUCTION {
+        let Case {
+            given,
+            limit,
+            loan,
+            about,
+        } = match random.below(20) {
+            0 => hostile_case(random, &mut lender, case),
+            _ => {
+                let setting = setting(random, case);
+                let made = reductions.made(random, case, setting);
+                made_case(
+                    random,
+                    &mut lender,
+                    made,
+                    &format!("case {case} {setting:?}"),
+                )
+            }
+        };
+        let before = loan.clone();
+        let (answer, left) = both(&given, limit, loan, &about);
+        match at_opening(answer) {
+            true => assert!(left == before, "{about}"),
+            false => assert_bound(left.tally, &about),
+        }
+        met.reduction(limit, answer, &left);
+        lender.keep(left);
+    }
+    met.whole();
+}
+
+/// The comparisons are at most 6·N·M.
+fn assert_bound(tally: Tally, about: &str) {
+    let most = most_comparisons(tally.brought);
+    assert!(tally.comparisons <= most, "{about}: {tally:?}");
+}
+
+/// The terms that the bucket space holds.
+fn held((order, n, _): Setting, left: &Loan) -> Vec<Term> {
+    let (words, coefs) = &left.space;
+    let mut held = terms(order, n, words, coefs);
+    held.retain(|&(_, c)| c != 0);
+    held
+}
+
+/// What a reduction removed and what is held add up to what was brought in, modulo p; and the tally
+/// has their numbers.
+#[test]
+fn conservation() {
+    let random = &mut Random::new(82);
+    let reductions = Reductions::new();
+    let mut lender = Lender::new(random);
+    for case in 0..cases() / (10 * CASES_PER_REDUCTION) {
+        let setting = setting(random, case);
+        let made = reductions.made(random, case, setting);
+        let (limit, output) = (made.limit(random), made.output_len(random));
+        let mut loan = lender.lend(random, output);
+        let (answer, trace) = reduction::traced(&made.given, limit, &mut loan);
+        let (held, (order, _, p)) = (held(setting, &loan), setting);
+        let out = sum(order, p, &trace.removed, &held);
+        let about = format!("case {case} {setting:?}");
+        assert!(out == sum(order, p, &trace.brought, &[]), "{about}");
+        assert_eq!(trace.removed.len() as u64, answer.finished, "{about}");
+        assert_eq!(trace.brought.len() as u64, loan.tally.brought, "{about}");
+        assert_eq!(held.len() as u64, loan.tally.held, "{about}");
+        assert_bound(loan.tally, &about);
+    }
+}
+
+/// The division algorithm on whole polynomials, without buckets: the remainder and the leads, where
+/// no exponent is over 127 and there are at most so many leads.
+fn divided(
+    (order, _, p): Setting,
+    polynomials: &[Vec<Term>],
+    most: u64,
+) -> Option<(Vec<Term>, u64)> {
+    let (mut f, mut remainder, mut leads) = (polynomials[0].clone(), Vec::new(), 0);
+    while let Some((lead, rest)) = f.clone().split_first() {
+        if leads == most {
+            return None;
+        }
+        leads += 1;
+        let fits = |d: &&Vec<Term>| divides(&d[0].0, &lead.0);
+        f = match polynomials[1..].iter().find(fits) {
+            Some(d) => {
+                let inverse = residue::invert(d[0].1, p);
+                let factor = residue::negate(residue::multiply(lead.1, inverse, p), p);
+                let by = quotient(&lead.0, &d[0].0)?;
+                sum(order, p, &f, &multiple(p, factor, &by, d)?)
+            }
+            None => {
+                remainder.push(lead.clone());
+                rest.to_vec()
+            }
+        };
+    }
+    Some((remainder, leads))
+}
+
+/// A finished remainder is that of the division algorithm, with as many leads.
+#[test]
+fn division_algorithm() {
+    let random = &mut Random::new(83);
+    let reductions = Reductions::new();
+    let mut lender = Lender::new(random);
+    let mut finished = 0;
+    for case in (0..cases() / 20).filter(|case| case % 20 > 1) {
+        let setting = setting(random, case);
+        let made = reductions.made(random, case, setting);
+        let polynomials = made.given.polynomials((setting.0, setting.1));
+        let loan = lender.lend(random, made.terms);
+        let about = format!("case {case} {setting:?}");
+        let (answer, left) = both(&made.given, made.leads, loan, &about);
+        if answer.refusal == 0 {
+            let (words, coefs) = &left.output;
+            let remainder = terms(setting.0, setting.1, words, coefs);
+            let expected = divided(setting, &polynomials.expect("good"), made.leads);
+            assert!(expected == Some((remainder, made.leads)), "{about}");
+            finished += 1;
+        }
+    }
+    assert!(finished >= cases() / 100, "{finished}");
+}
+
+/// By a Gröbner basis, a combination of the divisors leaves zero, and the remainder does not depend on
+/// their order.
+#[test]
+fn bases() {
+    let random = &mut Random::new(84);
+    let mut lender = Lender::new(random);
+    let (mut zeros, mut alike) = (0, 0);
+    for case in 0..cases() / 50 {
+        let setting = setting(random, case);
+        let mut basis = coprime(random, setting);
+        let f = combination(random, setting, &basis);
+        let mut remainders = Vec::new();
+        for turn in 0..2 {
+            let given = Given::new(setting, &[vec![f.clone()], basis.clone()].concat());
+            let about = format!("case {case} {setting:?}, turn {turn}");
+            let loan = lender.lend(random, MOST);
+            let (answer, left) = both(&given, 2_000, loan, &about);
+            if answer.refusal == 0 {
+                let places = answer.places as usize;
+                remainders.push((
+                    left.output.0[..places].to_vec(),
+                    left.output.1[..places].to_vec(),
+                ));
+            }
+            basis.reverse();
+        }
+        if let [one, other] = &remainders[..] {
+            assert!(one == other, "case {case} {setting:?}");
+            alike += 1;
+            zeros += u64::from(one.0.is_empty());
+        }
+    }
+    assert!(
+        alike >= cases() / 100 && zeros >= cases() / 200,
+        "{alike} {zeros}"
+    );
+}
+
+/// Every kind of damage alone and with every other one, on a reduction that is good without them: the
+/// refusal that comes first in the opening order is given, and nothing is changed.
+#[test]
+fn damage_in_pairs() {
+    let random = &mut Random::new(85);
+    let mut lender = Lender::new(random);
+    for first in ReductionDamage::all() {
+        for second in ReductionDamage::all() {
+            for time in 0..EACH_PAIR {
+                let about = format!("{first:?} and {second:?}, time {time}");
+                let (mut given, mut limit) = (good(Order::ALL[time % 3], 2 + time % 5), 3);
+                let mut loan = lender.lend(random, ENOUGH);
+                first.on(random, &mut given, &mut limit, &mut loan);
+                // The same kind twice may undo itself.
+                if second != first {
+                    second.on(random, &mut given, &mut limit, &mut loan);
+                }
+                let before = loan.clone();
+                let (answer, left) = both(&given, limit, loan, &about);
+                assert!(left == before, "{about}");
+                expect_first(answer, [first, second], &about);
+            }
+        }
+    }
+}
+
+/// The refusal that comes first in the opening order, or one of the two of terms.
+fn expect_first(answer: Answer, damages: [ReductionDamage; 2], about: &str) {
+    let mut numbers = damages.map(ReductionDamage::number);
+    if numbers.contains(&8) && damages.contains(&ReductionDamage::NoPolynomial) {
+        // Nothing is left that could have another refusal after 8.
+        numbers = numbers.map(|number| if number > 3 { 8 } else { number });
+    }
+    let before = BEFORE_TERMS.into_iter().find(|r| numbers.contains(r));
+    let expected = match before {
+        Some(number) => answer.refusal == number,
+        None if numbers.iter().any(|r| TERMS.contains(r)) => {
+            numbers.contains(&answer.refusal) && answer.refusal != 7
+        }
+        None => answer.refusal == 7,
+    };
+    assert!(expected && answer.finished == 0, "{about}: {answer:?}");
+    assert_eq!(answer.places, 0, "{about}");
+}
+
+/// A term in the first two of n variables.
+fn term(n: usize, coef: u32, [x, y]: [u8; 2]) -> Term {
+    let mut exponents = vec![0; n];
+    (exponents[0], exponents[1]) = (x, y);
+    (exponents, coef)
+}
+
+/// A polynomial in the first two of n variables.
+fn polynomial(order: Order, n: usize, terms: &[(u32, [u8; 2])]) -> Vec<Term> {
+    let mut f: Vec<Term> = terms.iter().map(|&(c, m)| term(n, c, m)).collect();
+    f.sort_by(|(x, _), (y, _)| order.compare(y, x));
+    f
+}
+
+/// The polynomials of document 01's known results: x1²x2 + x1x2² + x2², x1x2 + 6 and x2² + 6.
+fn known_polynomials(order: Order, n: usize) -> [Vec<Term>; 3] {
+    [
+        &[(1, [2, 1]), (1, [1, 2]), (1, [0, 2])][..],
+        &[(1, [1, 1]), (6, [0, 0])],
+        &[(1, [0, 2]), (6, [0, 0])],
+    ]
+    .map(|terms| polynomial(order, n, terms))
+}
+
+/// A reduction that no opening check refuses, in an order and in n variables.
+fn good(order: Order, n: usize) -> Given {
+    Given::new((order, n, 7), &known_polynomials(order, n))
+}
+
+/// Does a reduction in the setting of the known results, and gives the refusal, the leads, the
+/// remainder and what is left.
+fn known(polynomials: &[Vec<Term>], limit: u64) -> (u64, u64, Vec<Term>, Loan) {
+    let random = &mut Random::new(86);
+    let loan = Lender::new(random).lend(random, ENOUGH);
+    let before = loan.output.clone();
+    let given = Given::new(KNOWN, polynomials);
+    let about = format!("{polynomials:?}, limit {limit}");
+    let (answer, left) = both(&given, limit, loan, &about);
+    let written = left.tally.given as usize;
+    let places = [written, 0][usize::from(answer.refusal != 0)];
+    assert_eq!(answer.places as usize, places, "{about}");
+    let (words, coefs) = &left.output;
+    assert_eq!(words[written..], before.0[written..], "{about}");
+    assert_eq!(coefs[written..], before.1[written..], "{about}");
+    let remainder = terms(KNOWN.0, KNOWN.1, &words[..written], &coefs[..written]);
+    (answer.refusal, answer.finished, remainder, left)
+}
+
+/// A polynomial of a known result.
+fn of(terms: &[(u32, [u8; 2])]) -> Vec<Term> {
+    polynomial(KNOWN.0, KNOWN.1, terms)
+}
+
+/// x1²x2 + x1x2² + x2² by x1x2+6, x2²+6 leaves x1+x2+1 after 6 leads; limit 5 stops with 13; with the
+/// divisors swapped it leaves 2x1+1 after 5 leads.
+#[test]
+fn known_remainders() {
+    let [f, g, h] = known_polynomials(KNOWN.0, KNOWN.1);
+    let in_turn = [f.clone(), g.clone(), h.clone()];
+    let remainder = of(&[(1, [1, 0]), (1, [0, 1]), (1, [0, 0])]);
+    for limit in [6, 7, MOST_LEADS] {
+        let (refusal, leads, found, left) = known(&in_turn, limit);
+        assert_eq!((refusal, leads, &found), (0, 6, &remainder), "{limit}");
+        let tally = Tally {
+            comparisons: left.tally.comparisons,
+            brought: 6,
+            given: 3,
+            held: 0,
+        };
+        assert_eq!(left.tally, tally);
+    }
+    for limit in 0..6 {
+        let (refusal, leads, ..) = known(&in_turn, limit);
+        assert_eq!((refusal, leads), (13, limit));
+    }
+    let (refusal, leads, found, _) = known(&[f, h, g], MOST_LEADS);
+    let swapped = of(&[(2, [1, 0]), (1, [0, 0])]);
+    assert_eq!((refusal, leads, found), (0, 5, swapped));
+}
+
+/// By x2²+6x1: x1^126·x2² leaves x1^127; x1^127·x2² stops with 12, and its lead is left.
+#[test]
+fn known_exponents() {
+    let divisor = of(&[(1, [0, 2]), (6, [1, 0])]);
+    let (refusal, leads, remainder, _) = known(&[of(&[(1, [126, 2])]), divisor.clone()], 9);
+    assert_eq!((refusal, leads, remainder), (0, 2, of(&[(1, [127, 0])])));
+    let f = of(&[(1, [127, 2])]);
+    let (refusal, leads, remainder, left) = known(&[f.clone(), divisor], 9);
+    assert_eq!((refusal, leads, remainder.len()), (12, 0, 0));
+    assert_eq!(held(KNOWN, &left), f);
+    assert_eq!((left.tally.brought, left.tally.held), (1, 1));
+}
+
+/// 13 comes before 12, 11 and 10; zero finishes with limit 0; and divisors of one term stop nothing.
+#[test]
+fn order_in_a_step() {
+    let (f, divisor) = (of(&[(1, [127, 2])]), of(&[(1, [0, 2]), (6, [1, 0])]));
+    for (polynomials, limit, expected) in [
+        (vec![f.clone(), divisor.clone()], 0, (13, 0)),
+        (vec![f.clone(), divisor.clone()], 1, (12, 0)),
+        (
+            vec![f.clone(), of(&[(3, [0, 1])]), divisor.clone()],
+            1,
+            (0, 1),
+        ),
+        (vec![f.clone()], 0, (13, 0)),
+        (vec![f.clone()], 1, (0, 1)),
+        (vec![Vec::new(), divisor.clone()], 0, (0, 0)),
+        (vec![Vec::new()], MOST_LEADS, (0, 0)),
+        (vec![f.clone(), divisor.clone()], MOST_LEADS + 1, (8, 0)),
+        (vec![], 1, (8, 0)),
+        (vec![f, Vec::new(), divisor], 1, (7, 0)),
+    ] {
+        let given = Given::new(KNOWN, &polynomials);
+        let random = &mut Random::new(87);
+        let loan = Lender::new(random).lend(random, ENOUGH);
+        let (answer, _) = both(&given, limit, loan, &format!("{polynomials:?} {limit}"));
+        let numbers = (answer.refusal, answer.finished);
+        assert_eq!(numbers, expected, "{polynomials:?} {limit}");
+    }
+}
+
+/// A remainder needs a place for each term, and no more; what fits is written.
+#[test]
+fn places_of_a_remainder() {
+    let random = &mut Random::new(88);
+    let mut lender = Lender::new(random);
+    let given = Given::new(KNOWN, &known_polynomials(KNOWN.0, KNOWN.1));
+    for output in 0..5 {
+        let loan = lender.lend(random, output);
+        let (answer, left) = both(&given, MOST_LEADS, loan, &format!("{output} places"));
+        let (refusal, leads, places) = match output {
+            0..=2 => (10, 3 + output as u64, 0),
+            _ => (0, 6, 3),
+        };
+        let expected = Answer {
+            refusal,
+            finished: leads,
+            places,
+        };
+        assert_eq!(answer, expected, "{output}");
+        let written = output.min(3) as u64;
+        assert_eq!((left.tally.given, left.tally.held), (written, 3 - written));
+    }
+}
+
+/// So many falling terms in two variables, the largest with both exponents 127.
+fn falling_terms(order: Order, count: usize) -> Vec<Term> {
+    let monomials = (64..128).flat_map(|x| (0..128).map(move |y| vec![x, y]));
+    let mut terms: Vec<Term> = monomials.map(|m| (m, 1)).collect();
+    terms.sort_by(|(x, _), (y, _)| order.compare(y, x));
+    terms.truncate(count);
+    terms
+}
+
+/// Polynomial 0 may have 4,096 terms and not one more, whatever the step limit is; and a tail may fill
+/// the place of the lead and what is free, and not one more.
+#[test]
+fn most_terms() {
+    let random = &mut Random::new(89);
+    let mut lender = Lender::new(random);
+    for order in Order::ALL {
+        let setting = (order, 2, 32_003);
+        // The divisor's lead is the largest monomial too; its tail is in other monomials than f.
+        let divisor = |tail: usize| -> Vec<Term> {
+            let small = (0..64).flat_map(|x| (0..128).map(move |y| vec![x, y]));
+            let mut terms: Vec<Term> = small.take(tail).map(|m| (m, 1)).collect();
+            terms.push((vec![127, 127], 1));
+            terms.sort_by(|(x, _), (y, _)| order.compare(y, x));
+            terms
+        };
+        for (len, tail, limit, expected, held) in [
+            (MOST + 1, 1, 0, (11, 0), 0),
+            (MOST + 1, 1, 9, (11, 0), 0),
+            (MOST, 1, 0, (13, 0), MOST),
+            (MOST, 1, 1, (13, 1), MOST),
+            (MOST, 2, 0, (13, 0), MOST),
+            (MOST, 2, 1, (11, 0), MOST),
+            (MOST - 9, 10, 1, (13, 1), MOST),
+            (MOST - 9, 11, 1, (11, 0), MOST - 9),
+            (100, 3_997, 1, (13, 1), MOST),
+            (100, 3_998, 1, (11, 0), 100),
+        ] {
+            let f = falling_terms(order, len);
+            let given = Given::new(setting, &[f, divisor(tail)]);
+            let about = format!("{order:?}, {len} terms, {tail} of the tail, limit {limit}");
+            let loan = lender.lend(random, 0);
+            let (answer, left) = both(&given, limit, loan, &about);
+            assert_eq!((answer.refusal, answer.finished), expected, "{about}");
+            assert_eq!(left.tally.held, held as u64, "{about}");
+            if len > MOST {
+                assert_eq!(left.tally, Tally::default(), "{about}");
+            }
+        }
+    }
+}
+
+/// Where a step has several causes to stop, 13 comes first, then 12, then 11; and 10 only without a
+/// divisor that fits.
+#[test]
+fn several_causes() {
+    let random = &mut Random::new(90);
+    let mut lender = Lender::new(random);
+    for order in Order::ALL {
+        let setting = (order, 2, 32_003);
+        let small = |terms| polynomial(order, 2, terms);
+        let unlike = small(&[(1, [0, 1]), (1, [0, 0])]);
+        // Both multiples of a tail of two terms are too many; one has an exponent over 127.
+        let over = small(&[(1, [1, 0]), (1, [0, 1]), (1, [0, 0])]);
+        let many = small(&[(1, [2, 0]), (1, [1, 0]), (1, [0, 0])]);
+        let one = small(&[(1, [1, 0])]);
+        let full = falling_terms(order, MOST);
+        for (f, divisors, limit, expected) in [
+            (&full, vec![&over], 0, (13, 0)),
+            (&full, vec![&over, &many], 1, (12, 0)),
+            (&full, vec![&many, &over], 1, (11, 0)),
+            (&full, vec![&one, &over], 1, (13, 1)),
+            (&full, vec![], 0, (13, 0)),
+            (&full, vec![], 1, (10, 0)),
+            (&unlike, vec![&over], 0, (13, 0)),
+            (&unlike, vec![&over, &many], 1, (10, 0)),
+        ] {
+            let polynomials: Vec<Vec<Term>> = [f].into_iter().chain(divisors).cloned().collect();
+            let given = Given::new(setting, &polynomials);
+            let about = format!("{order:?}, {:?}, limit {limit}", &polynomials[1..]);
+            let loan = lender.lend(random, 0);
+            let (answer, left) = both(&given, limit, loan, &about);
+            assert_eq!((answer.refusal, answer.finished), expected, "{about}");
+            assert_eq!(left.tally.held, f.len() as u64 - answer.finished, "{about}");
+        }
+    }
+}
