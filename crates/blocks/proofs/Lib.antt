@@ -1,0 +1,4 @@
+pub mod FormLaws
+pub mod PlaceLaws
+pub mod WriteLaws
+pub mod ReadLaws
