@@ -6,8 +6,8 @@ use Prim.Native.Nat.{ℕ, zero, suc, _+_, _-_, _*_, _%_, _^_, _<_, _≤_}
 use native.Mathlib.Nat.{mod-add-mod, add-assoc, le-of-eq}
 use native.Mathlib.Numerals.{add-one}
 use native.Mathlib.Omega.{arith}
-use borrow.Author.Tests.{eq-eqb, ne-eqb}
-use lib.Dec.{eqb}
+use borrow.Author.Tests.{eq-eqb, ne-eqb, lt-ltb, le-ltb}
+use lib.Dec.{eqb, ltb}
 use lib.ListN.{length, getD, take, drop, set, replicate, length-set, length-append, length-replicate, replicate-append-replicate, drop-of-length-le}
 use lib.Seq.{sets, length-sets, take-suc, drop-cons, take-all, length-take-le}
 use Rattle.monomial.specs.Layout.{bytes, ofBytes}
@@ -38,6 +38,10 @@ unfolding header settingBytes bytes
 length-header number count here t = refl
 
 -- ---- bytes compared
+some : (x : ℕ) → (x ≡ 0 → ⊥) → 1 ≤ x
+some zero h = absurd (h refl)
+some (suc x) h = omega arith
+
 module _ (s : List ℕ) (at n i : ℕ) (l : i < n) (m : at + n ≤ length s) where
   next-byte : part (at + i) (n - i) s ≡ getD s (at + i) 0 ∷ part (at + (i + 1)) (n - (i + 1)) s
   next-byte =
@@ -45,15 +49,14 @@ module _ (s : List ℕ) (at n i : ℕ) (l : i < n) (m : at + n ≤ length s) whe
       let f : at + i + 1 ≡ at + (i + 1) = omega arith in
       ap (λ (k : ℕ). part (at + i) k s) e ∙ (part-cons s (at + i) (n - (i + 1)) (omega arith) ∙ ap (λ (k : ℕ). getD s (at + i) 0 ∷ part k (n - (i + 1)) s) f)
 
-  zeros-next : zeros (part (at + i) (n - i) s) ≡ (eqb (getD s (at + i) 0) 0 && zeros (part (at + (i + 1)) (n - (i + 1)) s))
-  unfolding zeros
+  zeros-next : zeros (part (at + i) (n - i) s) ≡ (ltb (getD s (at + i) 0) 1 && zeros (part (at + (i + 1)) (n - (i + 1)) s))
   zeros-next = ap zeros next-byte
 
   pub zero-byte : getD s (at + i) 0 ≡ 0 → zeros (part (at + (i + 1)) (n - (i + 1)) s) ≡ zeros (part (at + i) (n - i) s)
-  zero-byte e = sym (zeros-next ∙ ap (λ (b : Bool). b && zeros (part (at + (i + 1)) (n - (i + 1)) s)) (eq-eqb (getD s (at + i) 0) 0 e))
+  zero-byte e = sym (zeros-next ∙ ap (λ (b : Bool). b && zeros (part (at + (i + 1)) (n - (i + 1)) s)) (lt-ltb (getD s (at + i) 0) 1 (omega arith)))
 
   pub other-byte : (getD s (at + i) 0 ≡ 0 → ⊥) → false ≡ zeros (part (at + i) (n - i) s)
-  other-byte e = sym (zeros-next ∙ ap (λ (b : Bool). b && zeros (part (at + (i + 1)) (n - (i + 1)) s)) (ne-eqb (getD s (at + i) 0) 0 e))
+  other-byte e = sym (zeros-next ∙ ap (λ (b : Bool). b && zeros (part (at + (i + 1)) (n - (i + 1)) s)) (le-ltb (getD s (at + i) 0) 1 (some (getD s (at + i) 0) e)))
 
 pub zeros-start : (s : List ℕ) (at n : ℕ) → zeros (part (at + 0) (n - 0) s) ≡ zeros (part at n s)
 zeros-start s at n =
@@ -62,7 +65,6 @@ zeros-start s at n =
     ap₂ (λ (x y : ℕ). zeros (part x y s)) e f
 
 pub zeros-end : (s : List ℕ) (at n i : ℕ) → n ≤ i → true ≡ zeros (part (at + i) (n - i) s)
-unfolding zeros
 zeros-end s at n i h = let e : n - i ≡ 0 = omega arith in sym (ap (λ (k : ℕ). zeros (part (at + i) k s)) e)
 
 module _ (s bs : List ℕ) (at i : ℕ) (l : i < length bs) (m : at + length bs ≤ length s) where

@@ -4,7 +4,7 @@ use mathlib.Core.Bool.{Bool, true, false, _&&_}
 use mathlib.Core.List.{List, [], _∷_, _++_}
 use lib.Dec.{eqb}
 use lib.ListN.{length, take, drop, replicate}
-use Rattle.monomial.specs.Layout.{bytes, ofBytes}
+use Rattle.monomial.specs.Layout.{bytes, ofBytes, below}
 use Rattle.polynomial.specs.Terms.{Term}
 use Rattle.merge.specs.Lent.{part}
 use Rattle.block.specs.declared.header.Setting.{Setting}
@@ -84,9 +84,9 @@ same [] (y ∷ ys) = false
 same (x ∷ xs) [] = false
 same (x ∷ xs) (y ∷ ys) = eqb x y && same xs ys
 
-unfoldable pub zeros : List ℕ → Bool
-zeros [] = true
-zeros (x ∷ xs) = eqb x 0 && zeros xs
+-- each is 0
+abbrev pub zeros : List ℕ → Bool
+zeros s = below 1 s
 
 -- ---- what a header says
 

@@ -2,3 +2,7 @@ pub mod FormLaws
 pub mod PlaceLaws
 pub mod WriteLaws
 pub mod ReadLaws
+mod InsideLaws
+pub mod RoundTrip
+pub mod Accepted
+pub mod Counts

@@ -117,6 +117,7 @@ module _ (t : Setting) (ws cs : List ℕ) (room : ℕ) where
 -- ---- what is not refused
 pub record Writable (t : Setting) (ws cs : List ℕ) (room : ℕ) : Type 0 where
   pub set : Set (t .p) (t .order) (t .n)
+  pub passes-setting : setting (t .p) (t .order) (t .n) ≡ 0
   pub lent : length ws ≡ length cs
   pub good : refusalOf (orderOf (t .order)) (t .n) (t .p) (terms ws cs) ≡ 0
   pub few : length ws ≤ 4096
@@ -135,6 +136,7 @@ write-passes t ws cs room h =
     let e = first-none few full (d .1) in
     record {
       set = setting-passes (t .p) (t .order) (t .n) (a .0);
+      passes-setting = a .0;
       lent = eqb-true (length ws) (length cs) (passed (eqb (length ws) (length cs)) 8 (omega arith) (b .0));
       good = d .0;
       few = leb-true (length ws) 4096 (passed (leb (length ws) 4096) 11 (omega arith) (e .0));
