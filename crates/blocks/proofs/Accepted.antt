@@ -20,8 +20,9 @@ use Rattle.block.specs.declared.header.Setting.{Setting}
 use Rattle.block.specs.Block.{numberAt, header, place, places, unused, checkOf, body, block, termsOf, blockCount, firstBlocks, blocksOf, same, zeros, settingIn}
 use Rattle.block.proofs.ByteLaws.{part-append}
 use Rattle.block.proofs.BlockLaws.{places-append}
-use Rattle.blocks.specs.Reading.{countIn, totalIn, hereOf, checkStands, blockStands, placeAt, termAt, firstTerms, termsIn, readRefusal}
-use Rattle.blocks.proofs.FormLaws.{all-each, Form}
+use Rattle.block_form.specs.Form.{countIn, totalIn, hereOf, checkStands, blockStands}
+use Rattle.blocks.specs.Reading.{placeAt, termAt, firstTerms, termsIn, readRefusal}
+use Rattle.block_form.proofs.FormLaws.{all-each, Form}
 use Rattle.blocks.proofs.PlaceLaws.{length-first, first-at}
 use Rattle.blocks.proofs.WriteLaws.{length-termsOf, termsOf-few}
 use Rattle.blocks.proofs.ReadLaws.{read-passes}

@@ -1,4 +1,3 @@
-pub mod FormLaws
 pub mod PlaceLaws
 pub mod WriteLaws
 pub mod ReadLaws

@@ -19,7 +19,8 @@ use Rattle.polynomial.proofs.TermLists.{terms-of}
 use Rattle.polynomial.proofs.OpeningLaws.{Looked, look-start, look-stop, look-next, look-ends, still-falls, no-fall}
 use Rattle.merge.proofs.Lists.{sets-snoc}
 use Rattle.block.specs.Block.{numberAt}
-use Rattle.blocks.specs.Reading.{countIn, placeAt, nextBy, nextPlace, termAt, firstTerms, Lying, orderStep}
+use Rattle.block_form.specs.Form.{countIn, Lying}
+use Rattle.blocks.specs.Reading.{placeAt, nextBy, nextPlace, termAt, firstTerms, orderStep}
 
 -- ---- places
 pub next-is : (i : ℕ) → nextPlace (placeAt i) ≡ placeAt (i + 1)

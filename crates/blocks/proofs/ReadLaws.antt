@@ -19,9 +19,10 @@ use Rattle.block.specs.declared.header.Setting.{Setting}
 use Rattle.block.specs.Block.{settingIn}
 use Rattle.blocks.specs.declared.read.Reading.{Reading}
 use Rattle.blocks.specs.declared.read.Reading.the-variants as R
-use Rattle.blocks.specs.Reading.{totalIn, firstTerms, termsIn, formRefusal, contentRefusal, readRefusal}
+use Rattle.block_form.specs.Form.{totalIn, formRefusal}
+use Rattle.blocks.specs.Reading.{firstTerms, termsIn, contentRefusal, readRefusal}
 use Rattle.blocks.specs.Outcome.{ReadOutcome, readBy}
-use Rattle.blocks.proofs.FormLaws.{Form, form-passes}
+use Rattle.block_form.proofs.FormLaws.{Form, form-passes}
 use Rattle.blocks.proofs.PlaceLaws.{length-first}
 
 -- ---- the refusal, test by test

@@ -25,9 +25,10 @@ use Rattle.block.specs.Block.{numberAt, header, unused, sumWords, checkOf, body
 use Rattle.block.proofs.ByteLaws.{part-part}
 use Rattle.block.proofs.BlockLaws.{length-header, length-body}
 use Rattle.blocks.specs.declared.read.Reading.the-variants as R
-use Rattle.blocks.specs.Reading.{allBelow, wholeBlocks, countIn, totalIn, hereOf, checkStands, checksStand, blockStands, blocksStand, placeAt, termAt, firstTerms, termsIn, formRefusal, contentRefusal, readRefusal}
+use Rattle.block_form.specs.Form.{allBelow, wholeBlocks, countIn, totalIn, hereOf, checkStands, checksStand, blockStands, blocksStand, formRefusal}
+use Rattle.blocks.specs.Reading.{placeAt, termAt, firstTerms, termsIn, contentRefusal, readRefusal}
 use Rattle.blocks.specs.Outcome.{writeRefusal, ReadOutcome, readBy, readOutcome}
-use Rattle.blocks.proofs.FormLaws.{all-of}
+use Rattle.block_form.proofs.FormLaws.{all-of}
 use Rattle.blocks.proofs.PlaceLaws.{length-first, first-at}
 use Rattle.blocks.proofs.WriteLaws.{Writable, write-passes, length-blocks, termsOf-few, length-termsOf}
 use Rattle.blocks.proofs.InsideLaws.{part-all, got-back, body-in, header-in, places-in, filler-in, check-in, here-in, p-in, order-in, n-in, word-in, coef-in, block-in}

@@ -24,7 +24,7 @@ use Rattle.block.proofs.ByteLaws.{joined}
 use Rattle.block.proofs.BlockLaws.{length-block}
 use Rattle.blocks.specs.declared.write.Writing.{Writing}
 use Rattle.blocks.specs.declared.write.Writing.the-variants as W
-use Rattle.blocks.specs.Reading.{hereOf}
+use Rattle.block_form.specs.Form.{hereOf}
 use Rattle.blocks.specs.Outcome.{writeRefusal, WriteOutcome, writtenBy}
 
 -- ---- the terms of a block

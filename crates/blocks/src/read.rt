@@ -1,15 +1,16 @@
 // The entry for reading blocks.
-use crate::count::total_in;
-use crate::form::form_refusal;
 use crate::terms::check_terms;
 use crate::terms::get_terms;
 use block::header::get_setting;
+use block_form::count::total_in;
+use block_form::form::form_refusal;
 use monomial::order::order_of;
 use opening::refusal::Refusal;
 use opening::refusal::refusal_of;
 use opening::setting::setting;
 ghost use mathlib.Core.Path.{_≡_};
-ghost use Rattle.blocks.specs.Reading.{contentRefusal, readRefusal, Formed};
+ghost use Rattle.block_form.specs.Form.{Formed};
+ghost use Rattle.blocks.specs.Reading.{contentRefusal, readRefusal};
 ghost use Rattle.blocks.specs.Outcome.{ReadOutcome, readOutcome};
 
 // The polynomial is read: its setting, and its terms in the lent words and coefficients; or the bytes

@@ -11,7 +11,8 @@ ghost use lib.Seq.{sets};
 ghost use Rattle.monomial.specs.Words.{compareWords};
 ghost use Rattle.polynomial.specs.Terms.{words, coefs};
 ghost use Rattle.polynomial.specs.Opening.{refusalOf};
-ghost use Rattle.blocks.specs.Reading.{nextPlace, firstTerms, Lying, orderStep};
+ghost use Rattle.block_form.specs.Form.{Lying};
+ghost use Rattle.blocks.specs.Reading.{nextPlace, firstTerms, orderStep};
 
 // The place after the one at `at`.
 fn next_place(at: usize) -> usize

@@ -1,8 +1,8 @@
 // The entry for writing blocks.
-use crate::count::block_count;
-use crate::count::here_of;
 use block::block::put_block;
 use block::header::Setting;
+use block_form::count::block_count;
+use block_form::count::here_of;
 use monomial::order::order_of;
 use opening::refusal::Refusal;
 use opening::refusal::refusal_of;

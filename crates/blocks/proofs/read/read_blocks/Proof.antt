@@ -2,7 +2,7 @@
 use native.Mathlib.Omega.{arith}
 use mathlib.Core.Path.{sym, ap, _∙_}
 use lib.ListN.{length}
-use Rattle.blocks.proofs.FormLaws.{form-formed}
+use Rattle.block_form.proofs.FormLaws.{form-formed}
 use Rattle.block.specs.Block.{settingIn}
 use Rattle.blocks.specs.Reading.{termsIn, firstTerms}
 use Prim.Native.Nat.{ℕ}

@@ -4,7 +4,7 @@ use Rattle.opening.proofs.Tests.{first-some}
 use Rattle.polynomial.specs.Opening.{first}
 use Rattle.blocks.specs.Reading.{contentRefusal}
 use Prim.Native.Nat.{ℕ}
-use Rattle.blocks.proofs.FormLaws.{form-passes, form-formed}
+use Rattle.block_form.proofs.FormLaws.{form-passes, form-formed}
 use borrow.Author.Needs.{needs}
 use Rattle.blocks.proofs.read.read_refusal.Statement.{statement}
 use Rattle.blocks.proofs.read.read_refusal.Tie as tie

@@ -1,6 +1,6 @@
 -- `blocks::write::put_blocks` meets its contract. Assumes nothing.
 use Prim.Native.Nat.{ℕ}
-use Rattle.blocks.specs.Reading.{hereOf}
+use Rattle.block_form.specs.Form.{hereOf}
 use native.Mathlib.Omega.{arith}
 use mathlib.Core.Path.{sym, ap, _∙_}
 use Prim.Native.Nat.{_-_}

@@ -17,7 +17,7 @@ use Rattle.opening.specs.Run.{unless, between}
 use Rattle.opening.proofs.Tests.{first-none, passed}
 use Rattle.block.specs.declared.header.Setting.{Setting}
 use Rattle.block.specs.Block.{header, blockCount, same, zeros, settingIn}
-use Rattle.blocks.specs.Reading.{allBelow, wholeBlocks, countIn, totalIn, hereOf, checksStand, blockStands, blocksStand, Counted, Lying, Formed, formRefusal}
+use Rattle.block_form.specs.Form.{allBelow, wholeBlocks, countIn, totalIn, hereOf, checksStand, blockStands, blocksStand, Counted, Lying, Formed, formRefusal}
 
 -- ---- a test of each number below another
 module _ (f : ℕ → Bool) where

@@ -1,12 +1,12 @@
--- `blocks::form::form_refusal` meets its contract. Assumes nothing.
+-- `block_form::form::form_refusal` meets its contract. Assumes nothing.
 use mathlib.Core.Path.{sym, _∙_}
 use Rattle.opening.proofs.Tests.{yes, no}
 use borrow.Author.Tests.{eq-eqb, ne-eqb}
-use Rattle.blocks.specs.Reading.{formRefusal}
-use Rattle.blocks.proofs.FormLaws.{whole-passes}
+use Rattle.block_form.specs.Form.{formRefusal}
+use Rattle.block_form.proofs.FormLaws.{whole-passes}
 use borrow.Author.Needs.{needs}
-use Rattle.blocks.proofs.form.form_refusal.Statement.{statement}
-use Rattle.blocks.proofs.form.form_refusal.Tie as tie
+use Rattle.block_form.proofs.form.form_refusal.Statement.{statement}
+use Rattle.block_form.proofs.form.form_refusal.Tie as tie
 
 returns : tie.Need-returns
 unfolding formRefusal

@@ -4,7 +4,7 @@ ghost use mathlib.Core.Path.{_≡_};
 ghost use Prim.Native.Nat.{_*_, _≤_};
 ghost use lib.ListN.{length};
 ghost use Rattle.block.specs.Block.{blockCount};
-ghost use Rattle.blocks.specs.Reading.{hereOf, wholeBlocks, totalIn};
+ghost use Rattle.block_form.specs.Form.{hereOf, wholeBlocks, totalIn};
 
 // How many blocks so many terms make.
 pub fn block_count(terms: usize) -> usize

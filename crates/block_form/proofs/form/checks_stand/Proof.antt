@@ -1,15 +1,15 @@
--- `blocks::form::checks_stand` meets its contract. Assumes nothing.
-use Rattle.blocks.specs.Reading.{countIn}
+-- `block_form::form::checks_stand` meets its contract. Assumes nothing.
+use Rattle.block_form.specs.Form.{countIn}
 use native.Mathlib.Omega.{arith}
 use mathlib.Core.Path.{_≡_, refl, sym, ap, _∙_}
 use Rattle.opening.proofs.Tests.{yes, no}
 use mathlib.Core.Bool.{true}
 use Prim.Native.Nat.{_-_, _≤_}
-use Rattle.blocks.specs.Reading.{allBelow, checkStands}
-use Rattle.blocks.proofs.FormLaws.{all-more, all-fails}
+use Rattle.block_form.specs.Form.{allBelow, checkStands}
+use Rattle.block_form.proofs.FormLaws.{all-more, all-fails}
 use Prim.Native.Nat.{ℕ}
-use Rattle.blocks.proofs.form.checks_stand.Statement.{statement}
-use Rattle.blocks.proofs.form.checks_stand.Tie as tie
+use Rattle.block_form.proofs.form.checks_stand.Statement.{statement}
+use Rattle.block_form.proofs.form.checks_stand.Tie as tie
 
 abbrev Inv-loop : tie.InvT-loop
 Inv-loop s count k₀ k = (k ≤ count) × (allBelow k (checkStands s) ≡ true)

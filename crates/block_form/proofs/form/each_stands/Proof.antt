@@ -1,14 +1,14 @@
--- `blocks::form::each_stands` meets its contract. Assumes nothing.
+-- `block_form::form::each_stands` meets its contract. Assumes nothing.
 use native.Mathlib.Omega.{arith}
 use mathlib.Core.Path.{_≡_, refl, sym, ap, _∙_}
 use Rattle.opening.proofs.Tests.{yes, no}
 use mathlib.Core.Bool.{true}
 use Prim.Native.Nat.{_-_, _≤_}
-use Rattle.blocks.specs.Reading.{allBelow, blockStands, countIn}
-use Rattle.blocks.proofs.FormLaws.{all-more, all-fails}
+use Rattle.block_form.specs.Form.{allBelow, blockStands, countIn}
+use Rattle.block_form.proofs.FormLaws.{all-more, all-fails}
 use Prim.Native.Nat.{ℕ}
-use Rattle.blocks.proofs.form.each_stands.Statement.{statement}
-use Rattle.blocks.proofs.form.each_stands.Tie as tie
+use Rattle.block_form.proofs.form.each_stands.Statement.{statement}
+use Rattle.block_form.proofs.form.each_stands.Tie as tie
 
 abbrev Inv-loop : tie.InvT-loop
 Inv-loop s count total setting k₀ k = (k ≤ count) × (allBelow k (blockStands s) ≡ true)

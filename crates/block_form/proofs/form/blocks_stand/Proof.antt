@@ -1,8 +1,8 @@
--- `blocks::form::blocks_stand` meets its contract. Assumes nothing.
-use Rattle.blocks.proofs.FormLaws.{wrong-count, over-4096, by-each}
+-- `block_form::form::blocks_stand` meets its contract. Assumes nothing.
+use Rattle.block_form.proofs.FormLaws.{wrong-count, over-4096, by-each}
 use borrow.Author.Needs.{needs}
-use Rattle.blocks.proofs.form.blocks_stand.Statement.{statement}
-use Rattle.blocks.proofs.form.blocks_stand.Tie as tie
+use Rattle.block_form.proofs.form.blocks_stand.Statement.{statement}
+use Rattle.block_form.proofs.form.blocks_stand.Tie as tie
 
 total-in-requires : tie.Need-total-in-requires
 total-in-requires c κs = search needs

@@ -1,9 +1,9 @@
--- `blocks::form::block_stands` meets its contract. Assumes nothing.
+-- `block_form::form::block_stands` meets its contract. Assumes nothing.
 use Rattle.opening.proofs.Tests.{yes, no}
-use Rattle.blocks.proofs.FormLaws.{no-header, by-filler}
+use Rattle.block_form.proofs.FormLaws.{no-header, by-filler}
 use borrow.Author.Needs.{needs}
-use Rattle.blocks.proofs.form.block_stands.Statement.{statement}
-use Rattle.blocks.proofs.form.block_stands.Tie as tie
+use Rattle.block_form.proofs.form.block_stands.Statement.{statement}
+use Rattle.block_form.proofs.form.block_stands.Tie as tie
 
 mul-at : tie.Need-mul-at
 mul-at c = search needs

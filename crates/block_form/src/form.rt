@@ -12,7 +12,7 @@ ghost use mathlib.Core.Path.{_≡_};
 ghost use Prim.Native.Nat.{_≤_, _<_};
 ghost use lib.ListN.{length};
 ghost use Rattle.block.specs.Block.{settingIn};
-ghost use Rattle.blocks.specs.Reading.{formRefusal, checksStand, blockStands, blocksStand, allBelow, countIn, Counted};
+ghost use Rattle.block_form.specs.Form.{formRefusal, checksStand, blockStands, blocksStand, allBelow, countIn, Counted};
 
 // The refusal for the form of the bytes, 0 for none: 8, 14, 15 for all blocks, 16. The last two are the
 // lengths of the lent words and coefficients.

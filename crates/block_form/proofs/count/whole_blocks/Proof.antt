@@ -1,7 +1,7 @@
--- `blocks::count::whole_blocks` meets its contract. Assumes nothing.
-use Rattle.blocks.proofs.FormLaws.{not-whole, too-short, long-enough}
-use Rattle.blocks.proofs.count.whole_blocks.Statement.{statement}
-use Rattle.blocks.proofs.count.whole_blocks.Tie as tie
+-- `block_form::count::whole_blocks` meets its contract. Assumes nothing.
+use Rattle.block_form.proofs.FormLaws.{not-whole, too-short, long-enough}
+use Rattle.block_form.proofs.count.whole_blocks.Statement.{statement}
+use Rattle.block_form.proofs.count.whole_blocks.Tie as tie
 
 returns : tie.Need-returns
 returns c = not-whole _ (c .if1 .taken)
