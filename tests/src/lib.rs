@@ -1,7 +1,8 @@
 //! A second program for what the proved crates compute. `monomial`, `residue`, `polynomial`,
-//! `geobucket` and `run` are plain models, which share no code with the proved crates; `probe`,
-//! `probe_buckets` and `probe_run` call the proved functions; `generate`, `operations`, `run_lists`
-//! and `damage` make what they are given.
+//! `geobucket`, `run` and `block_store` are plain models, which share no code with the proved crates;
+//! `probe`, `probe_buckets`, `probe_run` and `probe_blocks` call the proved functions; `generate`,
+//! `operations`, `run_lists` and `damage` make what they are given.
+pub mod block_store;
 pub mod c_functions;
 pub mod damage;
 pub mod generate;
@@ -10,6 +11,7 @@ pub mod monomial;
 pub mod operations;
 pub mod polynomial;
 pub mod probe;
+pub mod probe_blocks;
 pub mod probe_buckets;
 pub mod probe_run;
 pub mod random;
