@@ -1,6 +1,8 @@
-//! Merges, geobuckets, runs and reductions for the benchmark: the proved ones through the static
-//! library `probe`, and others in plain Rust. `lists` makes what they merge; `buckets` times
-//! geobuckets, `runs` and `reductions` whole calls, and `workload` calls from a file.
+//! Merges, geobuckets, runs, reductions and the block store for the benchmark: the proved ones through
+//! the static libraries `probe` and `probe_blocks`, and others in plain Rust. `lists` makes what they
+//! merge; `buckets` times geobuckets, `runs` and `reductions` whole calls, `workload` calls from a
+//! file, and `blocks` the block store.
+pub mod blocks;
 pub mod buckets;
 #[path = "../../tests/src/c_functions.rs"]
 pub mod c_functions;
@@ -11,10 +13,12 @@ pub mod loan;
 pub mod merge;
 #[path = "../../tests/src/monomial.rs"]
 pub mod monomial;
+pub mod plain_blocks;
 pub mod plain_opening;
 pub mod plain_reduction;
 pub mod plain_run;
 pub mod proved;
+pub mod proved_blocks;
 pub mod proved_buckets;
 pub mod proved_reduction;
 pub mod proved_run;

@@ -1,6 +1,7 @@
 //! Times the proved functions beside the same in plain Rust, and prints the table that is asked for
 //! by its name; or does the calls of a workload's file: `calls FILE`, `time FILE SECONDS` or
 //! `passes FILE N`. It fails only where results differ.
+use bench::blocks::blocks;
 use bench::buckets;
 use bench::c_functions::Counts;
 use bench::lists::{pair, List, Order};
@@ -42,10 +43,11 @@ fn main() {
         ["settling"] => buckets::settling(),
         ["runs"] => runs(),
         ["reductions"] => reductions(),
+        ["blocks"] => blocks(),
         ["calls", file] => workload(file).calls(),
         ["time", file, seconds] => workload(file).time(seconds.parse().expect("seconds")),
         ["passes", file, passes] => workload(file).passes(passes.parse().expect("passes")),
-        _ => panic!("merges, buckets, leads, settling, runs, reductions, calls, time or passes"),
+        _ => panic!("merges, buckets, leads, settling, runs, reductions, blocks, calls, time or passes"),
     }
 }
 

@@ -3,14 +3,14 @@ use crate::geobucket::Memory;
 use crate::given::Given;
 use crate::lists::{List, Terms};
 
-const LARGEST_PRIME: u32 = 65_521;
+pub(crate) const LARGEST_PRIME: u32 = 65_521;
 
 /// The places of the bucket space and of the work space.
 const SPACE: usize = 5_460;
 const WORK: usize = 8_192;
 
 /// The degree of a word, and the exponents of all six fields.
-const DEGREE: u64 = 0xffff << 48;
+pub(crate) const DEGREE: u64 = 0xffff << 48;
 const EXPONENTS: u64 = 0x7f7f_7f7f_7f7f;
 
 /// Every other field.
@@ -45,12 +45,12 @@ pub fn polynomials_refusal(
     0
 }
 
-fn is_prime(p: u32) -> bool {
+pub(crate) fn is_prime(p: u32) -> bool {
     p >= 2 && (2..).take_while(|d| d * d <= p).all(|d| p % d != 0)
 }
 
 /// The bits of the exponents of n variables.
-fn exponents(first_below: bool, n: u32) -> u64 {
+pub(crate) fn exponents(first_below: bool, n: u32) -> u64 {
     let unused = 8 * (6 - n);
     if first_below {
         EXPONENTS >> unused
@@ -76,7 +76,7 @@ pub fn sizes_good(given: &Given, memory: &Memory, output: &List) -> bool {
 /// Whether a word is of the layout with these bits: its degree is the sum of its fields, first by
 /// two and then by three.
 #[inline(always)]
-fn in_layout(allowed: u64, word: u64) -> bool {
+pub(crate) fn in_layout(allowed: u64, word: u64) -> bool {
     let fields = word & !DEGREE;
     let by_two = (fields & EVEN) + (fields >> 8 & EVEN);
     let sum = by_two.wrapping_mul(0x1_0001_0001) >> 32 & 0xffff;
@@ -85,7 +85,7 @@ fn in_layout(allowed: u64, word: u64) -> bool {
 
 /// Whether a polynomial is not refused. There is no branch on the terms.
 #[inline(always)]
-fn polynomial_good(key: impl Fn(u64) -> u64, p: u32, allowed: u64, (words, coefs): Terms) -> bool {
+pub(crate) fn polynomial_good(key: impl Fn(u64) -> u64, p: u32, allowed: u64, (words, coefs): Terms) -> bool {
     let mut good = true;
     for (&word, &coef) in words.iter().zip(coefs) {
         good &= coef.wrapping_sub(1) < p - 1;
@@ -98,7 +98,7 @@ fn polynomial_good(key: impl Fn(u64) -> u64, p: u32, allowed: u64, (words, coefs
 }
 
 /// The refusal of a polynomial that has one.
-fn polynomial_refusal(p: u32, allowed: u64, (words, coefs): Terms) -> u64 {
+pub(crate) fn polynomial_refusal(p: u32, allowed: u64, (words, coefs): Terms) -> u64 {
     for (&word, &coef) in words.iter().zip(coefs) {
         if coef == 0 || coef >= p {
             return 4;

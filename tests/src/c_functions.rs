@@ -1,5 +1,5 @@
-//! The C functions of the static library `probe` that the tests and the benchmark share. A slice is a
-//! pointer and a length.
+//! The C functions of the static libraries `probe` and `probe_blocks` that the tests and the benchmark
+//! share. A slice is a pointer and a length.
 
 /// What a merge made: the terms of the result, and the comparisons.
 #[repr(C)]
@@ -35,6 +35,27 @@ pub struct ReductionResult {
     pub brought: u64,
     pub given: u64,
     pub held: u64,
+}
+
+/// What writing blocks gives: refusal 0 is none.
+#[repr(C)]
+#[derive(Clone, Copy, Debug, Default, PartialEq, Eq)]
+pub struct WriteResult {
+    pub refusal: u64,
+    pub finished: u64,
+    pub blocks: u64,
+}
+
+/// What reading blocks gives: refusal 0 is none.
+#[repr(C)]
+#[derive(Clone, Copy, Debug, Default, PartialEq, Eq)]
+pub struct ReadResult {
+    pub refusal: u64,
+    pub finished: u64,
+    pub p: u64,
+    pub order: u64,
+    pub n: u64,
+    pub terms: u64,
 }
 
 extern "C" {
@@ -173,4 +194,23 @@ extern "C" {
         oc: *mut u32,
         oc_len: usize,
     ) -> ReductionResult;
+    pub fn probe_write_blocks(
+        p: u32,
+        order: u32,
+        n: u32,
+        words: *const u64,
+        words_len: usize,
+        coefs: *const u32,
+        coefs_len: usize,
+        bytes: *mut u8,
+        bytes_len: usize,
+    ) -> WriteResult;
+    pub fn probe_read_blocks(
+        bytes: *const u8,
+        bytes_len: usize,
+        words: *mut u64,
+        words_len: usize,
+        coefs: *mut u32,
+        coefs_len: usize,
+    ) -> ReadResult;
 }

@@ -1,7 +1,8 @@
 //! A second program for what the proved crates compute. `monomial`, `residue`, `polynomial`,
-//! `geobucket`, `call`, `course`, `run` and `reduction` are plain models, which share no code with the
-//! proved crates; `probe`, `probe_buckets`, `probe_run` and `probe_reduction` call the proved
-//! functions; the other modules make what they are given.
+//! `geobucket`, `call`, `course`, `run`, `reduction` and `block_store` are plain models, which share no
+//! code with the proved crates; `probe`, `probe_buckets`, `probe_run`, `probe_reduction` and
+//! `probe_blocks` call the proved functions; the other modules make what they are given.
+pub mod block_store;
 pub mod c_functions;
 pub mod call;
 pub mod course;
@@ -14,6 +15,7 @@ pub mod operations;
 pub mod polynomial;
 pub mod pools;
 pub mod probe;
+pub mod probe_blocks;
 pub mod probe_buckets;
 pub mod probe_reduction;
 pub mod probe_run;

@@ -9,6 +9,8 @@ use Rattle.monomial.specs.Exponents.{compareIn}
 use Rattle.monomial.specs.Layout.{wordOf}
 use Rattle.monomial.specs.Words.{compareWords}
 use Rattle.polynomial.specs.Terms.{Term, term}
+use Rattle.block.specs.declared.header.Setting.{Setting}
+use Rattle.block.specs.Block.{numberAt, blocksOf}
 use Rattle.division.specs.Steps.{reductionOfWords}
 use Rattle.geobucket.specs.Events.{Event, addition, removal, summation, start, perform, bound}
 
@@ -24,6 +26,8 @@ pub data Result : Type 0 where
   leaves : (limit : ℕ) → List (Term ℕ) → List (List (Term ℕ)) → (remainder : List (Term ℕ)) → (leads : ℕ) → Result
   -- or the reduction is stopped by this refusal
   stops : (limit : ℕ) → List (Term ℕ) → List (List (Term ℕ)) → (refusal : ℕ) → Result
+  -- the blocks of the polynomial are one block with this check
+  stores : Setting → List (Term ℕ) → (check : ℕ) → Result
 
 -- what a result says: the larger monomial is larger by its exponents, and by its word
 abbrev pub Says : Result → Type 0
@@ -36,6 +40,7 @@ Says (leaves limit f gs remainder leads) =
     let r = reductionOfWords DegRevLex 7 gs 4096 limit f in
     (r .stop ≡ 0) × (r .remainder ≡ remainder) × (r .leads ≡ leads)
 Says (stops limit f gs refusal) = reductionOfWords DegRevLex 7 gs 4096 limit f .stop ≡ refusal
+Says (stores t f check) = (length (blocksOf t f) ≡ 512) × (numberAt 4 508 (blocksOf t f) ≡ check)
 
 -- each result of a list holds
 abbrev pub Hold : List Result → Type 0
@@ -84,4 +89,6 @@ table =
     -- "By x2²+6x1: x1^126·x2² leaves x1^127; x1^127·x2² stops with 12."
     ∷ leaves 2 (in-dp 1 (126 ∷ 2 ∷ []) ∷ []) (by-x1 ∷ []) (in-dp 1 (127 ∷ 0 ∷ []) ∷ []) 2
     ∷ stops 2 (in-dp 1 (127 ∷ 2 ∷ []) ∷ []) (by-x1 ∷ []) 12
+    -- "Zero, p = 7, dp, n = 2: check 00080204 (hexadecimal)."
+    ∷ stores (record { p = 7; order = 3; n = 2 }) [] 0x0008_0204
     ∷ []

@@ -28,7 +28,7 @@ pub fn check(order: Order, n: u32, p: u32, words: &[u64], coefs: &[u32]) -> u32
 }
 
 // The refusal of one term: 4 for its coefficient, 5 for its word.
-fn check_term(order: Order, n: u32, p: u32, word: u64, coef: u32) -> u32
+pub fn check_term(order: Order, n: u32, p: u32, word: u64, coef: u32) -> u32
     requires { ⌜ n ≤ 6 ⌝ }
     ensures { λ r. ⌜ r ≡ termRefusal order n p (term word coef) ⌝ }
 {

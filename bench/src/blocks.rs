@@ -1,0 +1,94 @@
+//! Times the block store: the proved one beside the one in plain Rust. It fails only where results
+//! differ.
+use crate::buckets::{in_turn, Best, ROUNDS};
+use crate::lists::{list, words, List, Order};
+use crate::plain_blocks::{self, Setting};
+use crate::proved_blocks;
+use crate::random::Random;
+use std::hint::black_box;
+
+const P: u32 = 32_003;
+
+/// Each is done so often in a row.
+const TIMES: usize = 20;
+
+/// One kind of polynomials, and the least times of writing and of reading for each term.
+struct Row {
+    order: Order,
+    terms: usize,
+    write: Best,
+    read: Best,
+}
+
+impl Row {
+    /// Makes a fresh polynomial, and times both over it, in turn.
+    fn pass(&mut self, random: &mut Random, round: usize) {
+        let order = self.order;
+        let many = words(random, order, self.terms);
+        let terms = &list(random, order, P, many);
+        let setting = Setting {
+            p: P,
+            order: order.number(),
+            n: 6,
+        };
+        let len = terms.words.len() as u64;
+        let mut bytes = [vec![1; 51_200], vec![1; 51_200]];
+        let [a, b] = &mut bytes;
+        let (times, blocks) = in_turn(
+            round,
+            [
+                &mut || repeat(|| proved_blocks::write(setting, terms, black_box(a)).blocks),
+                &mut || repeat(|| plain_blocks::write(setting, terms, black_box(b)).blocks),
+            ],
+        );
+        assert!(bytes[0] == bytes[1], "blocks differ");
+        self.write.take(times, TIMES as u64 * len);
+        let blocks = &bytes[0][..512 * blocks as usize];
+        let mut lists = [List::of(4_096), List::of(4_096)];
+        let [a, b] = &mut lists;
+        let (times, read) = in_turn(
+            round,
+            [
+                &mut || repeat(|| proved_blocks::read(blocks, black_box(a)).terms),
+                &mut || repeat(|| plain_blocks::read(blocks, black_box(b)).terms),
+            ],
+        );
+        assert!(lists[0] == lists[1], "terms differ");
+        assert_eq!(read, len, "not all terms are read");
+        self.read.take(times, TIMES as u64 * len);
+    }
+
+    fn print(&self) {
+        let columns = [self.write.columns(), self.read.columns()].join(" ");
+        println!("| {} | {} | {columns}", self.order.name(), self.terms);
+    }
+}
+
+/// Does it several times, and gives what it gives at last.
+fn repeat(mut f: impl FnMut() -> u64) -> u64 {
+    (0..TIMES).map(|_| f()).last().expect("more than once")
+}
+
+/// Writing and reading: nanoseconds for each term.
+pub fn blocks() {
+    let mut rows = Vec::new();
+    for order in [Order::DegRevLex, Order::Lex] {
+        for terms in [41, 4_096] {
+            rows.push(Row {
+                order,
+                terms,
+                write: Best::new(),
+                read: Best::new(),
+            });
+        }
+    }
+    let random = &mut Random::new(71);
+    for round in 0..ROUNDS {
+        for row in &mut rows {
+            row.pass(random, round);
+        }
+    }
+    println!("| Order | Terms | Proved, writing | Plain Rust | Proved / plain | Proved, reading | Plain Rust | Proved / plain |");
+    println!("|---|---|---|---|---|---|---|---|");
+    rows.iter().for_each(Row::print);
+}

@@ -1,0 +1,94 @@
+-- The blocks of a polynomial (document 01, "Blocks"). "Numbers are little-endian": `bytes k x` are the k lowest bytes of x, from the lowest up. Assumes nothing.
+use Prim.Native.Nat.{ℕ, zero, suc, _+_, _-_, _*_, _/_, _%_, _^_}
+use mathlib.Core.Bool.{Bool, true, false, _&&_}
+use mathlib.Core.List.{List, [], _∷_, _++_}
+use lib.Dec.{eqb}
+use lib.ListN.{length, take, drop, replicate}
+use Rattle.monomial.specs.Layout.{bytes, ofBytes, below}
+use Rattle.polynomial.specs.Terms.{Term}
+use Rattle.merge.specs.Lent.{part}
+use Rattle.block.specs.declared.header.Setting.{Setting}
+
+-- the number of the k bytes from place `at` on
+abbrev pub numberAt : (k at : ℕ) → List ℕ → ℕ
+numberAt k at s = ofBytes (part at k s)
+
+-- ---- the header, 16 bytes
+
+-- "p (2), order (1), n (1), six zero bytes": the problem's setting
+unfoldable pub settingBytes : Setting → List ℕ
+settingBytes s = bytes 2 (s .p) ++ (bytes 1 (s .order) ++ (bytes 1 (s .n) ++ replicate 6 0))
+
+-- "block number from 0 (2 bytes), block count (2), terms here (2)", and the setting
+unfoldable pub header : (number count here : ℕ) → Setting → List ℕ
+header number count here s = bytes 2 number ++ (bytes 2 count ++ (bytes 2 here ++ settingBytes s))
+
+-- ---- the places
+
+-- "41 places of 12 bytes (word, coefficient)"
+abbrev pub place : Term ℕ → List ℕ
+place t = bytes 8 (t .mono) ++ bytes 4 (t .coef)
+
+unfoldable pub places : List (Term ℕ) → List ℕ
+places [] = []
+places (t ∷ ts) = place t ++ places ts
+
+-- "unused places are 0"
+abbrev pub unused : (here : ℕ) → List ℕ
+unused here = replicate (12 * (41 - here)) 0
+
+-- ---- the check
+
+-- the sum of the first k 32-bit words
+unfoldable pub sumWords : ℕ → List ℕ → ℕ
+sumWords zero s = 0
+sumWords (suc k) s = sumWords k s + numberAt 4 (4 * k) s
+
+-- "The check is the sum of the first 127 32-bit words, plus 1, wrapping at 2^32."
+abbrev pub checkOf : List ℕ → ℕ
+checkOf s = (1 + sumWords 127 s) % 2 ^ 32
+
+-- ---- a block
+
+-- all of it but the check
+abbrev pub body : (number count : ℕ) → Setting → List (Term ℕ) → List ℕ
+body number count s ts = header number count (length ts) s ++ (places ts ++ unused (length ts))
+
+-- "A block is 512 bytes"
+unfoldable pub block : (number count : ℕ) → Setting → List (Term ℕ) → List ℕ
+block number count s ts = body number count s ts ++ bytes 4 (checkOf (body number count s ts))
+
+-- ---- the blocks of a polynomial
+
+-- the terms in block k: "Every block but the last holds 41 terms"
+abbrev pub termsOf : (k : ℕ) → List (Term ℕ) → List (Term ℕ)
+termsOf k ts = take 41 (drop (41 * k) ts)
+
+-- how many blocks so many terms make: "zero is one block with none"
+abbrev pub blockCount : ℕ → ℕ
+blockCount terms = (terms - 1) / 41 + 1
+
+-- the first k of `count` blocks
+unfoldable pub firstBlocks : (count : ℕ) → Setting → List (Term ℕ) → (k : ℕ) → List ℕ
+firstBlocks count s ts zero = []
+firstBlocks count s ts (suc k) = firstBlocks count s ts k ++ block k count s (termsOf k ts)
+
+abbrev pub blocksOf : Setting → List (Term ℕ) → List ℕ
+blocksOf s ts = firstBlocks (blockCount (length ts)) s ts (blockCount (length ts))
+
+-- ---- tests of bytes
+
+unfoldable pub same : List ℕ → List ℕ → Bool
+same [] [] = true
+same [] (y ∷ ys) = false
+same (x ∷ xs) [] = false
+same (x ∷ xs) (y ∷ ys) = eqb x y && same xs ys
+
+-- each is 0
+abbrev pub zeros : List ℕ → Bool
+zeros s = below 1 s
+
+-- ---- what a header says
+
+abbrev pub settingIn : List ℕ → Setting
+settingIn s = record { p = numberAt 2 6 s; order = numberAt 1 8 s; n = numberAt 1 9 s }

@@ -1,0 +1,85 @@
+// The header of a block.
+use crate::filler::clear;
+use crate::number::get_1;
+use crate::number::get_2;
+use crate::number::put_1;
+use crate::number::put_2;
+ghost use mathlib.Core.Path.{_≡_};
+ghost use Prim.Native.Nat.{_+_, _≤_};
+ghost use lib.ListN.{length};
+ghost use lib.Seq.{sets};
+ghost use Rattle.merge.specs.Lent.{part};
+ghost use Rattle.block.specs.Block.{header, settingBytes, same, settingIn};
+
+// The problem's setting, as a header has it.
+pub struct Setting {
+    pub p: u32,
+    pub order: u32,
+    pub n: u32,
+}
+
+// Puts the setting's ten bytes from place `at` on.
+pub fn put_setting(s: &mut [u8], at: usize, setting: Setting)
+    requires { ⌜ at + 10 ≤ length (now s) ⌝ }
+    ensures { λ _. ⌜ now (s .exit) ≡ sets (now (s .entry)) at (settingBytes setting) ⌝ }
+{
+    put_2(s, at, setting.p);
+    put_1(s, at + 2, setting.order);
+    put_1(s, at + 3, setting.n);
+    clear(s, at + 4, 6);
+}
+
+// The setting that a block's header has.
+pub fn get_setting(s: &[u8]) -> Setting
+    requires { ⌜ 16 ≤ length (now s) ⌝ }
+    ensures { λ r. ⌜ r ≡ settingIn (now (s .entry)) ⌝ }
+{
+    Setting {
+        p: get_2(s, 6),
+        order: get_1(s, 8),
+        n: get_1(s, 9),
+    }
+}
+
+// Puts a header from place `at` on.
+pub fn put_header(s: &mut [u8], at: usize, number: u32, count: u32, here: u32, setting: Setting)
+    requires { ⌜ at + 16 ≤ length (now s) ⌝ }
+    ensures { λ _. ⌜ now (s .exit) ≡ sets (now (s .entry)) at (header number count here setting) ⌝ }
+{
+    put_2(s, at, number);
+    put_2(s, at + 2, count);
+    put_2(s, at + 4, here);
+    put_setting(s, at + 6, setting);
+}
+
+// Whether this header stands from place `at` on.
+pub fn header_stands(
+    s: &[u8],
+    at: usize,
+    number: u32,
+    count: u32,
+    here: u32,
+    setting: Setting,
+) -> bool
+    requires { ⌜ at + 16 ≤ length (now s) ⌝ }
+    ensures { λ r. ⌜ r ≡ same (part at 16 (now (s .entry))) (header number count here setting) ⌝ }
+{
+    let mut h = [0u8; 16];
+    put_header(&mut h, 0, number, count, here, setting);
+    stands(s, at, &h)
+}
+
+// Whether the bytes stand from place `at` on.
+fn stands(s: &[u8], at: usize, bytes: &[u8]) -> bool
+    requires { ⌜ at + length (now bytes) ≤ length (now s) ⌝ }
+    ensures { λ r. ⌜ r ≡ same (part at (length (now (bytes .entry))) (now (s .entry))) (now (bytes .entry)) ⌝ }
+{
+    let mut i = 0;
+    while i < bytes.len() {
+        if s[at + i] != bytes[i] {
+            return false;
+        }
+        i += 1;
+    }
+    true
+}

@@ -1,0 +1,75 @@
+-- Whether bytes have the form of blocks, which is whether writing would put their checks, headers and filler there (document 01, "Blocks" and "Refusals by cause"). Assumes nothing.
+use Prim.Native.Nat.{ℕ, zero, suc, _+_, _-_, _*_, _/_, _%_, _≤_, min}
+use mathlib.Core.Path.{_≡_}
+use mathlib.Core.Bool.{Bool, true, false, _&&_}
+use mathlib.Core.List.{List}
+use lib.Dec.{leb, eqb}
+use lib.ListN.{length}
+use Rattle.polynomial.specs.Opening.{first}
+use Rattle.merge.specs.Lent.{part}
+use Rattle.opening.specs.Run.{unless, between}
+use Rattle.block.specs.Block.{numberAt, header, checkOf, blockCount, same, zeros, settingIn}
+
+-- f is true of each number below k
+unfoldable pub allBelow : ℕ → (ℕ → Bool) → Bool
+allBelow zero f = true
+allBelow (suc k) f = allBelow k f && f k
+
+-- ---- counts
+
+-- "14: not 1 to 100 whole blocks", by the length
+unfoldable pub wholeBlocks : ℕ → Bool
+wholeBlocks len = eqb (len % 512) 0 && between 512 51200 len
+
+abbrev pub countIn : List ℕ → ℕ
+countIn s = length s / 512
+
+-- the terms, if every block but the last holds 41 and the last as many as it says
+abbrev pub totalIn : List ℕ → ℕ
+totalIn s = 41 * (countIn s - 1) + numberAt 2 (512 * (countIn s - 1) + 4) s
+
+-- how many of so many terms writing puts into block k
+abbrev pub hereOf : (total k : ℕ) → ℕ
+hereOf total k = min 41 (total - 41 * k)
+
+-- ---- "15: check wrong."
+
+abbrev pub checkStands : List ℕ → ℕ → Bool
+checkStands s k = eqb (numberAt 4 (512 * k + 508) s) (checkOf (part (512 * k) 508 s))
+
+abbrev pub checksStand : List ℕ → Bool
+checksStand s = allBelow (countIn s) (checkStands s)
+
+-- ---- "16: a block number, count, number of terms or filler that writing would not put there, p, order or n unlike the first block's, or over 4,096 terms."
+
+-- block k has the header that writing would put there, with the first block's p, order and n, and its unused places are 0
+unfoldable pub blockStands : List ℕ → ℕ → Bool
+blockStands s k =
+    let here = hereOf (totalIn s) k in
+    same (part (512 * k) 16 s) (header k (countIn s) here (settingIn s)) && zeros (part (512 * k + 16 + 12 * here) (12 * (41 - here)) s)
+
+abbrev pub blocksStand : List ℕ → Bool
+blocksStand s = eqb (blockCount (totalIn s)) (countIn s) && (leb (totalIn s) 4096 && allBelow (countIn s) (blockStands s))
+
+-- what the test of the blocks is told: their count, which is that of their terms
+pub record Counted (s : List ℕ) (count total : ℕ) : Type 0 where
+  pub some : 512 ≤ length s
+  pub most : length s ≤ 51200
+  pub count-is : count ≡ countIn s
+  pub total-is : total ≡ totalIn s
+  pub fits : blockCount total ≡ count
+
+-- ---- "Reading: 8, 14, 15 for all blocks, 16"; the two numbers are the lengths of the lent words and coefficients
+unfoldable pub formRefusal : List ℕ → (ow oc : ℕ) → ℕ
+formRefusal s ow oc = first (unless (eqb ow oc) 8) (first (unless (wholeBlocks (length s)) 14) (first (unless (checksStand s) 15) (unless (blocksStand s) 16)))
+
+-- as many terms have their places in s
+pub record Lying (s : List ℕ) (total : ℕ) : Type 0 where
+  pub blocks : total ≤ 41 * countIn s
+  pub most : total ≤ 4096
+
+-- what holds of bytes that have the form of blocks
+pub record Formed (s : List ℕ) : Type 0 where
+  pub some : 512 ≤ length s
+  pub most : length s ≤ 51200
+  pub lying : Lying s (totalIn s)

@@ -1,0 +1,7 @@
+pub mod PlaceLaws
+pub mod WriteLaws
+pub mod ReadLaws
+mod InsideLaws
+pub mod RoundTrip
+pub mod Accepted
+pub mod Counts

@@ -1,0 +1,43 @@
+-- `blocks::write::write_blocks` meets its contract. Assumes nothing.
+use native.Mathlib.Omega.{arith}
+use mathlib.Core.Path.{sym, _∙_}
+use lib.ListN.{length}
+use Rattle.polynomial.specs.Terms.{terms}
+use Rattle.blocks.specs.Outcome.{settingOf}
+use Rattle.blocks.proofs.WriteLaws.{write-passes, write-refused, write-done}
+use borrow.Author.Needs.{needs}
+use Rattle.blocks.proofs.write.write_blocks.Statement.{statement}
+use Rattle.blocks.proofs.write.write_blocks.Tie as tie
+
+write-refusal-requires : tie.Need-write-refusal-requires
+write-refusal-requires c κs = search needs
+
+refusal-of-requires : tie.Need-refusal-of-requires
+refusal-of-requires c κs = search needs
+
+returns : tie.Need-returns
+returns c = let z = c .before .before .before .before .before .before in let a = z .args in rw (c .refusal-of .ensures, ← c .before .before .write-refusal .ensures) (write-refused (c .before .before .write-refusal .result) (settingOf (a .p) (a .order) (a .n)) (terms (a .words .now) (a .coefs .now)) (a .s .now) (c .before .if1 .taken))
+
+block-count-requires : tie.Need-block-count-requires
+block-count-requires c κs = search needs
+
+put-blocks-requires : tie.Need-put-blocks-requires
+put-blocks-requires c κs = let z = c .before .before .before .before .before .before .before in let a = z .args in let w = write-passes (settingOf (a .p) (a .order) (a .n)) (a .words .now) (a .coefs .now) (length (a .s .now)) (sym (c .before .before .before .write-refusal .ensures) ∙ c .before .before .if1 .left) in (sym (w .lent), w .few, c .before .block-count .ensures, omega (arith, w .enough, c .before .block-count .ensures))
+
+same-length : tie.Need-same-length
+same-length c = search needs
+
+returns-2 : tie.Need-returns-2
+returns-2 c = let z = c .before .before .before .before .before .before .before .before .before .before in let a = z .args in rw (← c .before .before .before .before .before .before .write-refusal .ensures) (write-done (c .before .before .before .before .before .before .write-refusal .result) (settingOf (a .p) (a .order) (a .n)) (a .words .now) (a .coefs .now) (a .s .now) _ _ (c .before .before .before .before .before .before .write-refusal .ensures) (c .before .before .before .before .before .if1 .left) (c .before .before .before .before .block-count .ensures) (c .before .before .put-blocks .ensures))
+
+pub write-blocks-spec : {M : Type 1} → statement M
+write-blocks-spec =
+    tie.close
+    (tie.spec
+    write-refusal-requires
+    refusal-of-requires
+    returns
+    block-count-requires
+    put-blocks-requires
+    same-length
+    returns-2)

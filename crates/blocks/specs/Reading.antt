@@ -1,0 +1,54 @@
+-- The terms in blocks, and the refusal of reading (document 01, "Blocks" and "Refusals by cause"). Assumes nothing.
+use Prim.Native.Nat.{ℕ, zero, suc, _+_, _*_, _/_, _%_, Ordering}
+use mathlib.Core.Bool.{Bool, true, false}
+use mathlib.Core.List.{List, [], _∷_, _++_}
+use lib.Dec.{leb, eqb}
+use Rattle.monomial.specs.Exponents.{orderOf}
+use Rattle.polynomial.specs.Terms.{Term, term}
+use Rattle.polynomial.specs.Opening.{first, refusalOf, isLarger, orderNext}
+use Rattle.opening.specs.Run.{unless, setting}
+use Rattle.block.specs.Block.{numberAt, settingIn}
+use Rattle.block_form.specs.Form.{totalIn, formRefusal}
+
+-- ---- the terms
+
+-- where term i lies: 41 places of 12 bytes after each header
+abbrev pub placeAt : ℕ → ℕ
+placeAt i = 512 * (i / 41) + (16 + 12 * (i % 41))
+
+abbrev pub termAt : List ℕ → ℕ → Term ℕ
+termAt s i = term (numberAt 8 (placeAt i) s) (numberAt 4 (placeAt i + 8) s)
+
+-- the first k terms
+unfoldable pub firstTerms : List ℕ → ℕ → List (Term ℕ)
+firstTerms s zero = []
+firstTerms s (suc i) = firstTerms s i ++ (termAt s i ∷ [])
+
+abbrev pub termsIn : List ℕ → List (Term ℕ)
+termsIn s = firstTerms s (totalIn s)
+
+-- ---- "Reading: 8, 14, 15 for all blocks, 16, then 1 to 6, then 10."
+
+-- 1 to 6, then 10; ow is how many words are lent
+unfoldable pub contentRefusal : List ℕ → (ow : ℕ) → ℕ
+contentRefusal s ow =
+    let t = settingIn s in
+    first (setting (t .p) (t .order) (t .n)) (first (refusalOf (orderOf (t .order)) (t .n) (t .p) (termsIn s)) (unless (leb (totalIn s) ow) 10))
+
+abbrev pub readRefusal : List ℕ → (ow oc : ℕ) → ℕ
+readRefusal s ow oc = first (formRefusal s ow oc) (contentRefusal s ow)
+
+-- ---- steps of the code
+
+-- the place after the one at `at`: past the check and the next header where a block ends
+abbrev pub nextBy : (ends : Bool) → ℕ → ℕ
+nextBy true at = at + 32
+nextBy false at = at + 12
+
+abbrev pub nextPlace : ℕ → ℕ
+nextPlace at = nextBy (eqb ((at + 12) % 512) 508) at
+
+-- the refusal for the order once word i is looked at, after the word `last` and `late` for those before it
+abbrev pub orderStep : (ℕ → ℕ → Ordering) → (i last word late : ℕ) → ℕ
+orderStep cmp zero last word late = late
+orderStep cmp (suc i) last word late = orderNext (isLarger (cmp last word)) late

@@ -1,0 +1,80 @@
+// The terms in blocks: where they lie, their opening check, and their copies.
+use block::number::get_4;
+use block::number::get_8;
+use monomial::order::Order;
+use polynomial::check::check_term;
+ghost use mathlib.Core.Path.{_≡_};
+ghost use Prim.Native.Nat.{_+_, _≤_, _<_};
+ghost use mathlib.Core.List.{[], _∷_};
+ghost use lib.ListN.{length};
+ghost use lib.Seq.{sets};
+ghost use Rattle.monomial.specs.Words.{compareWords};
+ghost use Rattle.polynomial.specs.Terms.{words, coefs};
+ghost use Rattle.polynomial.specs.Opening.{refusalOf};
+ghost use Rattle.block_form.specs.Form.{Lying};
+ghost use Rattle.blocks.specs.Reading.{nextPlace, firstTerms, orderStep};
+
+// The place after the one at `at`.
+fn next_place(at: usize) -> usize
+    requires { ⌜ at ≤ 51200 ⌝ }
+    ensures { λ r. ⌜ r ≡ nextPlace at ⌝ }
+{
+    if (at + 12) % 512 == 508 {
+        at + 32
+    } else {
+        at + 12
+    }
+}
+
+// The refusal of the terms as a polynomial in n variables modulo p: the first place with 4 or 5, and
+// else 6 where they do not fall. One pass over the places.
+pub fn check_terms(order: Order, n: u32, p: u32, s: &[u8], total: usize) -> u32
+    requires { ⌜ (n ≤ 6) × Lying (now s) total ⌝ }
+    ensures { λ r. ⌜ r ≡ refusalOf order n p (firstTerms (now (s .entry)) total) ⌝ }
+{
+    let mut late: u32 = 0;
+    let mut last: u64 = 0;
+    let mut at = 16;
+    let mut i = 0;
+    while i < total {
+        let word = get_8(s, at);
+        let refusal = check_term(order, n, p, word, get_4(s, at + 8));
+        if refusal != 0 {
+            return refusal;
+        }
+        late = check_step(order, i, last, word, late);
+        last = word;
+        at = next_place(at);
+        i += 1;
+    }
+    late
+}
+
+// 6 where word i is not smaller than the last one, and else what came so far.
+fn check_step(order: Order, i: usize, last: u64, word: u64, late: u32) -> u32
+    ensures { λ r. ⌜ r ≡ orderStep (compareWords order) i last word late ⌝ }
+{
+    if i == 0 {
+        return late;
+    }
+    if order.key(word) < order.key(last) {
+        late
+    } else {
+        6
+    }
+}
+
+// Puts the terms into the lent words and coefficients.
+pub fn get_terms(s: &[u8], total: usize, ow: &mut [u64], oc: &mut [u32])
+    requires { ⌜ Lying (now s) total × (total ≤ length (now ow)) × (length (now ow) ≡ length (now oc)) ⌝ }
+    ensures { λ _. ⌜ (now (ow .exit) ≡ sets (now (ow .entry)) 0 (words (firstTerms (now (s .entry)) total))) × (now (oc .exit) ≡ sets (now (oc .entry)) 0 (coefs (firstTerms (now (s .entry)) total))) ⌝ }
+{
+    let mut at = 16;
+    let mut i = 0;
+    while i < total {
+        ow[i] = get_8(s, at);
+        oc[i] = get_4(s, at + 8);
+        at = next_place(at);
+        i += 1;
+    }
+}

@@ -1,0 +1,191 @@
+//! The block store (document 01, "Blocks" and "Refusals by cause"): the blocks of a polynomial, and
+//! what writing and reading give. A refusal is its number.
+use crate::monomial::Order;
+use crate::polynomial;
+use crate::residue;
+
+pub const BLOCK: usize = 512;
+pub const MOST_TERMS: usize = 4_096;
+pub const MOST_BLOCKS: usize = 100;
+pub const LARGEST_PRIME: u32 = 65_521;
+
+/// Places in a block.
+pub const PLACES: usize = 41;
+
+const HEADER: usize = 16;
+const PLACE: usize = 12;
+const CHECK: usize = BLOCK - 4;
+
+#[derive(Clone, Copy, Debug, Default, PartialEq, Eq)]
+pub struct Setting {
+    pub p: u32,
+    pub order: u32,
+    pub n: u32,
+}
+
+/// A polynomial as it is lent, or as it is read.
+#[derive(Clone, Debug, Default, PartialEq, Eq)]
+pub struct Polynomial {
+    pub setting: Setting,
+    pub words: Vec<u64>,
+    pub coefs: Vec<u32>,
+}
+
+impl Setting {
+    /// The order, where there is none of the refusals 1 to 3.
+    fn opened(self) -> Result<Order, u64> {
+        if self.p > LARGEST_PRIME || !residue::is_prime(self.p) {
+            return Err(1);
+        }
+        let with_number = |order: &Order| order.number() == self.order;
+        let order = Order::ALL.into_iter().find(with_number).ok_or(2u64)?;
+        match (1..=6).contains(&self.n) {
+            true => Ok(order),
+            false => Err(3),
+        }
+    }
+}
+
+impl Polynomial {
+    /// The refusal 4, 5 or 6.
+    fn judged(&self, order: Order) -> Result<(), u64> {
+        let Setting { p, n, .. } = self.setting;
+        match polynomial::refusal(order, n as usize, p, &self.words, &self.coefs) {
+            0 => Ok(()),
+            number => Err(number.into()),
+        }
+    }
+
+    /// The blocks.
+    pub fn blocks(&self) -> Vec<u8> {
+        let terms: Vec<(u64, u32)> = self.words.iter().copied().zip(self.coefs.clone()).collect();
+        let mut parts: Vec<&[(u64, u32)]> = terms.chunks(PLACES).collect();
+        if parts.is_empty() {
+            parts.push(&[]);
+        }
+        let mut bytes = Vec::new();
+        for (number, part) in parts.iter().enumerate() {
+            let Setting { p, order, n } = self.setting;
+            let numbers = [number, parts.len(), part.len(), p as usize];
+            let mut block: Vec<u8> = Vec::new();
+            block.extend(numbers.iter().flat_map(|&x| (x as u16).to_le_bytes()));
+            block.extend([order as u8, n as u8, 0, 0, 0, 0, 0, 0]);
+            for (word, coef) in part.iter() {
+                block.extend(word.to_le_bytes());
+                block.extend(coef.to_le_bytes());
+            }
+            block.resize(CHECK, 0);
+            block.extend(check(&block).to_le_bytes());
+            bytes.extend(block);
+        }
+        bytes
+    }
+
+    /// The blocks, with room for so many bytes.
+    pub fn write(&self, room: usize) -> Result<Vec<u8>, u64> {
+        let order = self.setting.opened()?;
+        if self.words.len() != self.coefs.len() {
+            return Err(8);
+        }
+        self.judged(order)?;
+        if self.words.len() > MOST_TERMS {
+            return Err(11);
+        }
+        let blocks = self.blocks();
+        match blocks.len() <= room {
+            true => Ok(blocks),
+            false => Err(10),
+        }
+    }
+}
+
+/// The sum of the first 127 words and 1, modulo 2^32.
+pub fn check(block: &[u8]) -> u32 {
+    let word = |k: usize| u64::from(number(&block[4 * k..], 4) as u32);
+    let sum: u64 = (0..127).map(word).sum();
+    ((sum + 1) % (1 << 32)) as u32
+}
+
+/// Puts a block's check right.
+pub fn repair(block: &mut [u8]) {
+    let right = check(block).to_le_bytes();
+    block[CHECK..].copy_from_slice(&right);
+}
+
+/// The number of the first k bytes.
+fn number(bytes: &[u8], k: usize) -> u64 {
+    let digits = bytes[..k].iter().rev();
+    digits.fold(0, |sum, &byte| sum * 256 + u64::from(byte))
+}
+
+/// What a block's header says: number, count, terms here, and the setting.
+fn header(block: &[u8]) -> (u64, u64, usize, Setting) {
+    let two = |at: usize| number(&block[at..], 2);
+    let setting = Setting {
+        p: two(6) as u32,
+        order: block[8].into(),
+        n: block[9].into(),
+    };
+    (two(0), two(2), two(4) as usize, setting)
+}
+
+/// The polynomial that the bytes hold, with so many places for words and for coefficients.
+pub fn read(bytes: &[u8], words: usize, coefs: usize) -> Result<Polynomial, u64> {
+    if words != coefs {
+        return Err(8);
+    }
+    let blocks: Vec<&[u8]> = bytes.chunks(BLOCK).collect();
+    if bytes.len() % BLOCK != 0 || !(1..=MOST_BLOCKS).contains(&blocks.len()) {
+        return Err(14);
+    }
+    if blocks
+        .iter()
+        .any(|block| number(&block[CHECK..], 4) != check(block).into())
+    {
+        return Err(15);
+    }
+    let polynomial = formed(&blocks)?;
+    let order = polynomial.setting.opened()?;
+    polynomial.judged(order)?;
+    match polynomial.words.len() <= words {
+        true => Ok(polynomial),
+        false => Err(10),
+    }
+}
+
+/// The polynomial of blocks whose checks are right, or refusal 16.
+fn formed(blocks: &[&[u8]]) -> Result<Polynomial, u64> {
+    let mut polynomial = Polynomial {
+        setting: header(blocks[0]).3,
+        ..Polynomial::default()
+    };
+    for (k, block) in blocks.iter().enumerate() {
+        let (number_here, count, here, setting) = header(block);
+        let last = k + 1 == blocks.len();
+        let allowed = match (last, k) {
+            (true, 0) => 0..=PLACES,
+            (true, _) => 1..=PLACES,
+            (false, _) => PLACES..=PLACES,
+        };
+        let said = number_here == k as u64
+            && count == blocks.len() as u64
+            && setting == polynomial.setting
+            && allowed.contains(&here)
+            && block[10..HEADER].iter().all(|&byte| byte == 0);
+        if !said {
+            return Err(16);
+        }
+        let (used, unused) = block[HEADER..CHECK].split_at(PLACE * here);
+        if unused.iter().any(|&byte| byte != 0) {
+            return Err(16);
+        }
+        for place in used.chunks(PLACE) {
+            polynomial.words.push(number(place, 8));
+            polynomial.coefs.push(number(&place[8..], 4) as u32);
+        }
+    }
+    match polynomial.words.len() <= MOST_TERMS {
+        true => Ok(polynomial),
+        false => Err(16),
+    }
+}

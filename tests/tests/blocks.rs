@@ -1,0 +1,311 @@
+//! The proved block store against the second program: polynomials of many sizes written and read,
+//! blocks damaged in every byte, and every refusal.
+use second::block_store::{
+    check, read as model_read, repair, Polynomial, Setting, BLOCK, MOST_TERMS, PLACES,
+};
+use second::generate::{self, places};
+use second::monomial::Order;
+use second::polynomial::lent;
+use second::probe_blocks;
+use second::random::Random;
+use std::collections::BTreeSet;
+
+const SIZES: [usize; 7] = [0, 1, 41, 42, 4_095, 4_096, 4_097];
+
+const PRIMES: [u32; 5] = [2, 3, 7, 32_003, 65_521];
+
+/// A polynomial with exactly so many terms.
+fn polynomial(random: &mut Random, terms: usize) -> Polynomial {
+    let order = random.pick(&Order::ALL);
+    // One variable has 128 monomials, and two have 16,384.
+    let n = match terms <= 100 {
+        true => 1 + random.below(6) as usize,
+        false => 2 + random.below(5) as usize,
+    };
+    let p = random.pick(&PRIMES);
+    let mut monomials = BTreeSet::new();
+    while monomials.len() < terms {
+        monomials.insert(generate::monomial(random, n, 127));
+    }
+    let falling = generate::falling(order, monomials.into_iter().collect());
+    let (words, coefs) = lent(order, &generate::with_coefs(random, p, falling));
+    let setting = Setting {
+        p,
+        order: order.number(),
+        n: n as u32,
+    };
+    Polynomial {
+        setting,
+        words,
+        coefs,
+    }
+}
+
+/// A size: one of the list, or any small one.
+fn size(random: &mut Random) -> usize {
+    match random.below(40) {
+        0 => random.pick(&SIZES),
+        1..=20 => random.pick(&SIZES[..4]),
+        _ => random.below(130) as usize,
+    }
+}
+
+/// Writes with both, with room for so many bytes, which hold anything. Both must answer the same, and
+/// the bytes past the result, or all where it is refused, must be as they were.
+fn write(random: &mut Random, f: &Polynomial, room: usize) -> Result<Vec<u8>, u64> {
+    let before: Vec<u8> = (0..room).map(|_| random.word() as u8).collect();
+    let mut bytes = before.clone();
+    let answer = probe_blocks::write(f, &mut bytes);
+    let expected = f.write(room);
+    let count = |blocks: &Vec<u8>| (blocks.len() / BLOCK) as u64;
+    assert_eq!(answer, expected.as_ref().map(count).map_err(|&r| r));
+    let written = expected.as_deref().unwrap_or_default();
+    assert!(bytes[..written.len()] == *written);
+    assert!(bytes[written.len()..] == before[written.len()..]);
+    expected
+}
+
+/// Reads with both, into so many places, which hold anything. The same as for `write`.
+fn read(random: &mut Random, bytes: &[u8], room: (usize, usize)) -> Result<Polynomial, u64> {
+    let before = places(random, room.0, room.1);
+    let (mut words, mut coefs) = before.clone();
+    let answer = probe_blocks::read(bytes, &mut words, &mut coefs);
+    let expected = model_read(bytes, room.0, room.1);
+    let numbers = |f: &Polynomial| (f.setting, f.words.len() as u64);
+    assert_eq!(answer, expected.as_ref().map(numbers).map_err(|&r| r));
+    let none = Polynomial::default();
+    let f = expected.as_ref().unwrap_or(&none);
+    let len = f.words.len();
+    assert!(words[..len] == *f.words && words[len..] == before.0[len..]);
+    assert!(coefs[..len] == *f.coefs && coefs[len..] == before.1[len..]);
+    expected
+}
+
+#[test]
+fn written_and_read_back() {
+    let random = &mut Random::new(101);
+    let mut sizes = BTreeSet::new();
+    for _ in 0..5_000 {
+        let terms = size(random);
+        let f = polynomial(random, terms);
+        let whole = f.blocks().len();
+        let room = random.pick(&[whole, whole, whole + 1, whole + 700, whole - 1, 0]);
+        let expected = match (terms > MOST_TERMS, room < whole) {
+            (true, _) => Err(11),
+            (false, true) => Err(10),
+            (false, false) => Ok(f.blocks()),
+        };
+        assert_eq!(write(random, &f, room), expected);
+        let Ok(blocks) = expected else { continue };
+        sizes.insert(terms);
+        let places = random.pick(&[terms, terms + 1, terms + 50]);
+        assert_eq!(read(random, &blocks, (places, places)), Ok(f.clone()));
+        if terms > 0 {
+            assert_eq!(read(random, &blocks, (terms - 1, terms - 1)), Err(10));
+        }
+    }
+    assert!(SIZES[..6].iter().all(|terms| sizes.contains(terms)));
+}
+
+#[test]
+fn zero_is_one_block() {
+    let zero = Polynomial {
+        setting: Setting {
+            p: 7,
+            order: 3,
+            n: 2,
+        },
+        ..Polynomial::default()
+    };
+    let blocks = write(&mut Random::new(1), &zero, 512).expect("zero is written");
+    let header = [0, 0, 1, 0, 0, 0, 7, 0, 3, 2];
+    assert_eq!(blocks[..10], header);
+    assert!(blocks[10..508].iter().all(|&byte| byte == 0));
+    assert_eq!(blocks[508..], [0x04, 0x02, 0x08, 0x00]);
+}
+
+/// Each byte of the blocks changed: 15. With the check put right: what the model says, and where the
+/// polynomial is accepted, its blocks are these bytes. Gives the answers met, 0 for an accepted one.
+fn damage_each_byte(random: &mut Random, terms: usize, step: usize) -> BTreeSet<u64> {
+    let f = polynomial(random, terms);
+    let blocks = f.blocks();
+    let room = (MOST_TERMS, MOST_TERMS);
+    let mut answers = BTreeSet::new();
+    for at in (0..blocks.len()).step_by(step) {
+        let mut bytes = blocks.clone();
+        // Another bit, the order 2 for 1, or anything.
+        bytes[at] ^= match random.below(3) {
+            0 => 1 << random.below(8),
+            1 => 3,
+            _ => 1 + random.below(255) as u8,
+        };
+        assert_eq!(read(random, &bytes, room), Err(15), "byte {at}");
+        let start = at / BLOCK * BLOCK;
+        repair(&mut bytes[start..start + BLOCK]);
+        match read(random, &bytes, room) {
+            Ok(g) => {
+                assert_eq!(g.write(blocks.len()), Ok(bytes));
+                answers.insert(0);
+            }
+            Err(refusal) => {
+                answers.insert(refusal);
+            }
+        }
+    }
+    answers
+}
+
+#[test]
+fn damaged_in_every_byte() {
+    let random = &mut Random::new(103);
+    let mut answers = BTreeSet::new();
+    for round in 0..30 {
+        for terms in [0, 1, 40, 41, 42, 82, 83, 200] {
+            answers.extend(damage_each_byte(random, terms, 1 + round % 3));
+        }
+    }
+    for terms in [4_095, 4_096] {
+        answers.extend(damage_each_byte(random, terms, 29));
+    }
+    let expected: BTreeSet<u64> = [0, 1, 2, 3, 4, 5, 6, 16].into();
+    assert_eq!(answers, expected);
+}
+
+/// Several faults at once: the refusals come in their order.
+#[test]
+fn many_faults() {
+    let random = &mut Random::new(107);
+    let mut met = BTreeSet::new();
+    for _ in 0..20_000 {
+        let terms = random.pick(&[0, 1, 2, 41, 42, 90]);
+        let f = polynomial(random, terms);
+        let mut bytes = f.blocks();
+        for _ in 0..random.below(3) {
+            let at = random.below(bytes.len() as u64) as usize;
+            // Headers, and the first places, more often.
+            let at = random.pick(&[at, at / BLOCK * BLOCK + at % 28]);
+            let any = random.word() as u8;
+            bytes[at] = random.pick(&[0, 1, 7, any]);
+        }
+        for block in bytes.chunks_mut(BLOCK) {
+            if random.below(12) != 0 {
+                repair(block);
+            }
+        }
+        match random.below(30) {
+            0 => bytes.push(0),
+            1 => bytes.truncate(BLOCK * random.below(2) as usize),
+            2 => bytes.resize(101 * BLOCK, 0),
+            _ => {}
+        }
+        let words = random.pick(&[terms, terms, MOST_TERMS, 0]);
+        let coefs = random.pick(&[words, words, words, words, words + 1]);
+        match read(random, &bytes, (words, coefs)) {
+            Ok(g) => assert_eq!(g.write(bytes.len()), Ok(bytes)),
+            Err(refusal) => {
+                met.insert(refusal);
+            }
+        }
+    }
+    let expected: BTreeSet<u64> = [1, 2, 3, 4, 5, 6, 8, 10, 14, 15, 16].into();
+    assert_eq!(met, expected);
+}
+
+/// One block changed, with its check put right.
+fn changed(blocks: &[u8], number: usize, change: impl Fn(&mut [u8])) -> Vec<u8> {
+    let mut bytes = blocks.to_vec();
+    let block = &mut bytes[BLOCK * number..BLOCK * (number + 1)];
+    change(block);
+    repair(block);
+    bytes
+}
+
+/// What DECISIONS.md says of refusal 16: terms fields, and filler.
+#[test]
+fn sixteen() {
+    let random = &mut Random::new(109);
+    let room = (MOST_TERMS, MOST_TERMS);
+    let two = polynomial(random, PLACES + 1).blocks();
+    let full = polynomial(random, MOST_TERMS).blocks();
+    let zero = polynomial(random, 0).blocks();
+    // A terms field over 41.
+    let over = changed(&zero, 0, |block| block[4] = 42);
+    assert_eq!(read(random, &over, room), Err(16));
+    // An empty last block among several.
+    let empty = changed(&two, 1, |block| block[4..508].fill(0));
+    assert_eq!(read(random, &empty, room), Err(16));
+    let empty = changed(&two, 1, |block| {
+        block[4] = 0;
+        block[16..508].fill(0);
+    });
+    assert_eq!(read(random, &empty, room), Err(16));
+    // More than 37 terms in block 100; 37 are read.
+    assert!(read(random, &full, room).is_ok());
+    let over = changed(&full, 99, |block| block[4] = 38);
+    assert_eq!(read(random, &over, room), Err(16));
+    // A block in the place of another, p of the second block, and each byte of filler.
+    let mut swapped = two.clone();
+    swapped.rotate_left(BLOCK);
+    assert_eq!(read(random, &swapped, room), Err(16));
+    let other = changed(&two, 1, |block| block[6] ^= 1);
+    assert_eq!(read(random, &other, room), Err(16));
+    for at in (10..16).chain(28..508) {
+        let filled = changed(&two, 1, |block| block[at] = 1);
+        assert_eq!(read(random, &filled, room), Err(16), "byte {at}");
+    }
+    // 15 of a later block comes before 16 of an earlier one.
+    let mut both = changed(&two, 0, |block| block[0] = 1);
+    both[BLOCK + 508] ^= 1;
+    assert_eq!(read(random, &both, room), Err(15));
+    // A coefficient 0 within the count is 4.
+    let none = changed(&two, 1, |block| block[24..28].fill(0));
+    assert_eq!(read(random, &none, room), Err(4));
+}
+
+/// Every refusal of writing, alone and with later ones.
+#[test]
+fn refused_writing() {
+    let random = &mut Random::new(113);
+    let mut met = BTreeSet::new();
+    for _ in 0..20_000 {
+        let terms = match random.below(100) {
+            0 => 4_097,
+            _ => random.below(60) as usize,
+        };
+        let mut f = polynomial(random, terms);
+        for _ in 0..random.below(4) {
+            let at = random.below(1 + terms as u64) as usize;
+            match random.below(8) {
+                0 => f.setting.p = random.pick(&[0, 1, 4, 65_537, 65_523, u32::MAX]),
+                1 => f.setting.order = random.pick(&[0, 4, u32::MAX]),
+                2 => f.setting.n = random.pick(&[0, 7, u32::MAX]),
+                3 => f.words.push(0),
+                4 if at < f.coefs.len() => f.coefs[at] = random.pick(&[0, f.setting.p, u32::MAX]),
+                5 if at < terms => f.words[at] = random.word(),
+                6 if 1 < at && at < terms => f.words.swap(at, at - 1),
+                _ => f.coefs.truncate(at),
+            }
+        }
+        let room = random.pick(&[51_200, 51_712, 1_024, 512, 511, 0]);
+        if let Err(refusal) = write(random, &f, room) {
+            met.insert(refusal);
+        }
+    }
+    let expected: BTreeSet<u64> = [1, 2, 3, 4, 5, 6, 8, 10, 11].into();
+    assert_eq!(met, expected);
+}
+
+/// The check wraps: the model's own, on a block whose words add up past 2^32.
+#[test]
+fn check_wraps() {
+    let random = &mut Random::new(127);
+    let f = polynomial(random, PLACES);
+    let block = f.blocks();
+    let sum: u64 = block[..508]
+        .chunks(4)
+        .map(|w| u64::from(u32::from_le_bytes(w.try_into().expect("4 bytes"))))
+        .sum();
+    assert!(sum > u64::from(u32::MAX));
+    assert_eq!(u64::from(check(&block)), (sum + 1) % (1 << 32));
+    assert_eq!(write(random, &f, 512).as_deref(), Ok(&block[..]));
+}
