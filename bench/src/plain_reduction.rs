@@ -239,7 +239,7 @@ fn multiply(p: u32, factor: u32, quotient: u64, (words, coefs): Terms, to: &mut 
         *out = word + quotient;
     }
     for (out, &coef) in to.coefs.iter_mut().zip(coefs) {
-        let product = (factor * coef).wrapping_sub((ratio * coef >> 16) * p);
+        let product = (factor * coef).wrapping_sub(((ratio * coef) >> 16) * p);
         *out = product.min(product.wrapping_sub(p));
     }
 }

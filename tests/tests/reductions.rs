@@ -14,7 +14,7 @@ use second::probe_reduction;
 use second::random::Random;
 use second::reduction::{self, MOST_LEADS};
 use second::reduction_damage::ReductionDamage;
-use second::reduction_lists::{combination, coprime, Made, Reductions};
+use second::reduction_lists::{anything, combination, coprime, Made, Reductions};
 use second::residue;
 use second::run_lists::hostile_polynomials;
 
@@ -128,12 +128,15 @@ struct Case {
     about: String,
 }
 
-/// A reduction of small numbers of any kind, with any step limit.
+/// A reduction of small numbers of any kind, or of any numbers, with any step limit.
 fn hostile_case(random: &mut Random, lender: &mut Lender, case: u64) -> Case {
     let any = random.word();
     let output = random.pick(&[0, 1, 2, 20, 20]);
     Case {
-        given: hostile_polynomials(random),
+        given: match random.below(4) {
+            0 => anything(random),
+            _ => hostile_polynomials(random),
+        },
         limit: random.pick(&[0, 1, 2, 5, MOST_LEADS, MOST_LEADS, MOST_LEADS + 1, any]),
         loan: lender.lend(random, output),
         about: format!("case {case}, hostile"),
@@ -270,9 +273,13 @@ fn division_algorithm() {
     let reductions = Reductions::new();
     let mut lender = Lender::new(random);
     let mut finished = 0;
-    for case in (0..cases() / 20).filter(|case| case % 20 > 1) {
+    for case in 0..cases() / 20 {
         let setting = setting(random, case);
         let made = reductions.made(random, case, setting);
+        // On large ones it would take too long.
+        if made.given.words.len() > 1_000 {
+            continue;
+        }
         let polynomials = made.given.polynomials((setting.0, setting.1));
         let loan = lender.lend(random, made.terms);
         let about = format!("case {case} {setting:?}");
@@ -600,6 +607,32 @@ fn several_causes() {
             let (answer, left) = both(&given, limit, loan, &about);
             assert_eq!((answer.refusal, answer.finished), expected, "{about}");
             assert_eq!(left.tally.held, f.len() as u64 - answer.finished, "{about}");
+        }
+    }
+}
+
+/// The first divisor that fits is found behind any number of others, and used more than once.
+#[test]
+fn many_divisors() {
+    let random = &mut Random::new(91);
+    let mut lender = Lender::new(random);
+    for order in Order::ALL {
+        let small = |terms| polynomial(order, 2, terms);
+        // x1^3 by 3·x1 + 5 is a constant after 4 leads.
+        let (f, unfit) = (small(&[(2, [3, 0])]), small(&[(1, [0, 1])]));
+        let (first, second) = (small(&[(3, [1, 0]), (5, [0, 0])]), small(&[(1, [1, 0])]));
+        for before in [0, 1, 2, 1_022, 1_023, 1_024, 1_025, 3_000] {
+            let mut polynomials = vec![f.clone()];
+            polynomials.extend(vec![unfit.clone(); before]);
+            polynomials.extend([first.clone(), second.clone()]);
+            let given = Given::new((order, 2, 7), &polynomials);
+            let loan = lender.lend(random, 1);
+            let about = format!("{order:?}, {before} divisors before");
+            let (answer, left) = both(&given, MOST_LEADS, loan, &about);
+            let numbers = (answer.refusal, answer.finished, answer.places);
+            assert_eq!(numbers, (0, 4, 1), "{about}");
+            // 3·x1 = -5 = 2, so that x1 = 3 and 2·x1^3 = 54 = 5.
+            assert_eq!(left.output, (vec![0], vec![5]), "{about}");
         }
     }
 }
