@@ -361,11 +361,7 @@ fn damage_in_pairs() {
 
 /// The refusal that comes first in the opening order, or one of the two of terms.
 fn expect_first(answer: Answer, damages: [ReductionDamage; 2], about: &str) {
-    let mut numbers = damages.map(ReductionDamage::number);
-    if numbers.contains(&8) && damages.contains(&ReductionDamage::NoPolynomial) {
-        // Nothing is left that could have another refusal after 8.
-        numbers = numbers.map(|number| if number > 3 { 8 } else { number });
-    }
+    let numbers = damages.map(ReductionDamage::number);
     let before = BEFORE_TERMS.into_iter().find(|r| numbers.contains(r));
     let expected = match before {
         Some(number) => answer.refusal == number,
@@ -417,7 +413,10 @@ fn known(polynomials: &[Vec<Term>], limit: u64) -> (u64, u64, Vec<Term>, Loan) {
     let about = format!("{polynomials:?}, limit {limit}");
     let (answer, left) = both(&given, limit, loan, &about);
     let written = left.tally.given as usize;
-    let places = [written, 0][usize::from(answer.refusal != 0)];
+    let places = match answer.refusal {
+        0 => written,
+        _ => 0,
+    };
     assert_eq!(answer.places as usize, places, "{about}");
     let (words, coefs) = &left.output;
     assert_eq!(words[written..], before.0[written..], "{about}");
@@ -469,6 +468,21 @@ fn known_exponents() {
     assert_eq!((refusal, leads, remainder.len()), (12, 0, 0));
     assert_eq!(held(KNOWN, &left), f);
     assert_eq!((left.tally.brought, left.tally.held), (1, 1));
+}
+
+/// 4 terms go to bucket 1, which starts at place 0, and 5 to bucket 2, which starts at place 4; the step
+/// limit stops before the first lead is removed, and its search is counted.
+#[test]
+fn known_buckets() {
+    for (len, start) in [(4, 0), (5, 4)] {
+        let all: Vec<(u32, [u8; 2])> = (0..len).map(|e| (1, [e, 0])).collect();
+        let (refusal, leads, _, left) = known(&[of(&all)], 0);
+        assert_eq!((refusal, leads), (13, 0));
+        let (filled, coefs) = (start..start + usize::from(len), &left.space.1);
+        let is_filled = |(place, &coef): (usize, &u32)| filled.contains(&place) == (coef != 0);
+        assert!(coefs.iter().enumerate().all(is_filled), "{len}");
+        assert_eq!((left.tally.comparisons, left.tally.held), (0, len.into()));
+    }
 }
 
 /// 13 comes before 12, 11 and 10; zero finishes with limit 0; and divisors of one term stop nothing.
