@@ -1,10 +1,12 @@
 //! A reduction in plain Rust: the opening checks, the steps on the geobucket of `geobucket`, and
-//! settling, with the order taken out of the loops.
+//! settling, with the order taken out of the loops. The buckets hold keys, which are compared as
+//! numbers; they become words again when they leave.
 use crate::c_functions::ReductionResult;
 use crate::geobucket::{add_by, lead_by, Geobucket, Lead, Memory, Plain, BUCKETS, MOST};
 use crate::given::Given;
 use crate::lists::{deg_rev_lex_key, lex_key, List, Order, Terms};
 use crate::plain_opening::{polynomials_refusal, setting_refusal, sizes_good};
+use std::marker::PhantomData;
 
 /// The largest step limit.
 pub const MOST_LEADS: u64 = 8_796_093_022_208;
@@ -12,6 +14,63 @@ pub const MOST_LEADS: u64 = 8_796_093_022_208;
 /// The six fields of a word, and the top bit of each.
 const FIELDS: u64 = 0xffff_ffff_ffff;
 const TOPS: u64 = 0x8080_8080_8080;
+
+/// How words become keys and back, and what a key grows by when its word is multiplied.
+trait Keys {
+    /// Whether the field of x1 is the lowest.
+    const FIRST_BELOW: bool;
+    fn key(word: u64) -> u64;
+    fn word(key: u64) -> u64;
+    fn growth(quotient: u64) -> u64;
+}
+
+struct LexKeys;
+struct DegRevLexKeys;
+
+impl Keys for LexKeys {
+    const FIRST_BELOW: bool = false;
+
+    #[inline(always)]
+    fn key(word: u64) -> u64 {
+        lex_key(word)
+    }
+
+    #[inline(always)]
+    fn word(key: u64) -> u64 {
+        key.rotate_right(16)
+    }
+
+    #[inline(always)]
+    fn growth(quotient: u64) -> u64 {
+        lex_key(quotient)
+    }
+}
+
+impl Keys for DegRevLexKeys {
+    const FIRST_BELOW: bool = true;
+
+    #[inline(always)]
+    fn key(word: u64) -> u64 {
+        deg_rev_lex_key(word)
+    }
+
+    #[inline(always)]
+    fn word(key: u64) -> u64 {
+        deg_rev_lex_key(key)
+    }
+
+    /// The degree grows, and the inverted fields fall.
+    #[inline(always)]
+    fn growth(quotient: u64) -> u64 {
+        (quotient & !FIELDS).wrapping_sub(quotient & FIELDS)
+    }
+}
+
+/// Keys are compared as they are.
+#[inline(always)]
+fn same(key: u64) -> u64 {
+    key
+}
 
 /// Does a reduction. The tally of one that is refused at the opening is 0.
 pub fn reduce(
@@ -22,23 +81,18 @@ pub fn reduce(
     output: &mut List,
 ) -> ReductionResult {
     match order {
-        Order::Lex => reduce_by(lex_key, false, given, limit, memory, output),
-        Order::DegRevLex => reduce_by(deg_rev_lex_key, true, given, limit, memory, output),
+        Order::Lex => reduce_by::<LexKeys>(given, limit, memory, output),
+        Order::DegRevLex => reduce_by::<DegRevLexKeys>(given, limit, memory, output),
     }
 }
 
-/// A reduction by words that are compared by a key. `first_below` says that the field of x1 is the
-/// lowest.
-#[inline(always)]
-pub fn reduce_by(
-    key: impl Fn(u64) -> u64 + Copy,
-    first_below: bool,
+fn reduce_by<K: Keys>(
     given: &Given,
     limit: u64,
     memory: &mut Memory,
     output: &mut List,
 ) -> ReductionResult {
-    let refusal = opening(key, first_below, given, limit, memory, output);
+    let refusal = opening::<K>(given, limit, memory, output);
     if refusal != 0 {
         return ReductionResult {
             refusal,
@@ -46,27 +100,31 @@ pub fn reduce_by(
         };
     }
     Plain::empty(memory);
-    let mut reduction = Reduction::new(given, memory, output);
-    let mut result = reduction.steps(key, given.polynomial(0), limit);
+    let mut reduction = Reduction::<K>::new(given, memory, output);
+    let mut result = reduction.steps(given.polynomial(0), limit);
     result.given = result.terms;
     result.held = memory.held() as u64;
     if result.refusal != 0 {
         result.terms = 0;
     }
     Plain::settle(memory);
+    if result.held > 0 {
+        words_again::<K>(&mut memory.space);
+    }
     result
 }
 
+/// Makes words of the keys, which are where the coefficient is not 0.
+fn words_again<K: Keys>(space: &mut List) {
+    for (word, &coef) in space.words.iter_mut().zip(&space.coefs) {
+        if coef != 0 {
+            *word = K::word(*word);
+        }
+    }
+}
+
 /// The opening checks but that of the order: the refusal, or 0.
-#[inline(always)]
-fn opening(
-    key: impl Fn(u64) -> u64 + Copy,
-    first_below: bool,
-    given: &Given,
-    limit: u64,
-    memory: &Memory,
-    output: &List,
-) -> u64 {
+fn opening<K: Keys>(given: &Given, limit: u64, memory: &Memory, output: &List) -> u64 {
     let refusal = setting_refusal(given);
     if refusal != 0 {
         return refusal;
@@ -74,7 +132,7 @@ fn opening(
     if !sizes_good(given, memory, output) || limit > MOST_LEADS || given.count() == 0 {
         return 8;
     }
-    match polynomials_refusal(key, first_below, given) {
+    match polynomials_refusal(K::key, K::FIRST_BELOW, given) {
         0 if given.starts[1..].windows(2).any(|pair| pair[0] == pair[1]) => 7,
         refusal => refusal,
     }
@@ -122,7 +180,8 @@ fn inverse(a: u32, p: u32) -> u32 {
 }
 
 /// A reduction past the opening checks.
-struct Reduction<'a> {
+struct Reduction<'a, K> {
+    keys: PhantomData<K>,
     p: u32,
     /// The lead words of the divisors without degree, which are searched at each step.
     leads: Vec<u64>,
@@ -133,10 +192,11 @@ struct Reduction<'a> {
     product: List,
 }
 
-impl<'a> Reduction<'a> {
+impl<'a, K: Keys> Reduction<'a, K> {
     fn new(given: &'a Given, memory: &'a mut Memory, output: &'a mut List) -> Self {
         let divisors = || (1..given.count()).map(|k| given.polynomial(k));
         Reduction {
+            keys: PhantomData,
             p: given.p,
             leads: divisors().map(|(words, _)| words[0] & FIELDS).collect(),
             divisors: divisors().map(|f| Divisor::new(given.p, f)).collect(),
@@ -148,24 +208,23 @@ impl<'a> Reduction<'a> {
 
     /// Adds f and does the steps. The terms are those of the remainder, also where it is refused; the
     /// terms given out and held are not counted.
-    #[inline(always)]
-    fn steps(&mut self, key: impl Fn(u64) -> u64 + Copy, f: Terms, limit: u64) -> ReductionResult {
+    fn steps(&mut self, f: Terms, limit: u64) -> ReductionResult {
         let mut result = ReductionResult::default();
         if f.0.len() > MOST {
             result.refusal = 11;
             return result;
         }
-        result.comparisons = add_by(key, self.p, self.memory, f);
-        result.brought = f.0.len() as u64;
+        self.add(1, 0, f, &mut result);
         loop {
-            let lead = lead_by(key, self.p, self.memory);
+            let mut lead = lead_by(same, self.p, self.memory);
             result.comparisons += lead.comparisons;
             if lead.bucket == BUCKETS {
                 return result;
             }
+            lead.word = K::word(lead.word);
             result.refusal = match result.leads == limit {
                 true => 13,
-                false => self.step(key, lead, &mut result),
+                false => self.step(lead, &mut result),
             };
             if result.refusal != 0 {
                 return result;
@@ -176,16 +235,11 @@ impl<'a> Reduction<'a> {
 
     /// Divides the lead or puts it to the remainder: the refusal, or 0.
     #[inline(always)]
-    fn step(
-        &mut self,
-        key: impl Fn(u64) -> u64 + Copy,
-        lead: Lead,
-        result: &mut ReductionResult,
-    ) -> u64 {
+    fn step(&mut self, lead: Lead, result: &mut ReductionResult) -> u64 {
         let fields = (lead.word & FIELDS) | TOPS;
         let fits = |&own: &u64| (fields - own) & TOPS == TOPS;
         match self.leads.iter().position(fits) {
-            Some(k) => self.divide(key, lead, k, result),
+            Some(k) => self.divide(lead, k, result),
             None => self.put(lead, result),
         }
     }
@@ -204,42 +258,42 @@ impl<'a> Reduction<'a> {
     }
 
     #[inline(always)]
-    fn divide(
-        &mut self,
-        key: impl Fn(u64) -> u64 + Copy,
-        lead: Lead,
-        k: usize,
-        result: &mut ReductionResult,
-    ) -> u64 {
+    fn divide(&mut self, lead: Lead, k: usize, result: &mut ReductionResult) -> u64 {
         let divisor = &self.divisors[k];
-        let quotient = lead.word - divisor.lead;
+        let (tail, quotient) = (divisor.tail, lead.word - divisor.lead);
         if (divisor.largest + (quotient & FIELDS)) & TOPS != 0 {
             return 12;
         }
-        let len = divisor.tail.0.len();
-        if self.memory.held() - 1 + len > MOST {
+        if self.memory.held() - 1 + tail.0.len() > MOST {
             return 11;
         }
         let factor = lead.coef * divisor.inverse % self.p;
-        multiply(self.p, factor, quotient, divisor.tail, &mut self.product);
         Plain::take(self.memory, lead.bucket);
-        let product = (&self.product.words[..len], &self.product.coefs[..len]);
-        result.comparisons += add_by(key, self.p, self.memory, product);
-        result.brought += len as u64;
+        self.add(factor, quotient, tail, result);
         0
+    }
+
+    /// Adds each term times factor·quotient.
+    #[inline(always)]
+    fn add(&mut self, factor: u32, quotient: u64, f: Terms, result: &mut ReductionResult) {
+        let len = f.0.len();
+        multiply::<K>(self.p, factor, quotient, f, &mut self.product);
+        let product = (&self.product.words[..len], &self.product.coefs[..len]);
+        result.comparisons += add_by(same, self.p, self.memory, product);
+        result.brought += len as u64;
     }
 }
 
-/// Puts each term times factor·quotient into the first of some places. All coefficients are below
-/// 2^16, so that Shoup's product needs 32 bits.
+/// Puts the key and the coefficient of each term times factor·quotient into the first of some places.
+/// All coefficients are below 2^16, so that Shoup's product needs 32 bits.
 #[inline(always)]
-fn multiply(p: u32, factor: u32, quotient: u64, (words, coefs): Terms, to: &mut List) {
-    let ratio = (factor << 16) / p;
+fn multiply<K: Keys>(p: u32, factor: u32, quotient: u64, (words, coefs): Terms, to: &mut List) {
+    let (growth, ratio) = (K::growth(quotient), (factor << 16) / p);
     for (out, &word) in to.words.iter_mut().zip(words) {
-        *out = word + quotient;
+        *out = K::key(word).wrapping_add(growth);
     }
     for (out, &coef) in to.coefs.iter_mut().zip(coefs) {
-        let product = (factor * coef).wrapping_sub((ratio * coef >> 16) * p);
+        let product = (factor * coef).wrapping_sub(((ratio * coef) >> 16) * p);
         *out = product.min(product.wrapping_sub(p));
     }
 }

@@ -12,13 +12,18 @@ use crate::reduction::{reduce, MOST_LEADS};
 use std::collections::BTreeSet;
 use std::ops::RangeInclusive;
 
-/// Of so many reductions one is large; of so many one may be long.
-const LARGE_EVERY: u64 = 12;
-const LONG_EVERY: u64 = 100;
+/// Of so many reductions one is large; of so many one may be long. Neither has a factor in common with
+/// the 18 orders and numbers of variables, which come in turn.
+const LARGE_EVERY: u64 = 13;
+const LONG_EVERY: u64 = 101;
 
 /// The most leads of a reduction, and of a long one. Some would have very many.
 const LEADS: u64 = 300;
 const LONG: u64 = 4_000;
+
+/// Of so many short reductions one has a crowd of divisors, most of which fit nowhere.
+const CROWD_EVERY: u64 = 60;
+const CROWD: usize = 1_020;
 
 /// The largest exponent of the first divisor of a large polynomial.
 const TOP: u8 = 60;
@@ -124,6 +129,9 @@ fn short(random: &mut Random, setting: Setting) -> Lists {
         let one = (vec![0; setting.1], coef(random, setting.2));
         divisors.push(vec![one]);
     }
+    if random.below(CROWD_EVERY) == 0 {
+        crowd(random, setting, &mut divisors);
+    }
     let f = match random.below(12) {
         0..=3 => combination(random, setting, &divisors),
         4..=6 => near_limit(random, setting),
@@ -155,6 +163,14 @@ fn divisors(random: &mut Random, setting: Setting, (most, len): (usize, usize)) 
     (0..count)
         .map(|_| any(random, setting, 1..=len, limit))
         .collect()
+}
+
+/// Puts about 1,024 divisors with large exponents before the last of these.
+fn crowd(random: &mut Random, setting: Setting, divisors: &mut Vec<Vec<Term>>) {
+    let at = divisors.len().saturating_sub(1);
+    let count = CROWD + up_to(random, 8);
+    let unfit: Vec<_> = (0..count).map(|_| near_limit(random, setting)).collect();
+    divisors.splice(at..at, unfit);
 }
 
 /// Divisors whose leads are powers of single variables, each variable once: a Gröbner basis, since
@@ -217,8 +233,9 @@ fn large(random: &mut Random, setting: Setting, pool: &[Vec<u8>]) -> Lists {
     let monomials = std::iter::once(largest.clone()).chain(rest).take(len);
     let f = with_coefs(random, p, monomials.collect());
     let first = large_divisor(random, setting, tail);
+    let next = any(random, setting, 2..=6, 2);
     let more = divisors(random, setting, (2, 4));
-    (f, [vec![first], more].concat())
+    (f, [vec![first, next], more].concat())
 }
 
 /// The terms of a large polynomial, and those of the tail of its first divisor.
@@ -228,7 +245,7 @@ fn large_lens(random: &mut Random) -> (usize, usize) {
         1 => MOST,
         2 => MOST - 1,
         3 => up_to(random, MOST),
-        _ => MOST - up_to(random, 40),
+        _ => MOST - up_to(random, 12),
     };
     let room = MOST + 1 - len;
     let tail = match random.below(4) {
@@ -257,4 +274,26 @@ fn large_divisor(random: &mut Random, (order, n, p): Setting, tail: usize) -> Ve
     found.insert(lead);
     let monomials = falling(order, found.into_iter().collect());
     with_coefs(random, p, monomials)
+}
+
+/// Polynomials of any numbers, mostly of no use.
+pub fn anything(random: &mut Random) -> Given {
+    let number = |random: &mut Random, good: &[u32]| match random.below(8) {
+        0 => random.word() as u32,
+        _ => random.pick(good),
+    };
+    let mut words = |most| -> Vec<u64> {
+        let count = up_to(random, most);
+        let any = |random: &mut Random| random.word() >> (8 * random.below(8));
+        (0..count).map(|_| any(random)).collect()
+    };
+    let (starts, coefs, words) = (words(4), words(5), words(5));
+    Given {
+        p: number(random, &[2, 7, 65_521]),
+        order: number(random, &[1, 2, 3]),
+        n: number(random, &[1, 2, 6]),
+        words,
+        coefs: coefs.into_iter().map(|c| c as u32).collect(),
+        starts: starts.into_iter().map(|s| s as usize).collect(),
+    }
 }
