@@ -1,10 +1,11 @@
 -- The customer's demands, for reductions: what holds of every call of `reduce`, by its defined outcome (`reductionOutcome`). Assumes nothing.
 use mathlib.Core.Path.{_≡_, refl, sym, ap, _∙_, subst}
-use mathlib.Core.Bool.{Bool}
+use mathlib.Core.Bool.{Bool, true, false}
 use mathlib.Core.List.{List, _++_, map}
 use Prim.Native.Nat.{ℕ, zero, suc, _+_, _-_, _%_, _<_, _≤_, Ordering}
 use native.Mathlib.Omega.{arith}
-use borrow.Author.Tests.{eq-eqb, ne-eqb}
+use borrow.Author.Tests.{eq-eqb, ne-eqb, eqb-true}
+use lib.Dec.{eqb}
 use lib.ListN.{length}
 use Rattle.residue.specs.Prime.{Prime}
 use Rattle.monomial.specs.declared.order.Order.{Order}
@@ -30,10 +31,24 @@ use Rattle.division.specs.Combination.{Combination, LeadsOf}
 use Rattle.division.proofs.Reductions as R
 use Rattle.runs.specs.declared.Tally.{Tally}
 use Rattle.reducer.specs.Divisors.{divisorsOf}
+use Rattle.reductions.specs.declared.Answer.{Answer}
 use Rattle.reductions.specs.declared.Answer.the-variants.{Done, Refused}
 use Rattle.reductions.specs.Outcome.{ReductionOutcome, answerBy, tallyOf, ended, decidedBy, reducedThrough, reductionOutcome}
 use Rattle.reductions.proofs.OutcomeLaws.{decided-none, decided-refused}
 use Rattle.reductions.proofs.OpenedLaws.{valid-polynomial, valid-divisors}
+
+-- the numbers of an answer, and 1 for `Done`
+abbrev leadsIn : Answer → ℕ
+leadsIn (Done leads terms) = leads
+leadsIn (Refused refusal leads) = leads
+
+abbrev termsIn : Answer → ℕ
+termsIn (Done leads terms) = terms
+termsIn (Refused refusal leads) = 0
+
+abbrev doneIn : Answer → ℕ
+doneIn (Done leads terms) = 1
+doneIn (Refused refusal leads) = 0
 
 -- Demand 1: every call ends (its contract says so), with "a result, or a numbered refusal under its stated condition and no other". The opening: each number under its condition, where no earlier one holds.
 pub demand-1-opening : (p order n : ℕ) (words coefs ss : List ℕ) (limit bw bc ww wc ow oc : ℕ) → JudgedReduction p order n words coefs ss limit bw bc ww wc ow oc (reductionRefusal p order n words coefs ss limit bw bc ww wc ow oc)
@@ -85,6 +100,14 @@ module _ (tally : Tally) (p order n : ℕ) (words coefs ss : List ℕ) (limit : 
 
     pub outcome-refused : (last .stop ≡ 0 → ⊥) → outcome .answer ≡ Refused (refusalNamed (last .stop)) (last .leads)
     outcome-refused ne = ap (λ (x : ReductionOutcome). x .answer) outcome-is ∙ ap (λ (b : Bool). answerBy b (last .stop) (last .leads) (length (last .remainder))) (ne-eqb (last .stop) 0 ne)
+
+    -- and an answer `Done` is one of a reduction that finished, with these numbers
+    pub answered-done : (k m : ℕ) → outcome .answer ≡ Done k m → (last .stop ≡ 0) × (last .leads ≡ k) × (length (last .remainder) ≡ m)
+    answered-done k m e = by (eqb (last .stop) 0) refl (sym (ap (λ (x : ReductionOutcome). x .answer) outcome-is) ∙ e)
+      where
+        by : (b : Bool) → eqb (last .stop) 0 ≡ b → answerBy b (last .stop) (last .leads) (length (last .remainder)) ≡ Done k m → (last .stop ≡ 0) × (last .leads ≡ k) × (length (last .remainder) ≡ m)
+        by true z h = (eqb-true (last .stop) 0 z, ap leadsIn h, ap termsIn h)
+        by false z h = absurd (let q : _≡_ {A = ℕ} 0 1 = ap doneIn h in let w : ⊥ = omega arith in w)
 
     -- The steps: it finishes, or a step is refused with 10 to 13, or polynomial 0 with 11, under its condition. It bars a reduction that stops with 13 before the limit's leads are removed.
     pub demand-1-ending : Ending cmp dividesWord _-_ overWord p gs (length ow) limit (last .stop) f last
