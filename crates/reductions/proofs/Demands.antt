@@ -6,13 +6,14 @@ use Prim.Native.Nat.{ℕ, zero, suc, _+_, _-_, _%_, _<_, _≤_, Ordering}
 use native.Mathlib.Omega.{arith}
 use borrow.Author.Tests.{eq-eqb, ne-eqb, eqb-true}
 use lib.Dec.{eqb}
-use lib.ListN.{length}
+use lib.ListN.{length, drop}
 use Rattle.residue.specs.Prime.{Prime}
 use Rattle.monomial.specs.declared.order.Order.{Order}
 use Rattle.monomial.specs.Exponents.{orderOf, divides, quotient, product, compareIn}
 use Rattle.monomial.specs.Layout.{Layout}
 use Rattle.monomial.specs.Words.{compareWords, dividesWord}
 use Rattle.polynomial.specs.Terms.{Term, All, Falling, total, Canonical}
+use Rattle.polynomial.specs.Terms as T
 use Rattle.geobucket.specs.Buckets.{held, totalIn, fullSum}
 use Rattle.geobucket.specs.Events.{Work, start, perform, bound}
 use Rattle.opening.specs.Reduction.{reductionRefusal, ReductionOpened}
@@ -108,6 +109,10 @@ module _ (tally : Tally) (p order n : ℕ) (words coefs ss : List ℕ) (limit : 
         by : (b : Bool) → eqb (last .stop) 0 ≡ b → answerBy b (last .stop) (last .leads) (length (last .remainder)) ≡ Done k m → (last .stop ≡ 0) × (last .leads ≡ k) × (length (last .remainder) ≡ m)
         by true z h = (eqb-true (last .stop) 0 z, ap leadsIn h, ap termsIn h)
         by false z h = absurd (let q : _≡_ {A = ℕ} 0 1 = ap doneIn h in let w : ⊥ = omega arith in w)
+
+    -- "Output past the last place written is untouched": the remainder, finished or so far, and then the output as it came
+    pub output-is : (outcome .ow ≡ T.words (last .remainder) ++ drop (length (last .remainder)) ow) × (outcome .oc ≡ T.coefs (last .remainder) ++ drop (length (last .remainder)) oc)
+    output-is = (ap (λ (x : ReductionOutcome). x .ow) outcome-is, ap (λ (x : ReductionOutcome). x .oc) outcome-is)
 
     -- The steps: it finishes, or a step is refused with 10 to 13, or polynomial 0 with 11, under its condition. It bars a reduction that stops with 13 before the limit's leads are removed.
     pub demand-1-ending : Ending cmp dividesWord _-_ overWord p gs (length ow) limit (last .stop) f last
