@@ -18,3 +18,4 @@ pub mod WordSteps
 pub mod Remaining
 pub mod Reductions
 pub mod Renaming
+pub mod Outcomes

@@ -6,3 +6,4 @@ pub mod Ending
 pub mod Combination
 pub mod Demanded
 pub mod InExponents
+pub mod Examples

@@ -11,7 +11,7 @@ use Rattle.monomial.specs.Words.{compareWords}
 use Rattle.polynomial.specs.Terms.{Term, term}
 use Rattle.block.specs.declared.header.Setting.{Setting}
 use Rattle.block.specs.Block.{numberAt, blocksOf}
-use Rattle.division.specs.Steps.{reductionOfWords}
+use Rattle.division.specs.Examples.{in-dp, dividend, by-x1x2, by-x2², by-x1, reducedIn7}
 use Rattle.geobucket.specs.Events.{Event, addition, removal, summation, start, perform, bound}
 
 -- a known result; monomials are given by their exponents
@@ -37,33 +37,15 @@ Says (gives o p es ts made allowed) =
     let w = perform (compareWords o) p es start in
     (w .given ≡ ts) × (length (w .pairs) ≡ made) × (bound (length (w .brought)) ≡ allowed)
 Says (leaves limit f gs remainder leads) =
-    let r = reductionOfWords DegRevLex 7 gs 4096 limit f in
+    let r = reducedIn7 limit f gs in
     (r .stop ≡ 0) × (r .remainder ≡ remainder) × (r .leads ≡ leads)
-Says (stops limit f gs refusal) = reductionOfWords DegRevLex 7 gs 4096 limit f .stop ≡ refusal
+Says (stops limit f gs refusal) = reducedIn7 limit f gs .stop ≡ refusal
 Says (stores t f check) = (length (blocksOf t f) ≡ 512) × (numberAt 4 508 (blocksOf t f) ≡ check)
 
 -- each result of a list holds
 abbrev pub Hold : List Result → Type 0
 Hold [] = Unit {0}
 Hold (r ∷ rs) = Says r × Hold rs
-
--- the coefficient and the exponents of a term in dp, as the script has them
-abbrev pub in-dp : ℕ → List ℕ → Term ℕ
-in-dp c α = term (wordOf DegRevLex α) c
-
--- x1²x2 + x1x2² + x2², and the divisors x1x2+6 and x2²+6
-abbrev pub dividend : List (Term ℕ)
-dividend = in-dp 1 (2 ∷ 1 ∷ []) ∷ in-dp 1 (1 ∷ 2 ∷ []) ∷ in-dp 1 (0 ∷ 2 ∷ []) ∷ []
-
-abbrev pub by-x1x2 : List (Term ℕ)
-by-x1x2 = in-dp 1 (1 ∷ 1 ∷ []) ∷ in-dp 6 (0 ∷ 0 ∷ []) ∷ []
-
-abbrev pub by-x2² : List (Term ℕ)
-by-x2² = in-dp 1 (0 ∷ 2 ∷ []) ∷ in-dp 6 (0 ∷ 0 ∷ []) ∷ []
-
--- x2²+6x1
-abbrev pub by-x1 : List (Term ℕ)
-by-x1 = in-dp 1 (0 ∷ 2 ∷ []) ∷ in-dp 6 (1 ∷ 0 ∷ []) ∷ []
 
 abbrev pub table : List Result
 table =

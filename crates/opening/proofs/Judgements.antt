@@ -15,14 +15,16 @@ use Rattle.monomial.specs.declared.order.Order.{Order}
 use Rattle.monomial.specs.Exponents.{orderOf}
 use Rattle.monomial.proofs.Places.{and-both}
 use Rattle.polynomial.specs.Opening.{startsGood, first}
-use Rattle.opening.specs.Run.{unless, between, setting, spaceGood, lentGood, pairsGood, shapeGood, operationBy, operationGood, operationsGood, refusalAt, refusalFrom, polynomialsRefusal, runRefusal}
-use Rattle.opening.specs.Judgement.{GoodPrime, Between, GoodShape, GoodOperation, GoodOperations, FirstRefused, Judged, refused-1, refused-2, refused-3, refused-8, refused-9, refused-polynomial, passed}
+use Rattle.opening.specs.Run.{unless, between, setting, lentGood, spaceGood, pairsGood, shapeGood, operationBy, operationGood, operationsGood, refusalAt, refusalFrom, polynomialsRefusal, runRefusal}
+use Rattle.opening.specs.Judgement.{GoodPrime, Between, GoodSetting, SettingRefused, refused-1, refused-2, refused-3, GoodLent, GoodShape, GoodOperation, GoodOperations, NoneRefused, FirstRefused, Judged, refused-setting, refused-8, refused-9, refused-polynomial, passed}
+use Rattle.opening.proofs.ShapeLaws.{lent-passes}
+use Rattle.opening.proofs.PolynomialLaws.{polynomials-pass}
 
-both : (a b : Bool) → a ≡ true → b ≡ true → (a && b) ≡ true
+pub both : (a b : Bool) → a ≡ true → b ≡ true → (a && b) ≡ true
 both a b e f = ap₂ (λ (x y : Bool). x && y) e f
 
 -- a test that fails, of something that holds
-clash : {b : Bool} → b ≡ false → b ≡ true → ⊥
+pub clash : {b : Bool} → b ≡ false → b ≡ true → ⊥
 clash {b} e f = let z : _≡_ {A = ℕ} 0 1 = ap bit (sym e ∙ f) in let q : ⊥ = omega arith in q
   where
     bit : Bool → ℕ
@@ -42,35 +44,33 @@ between-good low high x e = let b = and-both (leb low x) (leb x high) e in (leb-
 good-between : (low high x : ℕ) → Between low high x → between low high x ≡ true
 good-between low high x g = both (leb low x) (leb x high) (le-leb low x (g .0)) (le-leb x high (g .1))
 
+-- the setting comes first, and where it is good, what comes after decides
+pub by-setting : (J : ℕ → Type 0) (p order n : ℕ) {later : ℕ} → ((r : ℕ) → SettingRefused p order n r → J r) → (GoodSetting p order n → J later) → J (first (setting p order n) later)
+unfolding setting
+by-setting J p order n {later} refused good = by (isPrime p && leb p 65521) (between 1 3 order) (between 1 6 n) refl refl refl
+  where
+    by : (b1 b2 b3 : Bool) → (isPrime p && leb p 65521) ≡ b1 → between 1 3 order ≡ b2 → between 1 6 n ≡ b3 → J (first (first (unless b1 1) (first (unless b2 2) (unless b3 3))) later)
+    by false b2 b3 e1 e2 e3 = refused 1 (refused-1 (λ g. clash e1 (good-prime p g)) refl)
+    by true false b3 e1 e2 e3 = refused 2 (refused-2 (prime-good p e1) (λ g. clash e2 (good-between 1 3 order g)) refl)
+    by true true false e1 e2 e3 = refused 3 (refused-3 (prime-good p e1) (between-good 1 3 order e2) (λ g. clash e3 (good-between 1 6 n g)) refl)
+    by true true true e1 e2 e3 = good (prime-good p e1, between-good 1 3 order e2, between-good 1 6 n e3)
+
+pub good-lent : {words coefs bw bc ww wc ow oc : ℕ} → GoodLent words coefs bw bc ww wc ow oc → lentGood words coefs bw bc ww wc ow oc ≡ true
+unfolding lentGood spaceGood
+good-lent g = both _ _ (eq-eqb _ _ (g .lent)) (both _ _ (eq-eqb _ _ (g .output)) (both _ _ (eq-eqb _ _ (g .bucket-words)) (both _ _ (eq-eqb _ _ (g .bucket-coefs)) (both _ _ (eq-eqb _ _ (g .work-words)) (eq-eqb _ _ (g .work-coefs))))))
+
 module _ (words coefs ss ops : List ℕ) (bw bc ww wc ow oc : ℕ) where
   shape-good : shapeGood (length words) (length coefs) ss (length ops) bw bc ww wc ow oc ≡ true → GoodShape words coefs ss ops bw bc ww wc ow oc
-  unfolding shapeGood lentGood spaceGood pairsGood
+  unfolding shapeGood pairsGood
   shape-good e =
-      let a = and-both _ _ e in
-      let l = and-both _ _ (a .0) in
-      let o = and-both _ _ (l .1) in
-      let s = and-both _ _ (o .1) in
-      let t = and-both _ _ (s .1) in
-      let u = and-both _ _ (t .1) in
-      let r = and-both _ _ (a .1) in
+      let a = and-both (lentGood (length words) (length coefs) bw bc ww wc ow oc) (startsGood ss (length words) && pairsGood (length ops)) e in
+      let r = and-both (startsGood ss (length words)) (pairsGood (length ops)) (a .1) in
       let q = and-both _ _ (r .1) in
-      record {
-        lent = eqb-true _ _ (l .0);
-        output = eqb-true _ _ (o .0);
-        bucket-words = eqb-true _ _ (s .0);
-        bucket-coefs = eqb-true _ _ (t .0);
-        work-words = eqb-true _ _ (u .0);
-        work-coefs = eqb-true _ _ (u .1);
-        starts = r .0;
-        whole = eqb-true _ _ (q .0);
-        most = leb-true _ _ (q .1);
-      }
+      record { lent = lent-passes (a .0); starts = r .0; whole = eqb-true _ _ (q .0); most = leb-true _ _ (q .1) }
 
   good-shape : GoodShape words coefs ss ops bw bc ww wc ow oc → shapeGood (length words) (length coefs) ss (length ops) bw bc ww wc ow oc ≡ true
-  unfolding shapeGood lentGood spaceGood pairsGood
-  good-shape g =
-      both _ _ (both _ _ (eq-eqb _ _ (g .lent)) (both _ _ (eq-eqb _ _ (g .output)) (both _ _ (eq-eqb _ _ (g .bucket-words)) (both _ _ (eq-eqb _ _ (g .bucket-coefs)) (both _ _ (eq-eqb _ _ (g .work-words)) (eq-eqb _ _ (g .work-coefs)))))))
-      (both _ _ (g .starts) (both _ _ (eq-eqb _ _ (g .whole)) (le-leb _ _ (g .most))))
+  unfolding shapeGood pairsGood
+  good-shape g = both _ _ (good-lent (g .lent)) (both _ _ (g .starts) (both _ _ (eq-eqb _ _ (g .whole)) (le-leb _ _ (g .most))))
 
 operation-good : (code k n : ℕ) → operationGood code k n ≡ true → GoodOperation code k n
 unfolding operationGood
@@ -116,16 +116,6 @@ module _ (o : Order) (n p : ℕ) (words coefs ss : List ℕ) where
     pub before : (j : ℕ) → k ≤ j → j < at → refusalAt o n p words coefs ss j ≡ 0
     pub is : refusalAt o n p words coefs ss at ≡ r
 
-  none-from : (more k : ℕ) → refusalFrom o n p words coefs ss more k ≡ 0 → (j : ℕ) → k ≤ j → j < k + more → refusalAt o n p words coefs ss j ≡ 0
-  unfolding refusalFrom
-  none-from zero k e j l u = absurd (let z : ⊥ = omega arith in z)
-  none-from (suc more) k e j l u = by (refusalAt o n p words coefs ss k) refl e (λ f v. none-from more (k + 1) f j v (omega arith)) (decLe j k)
-    where
-      by : (r : ℕ) → refusalAt o n p words coefs ss k ≡ r → first r (refusalFrom o n p words coefs ss more (k + 1)) ≡ 0 → (refusalFrom o n p words coefs ss more (k + 1) ≡ 0 → k + 1 ≤ j → refusalAt o n p words coefs ss j ≡ 0) → Dec (j ≤ k) → refusalAt o n p words coefs ss j ≡ 0
-      by zero f h r (yes v) = ap (refusalAt o n p words coefs ss) (let z : j ≡ k = omega arith in z) ∙ f
-      by zero f h r (no v) = r h (omega arith)
-      by (suc c) f h r d = absurd (let z : ⊥ = omega arith in z)
-
   first-from : (more k : ℕ) → (refusalFrom o n p words coefs ss more k ≡ 0 → ⊥) → FirstFrom more k (refusalFrom o n p words coefs ss more k)
   unfolding refusalFrom
   first-from zero k ne = absurd (ne refl)
@@ -147,39 +137,35 @@ module _ (o : Order) (n p : ℕ) (words coefs ss : List ℕ) where
           at-or-past j l u (yes v) = ap (refusalAt o n p words coefs ss) (let z : j ≡ k = omega arith in z) ∙ f
           at-or-past j l u (no v) = r h .before j (omega arith) u
 
+-- polynomial by polynomial: one is the first that is refused, or none is
+pub by-polynomials : (J : ℕ → Type 0) (p order n : ℕ) (words coefs ss : List ℕ) → (FirstRefused p order n words coefs ss (polynomialsRefusal (orderOf order) n p words coefs ss) → J (polynomialsRefusal (orderOf order) n p words coefs ss))
+    → (NoneRefused p order n words coefs ss → polynomialsRefusal (orderOf order) n p words coefs ss ≡ 0 → J (polynomialsRefusal (orderOf order) n p words coefs ss)) → J (polynomialsRefusal (orderOf order) n p words coefs ss)
+by-polynomials J p order n words coefs ss refused none = by (decLe (polynomialsRefusal (orderOf order) n p words coefs ss) 0)
+  where
+    by : Dec (polynomialsRefusal (orderOf order) n p words coefs ss ≤ 0) → J (polynomialsRefusal (orderOf order) n p words coefs ss)
+    by (yes h) =
+        let z : polynomialsRefusal (orderOf order) n p words coefs ss ≡ 0 = omega arith in
+        none (λ k l. polynomials-pass (orderOf order) n p words coefs ss z k (omega arith)) z
+    by (no h) =
+        let ne : polynomialsRefusal (orderOf order) n p words coefs ss ≡ 0 → ⊥ = λ z. let w : ⊥ = omega arith in w in
+        let f = first-from (orderOf order) n p words coefs ss (length ss - 1) 0 ne in
+        refused (record { k = f .at; there = omega (arith, f .to); before = λ j u. f .before j (omega arith) u; is = f .is; some = ne })
+
 -- ---- the judgement
 module _ (p order n : ℕ) (words coefs ss ops : List ℕ) (bw bc ww wc ow oc : ℕ) where
-  abbrev by-tests : (b1 b2 b3 b8 b9 : Bool) → ℕ → ℕ
-  by-tests b1 b2 b3 b8 b9 q = first (first (unless b1 1) (first (unless b2 2) (unless b3 3))) (first (unless b8 8) (first (unless b9 9) q))
-
   abbrev J : ℕ → Type 0
   J r = Judged p order n words coefs ss ops bw bc ww wc ow oc r
 
-  last-refusal : ℕ
-  last-refusal = polynomialsRefusal (orderOf order) n p words coefs ss
-
-  judge : (b1 b2 b3 b8 b9 : Bool) → (isPrime p && leb p 65521) ≡ b1 → between 1 3 order ≡ b2 → between 1 6 n ≡ b3 → shapeGood (length words) (length coefs) ss (length ops) bw bc ww wc ow oc ≡ b8 → operationsGood ops (length ss - 1) ≡ b9
-      → J (by-tests b1 b2 b3 b8 b9 (polynomialsRefusal (orderOf order) n p words coefs ss))
-  judge false b2 b3 b8 b9 e1 e2 e3 e8 e9 = refused-1 (λ g. clash e1 (good-prime p g)) refl
-  judge true false b3 b8 b9 e1 e2 e3 e8 e9 = refused-2 (prime-good p e1) (λ g. clash e2 (good-between 1 3 order g)) refl
-  judge true true false b8 b9 e1 e2 e3 e8 e9 = refused-3 (prime-good p e1) (between-good 1 3 order e2) (λ g. clash e3 (good-between 1 6 n g)) refl
-  judge true true true false b9 e1 e2 e3 e8 e9 = refused-8 (prime-good p e1) (between-good 1 3 order e2) (between-good 1 6 n e3) (λ g. clash e8 (good-shape words coefs ss ops bw bc ww wc ow oc g)) refl
-  judge true true true true false e1 e2 e3 e8 e9 = refused-9 (prime-good p e1) (between-good 1 3 order e2) (between-good 1 6 n e3) (shape-good words coefs ss ops bw bc ww wc ow oc e8) (λ g. clash e9 (good-operations ops (length ss - 1) g)) refl
-  judge true true true true true e1 e2 e3 e8 e9 = by (decLe (polynomialsRefusal (orderOf order) n p words coefs ss) 0)
-    where
-      q : ℕ
-      q = polynomialsRefusal (orderOf order) n p words coefs ss
-
-      by : Dec (polynomialsRefusal (orderOf order) n p words coefs ss ≤ 0) → J (polynomialsRefusal (orderOf order) n p words coefs ss)
-      by (yes h) =
-          let z : polynomialsRefusal (orderOf order) n p words coefs ss ≡ 0 = omega arith in
-          passed (prime-good p e1) (between-good 1 3 order e2) (between-good 1 6 n e3) (shape-good words coefs ss ops bw bc ww wc ow oc e8) (operations-good ops (length ss - 1) e9) (λ k l. none-from (orderOf order) n p words coefs ss (length ss - 1) 0 z k (omega arith) (omega arith)) z
-      by (no h) =
-          let ne : polynomialsRefusal (orderOf order) n p words coefs ss ≡ 0 → ⊥ = λ z. let w : ⊥ = omega arith in w in
-          let f = first-from (orderOf order) n p words coefs ss (length ss - 1) 0 ne in
-          refused-polynomial (prime-good p e1) (between-good 1 3 order e2) (between-good 1 6 n e3) (shape-good words coefs ss ops bw bc ww wc ow oc e8) (operations-good ops (length ss - 1) e9) ne (record { k = f .at; there = omega (arith, f .to); before = λ j u. f .before j (omega arith) u; is = f .is })
+  past-setting : GoodSetting p order n → (b8 b9 : Bool) → shapeGood (length words) (length coefs) ss (length ops) bw bc ww wc ow oc ≡ b8 → operationsGood ops (length ss - 1) ≡ b9
+      → J (first (unless b8 8) (first (unless b9 9) (polynomialsRefusal (orderOf order) n p words coefs ss)))
+  past-setting s false b9 e8 e9 = refused-8 s (λ g. clash e8 (good-shape words coefs ss ops bw bc ww wc ow oc g)) refl
+  past-setting s true false e8 e9 = refused-9 s (shape-good words coefs ss ops bw bc ww wc ow oc e8) (λ g. clash e9 (good-operations ops (length ss - 1) g)) refl
+  past-setting s true true e8 e9 =
+      let shape = shape-good words coefs ss ops bw bc ww wc ow oc e8 in
+      let operations = operations-good ops (length ss - 1) e9 in
+      by-polynomials J p order n words coefs ss (λ f. refused-polynomial s shape operations f) (λ f z. passed s shape operations f z)
 
   -- "Opening order: 1, 2, 3, 8, 9; then polynomial by polynomial": every run is refused under exactly one condition, or passes
   pub judged : Judged p order n words coefs ss ops bw bc ww wc ow oc (runRefusal p order n words coefs ss ops bw bc ww wc ow oc)
-  unfolding runRefusal setting
-  judged = judge (isPrime p && leb p 65521) (between 1 3 order) (between 1 6 n) (shapeGood (length words) (length coefs) ss (length ops) bw bc ww wc ow oc) (operationsGood ops (length ss - 1)) refl refl refl refl refl
+  unfolding runRefusal
+  judged = by-setting J p order n (λ r s. refused-setting s) (λ s. past-setting s (shapeGood (length words) (length coefs) ss (length ops) bw bc ww wc ow oc) (operationsGood ops (length ss - 1)) refl refl)

@@ -7,4 +7,5 @@ pub mod RunLaws
 pub mod ReductionLaws
 pub mod RefusalLaws
 pub mod Judgements
+pub mod ReductionJudgements
 pub mod Outcomes

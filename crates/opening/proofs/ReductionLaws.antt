@@ -15,10 +15,11 @@ use Rattle.monomial.proofs.Places.{and-both}
 use Rattle.polynomial.specs.Opening.{startsGood, first}
 use Rattle.opening.specs.Run.{unless, setting, lentGood, polynomialsRefusal}
 use Rattle.opening.specs.Reduction.{reductionShape, noneZero, divisorsGood, reductionRefusal, ReductionOpened}
+use Rattle.opening.specs.ReductionJudgement.{GoodReductionShape}
 use Rattle.opening.proofs.Tests.{first-none, first-some, passed}
 use Rattle.opening.proofs.SettingLaws.{setting-passes}
 use Rattle.opening.proofs.PolynomialLaws.{polynomials-pass}
-use Rattle.opening.proofs.ShapeLaws.{LentShaped, lent-passes}
+use Rattle.opening.proofs.ShapeLaws.{lent-passes}
 
 pub few-starts : (n : ℕ) → n ≤ 1 → ltb 1 n ≡ false
 few-starts n h = lt-leb 2 n (omega arith)
@@ -69,19 +70,13 @@ rising (s ∷ []) h k l = absurd (let z : ⊥ = omega arith in z)
 rising (s ∷ (t ∷ ss)) h zero l = leb-true (suc s) t (and-both (ltb s t) (noneZero (t ∷ ss)) h .0)
 rising (s ∷ (t ∷ ss)) h (suc k) l = rising (t ∷ ss) (and-both (ltb s t) (noneZero (t ∷ ss)) h .1) k (let m : k + 1 < suc (length ss) = omega arith in m)
 
-divisors-rise : (ss : List ℕ) → divisorsGood ss ≡ true → (k : ℕ) → 1 ≤ k → k + 1 < length ss → getD ss k 0 < getD ss (k + 1) 0
+pub divisors-rise : (ss : List ℕ) → divisorsGood ss ≡ true → (k : ℕ) → 1 ≤ k → k + 1 < length ss → getD ss k 0 < getD ss (k + 1) 0
 divisors-rise [] h k one l = absurd (let z : ⊥ = omega arith in z)
 divisors-rise (s ∷ ss) h zero one l = absurd (let z : ⊥ = omega arith in z)
 divisors-rise (s ∷ ss) h (suc k) one l = rw (add-one (suc k)) (rising ss h k (let m : k + 1 < length ss = omega arith in m))
 
 -- what a good shape is
-pub record ReductionShaped (words coefs : ℕ) (ss : List ℕ) (limit bw bc ww wc ow oc : ℕ) : Type 0 where
-  pub lent : LentShaped words coefs bw bc ww wc ow oc
-  pub starts : startsGood ss words ≡ true
-  pub some : 1 < length ss
-  pub few-steps : limit ≤ 8796093022208
-
-pub reduction-shape-passes : {words coefs : ℕ} {ss : List ℕ} {limit bw bc ww wc ow oc : ℕ} → reductionShape words coefs ss limit bw bc ww wc ow oc ≡ true → ReductionShaped words coefs ss limit bw bc ww wc ow oc
+pub reduction-shape-passes : {words coefs : ℕ} {ss : List ℕ} {limit bw bc ww wc ow oc : ℕ} → reductionShape words coefs ss limit bw bc ww wc ow oc ≡ true → GoodReductionShape words coefs ss limit bw bc ww wc ow oc
 unfolding reductionShape
 reduction-shape-passes {words} {coefs} {ss} {limit} {bw} {bc} {ww} {wc} {ow} {oc} h =
     let x = and-both (lentGood words coefs bw bc ww wc ow oc) (startsGood ss words && (ltb 1 (length ss) && leb limit 8796093022208)) h in

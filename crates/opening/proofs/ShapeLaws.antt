@@ -8,17 +8,10 @@ use lib.Dec.{eqb}
 use Rattle.monomial.proofs.Places.{and-both}
 use Rattle.polynomial.specs.Opening.{startsGood}
 use Rattle.opening.specs.Run.{spaceGood, lentGood, pairsGood, shapeGood}
+use Rattle.opening.specs.Judgement.{GoodLent}
 
 -- what is lent, by its lengths
-pub record LentShaped (words coefs bw bc ww wc ow oc : ℕ) : Type 0 where
-  pub lent : words ≡ coefs
-  pub output : ow ≡ oc
-  pub bucket-words : bw ≡ 5460
-  pub bucket-coefs : bc ≡ 5460
-  pub work-words : ww ≡ 8192
-  pub work-coefs : wc ≡ 8192
-
-pub lent-passes : {words coefs bw bc ww wc ow oc : ℕ} → lentGood words coefs bw bc ww wc ow oc ≡ true → LentShaped words coefs bw bc ww wc ow oc
+pub lent-passes : {words coefs bw bc ww wc ow oc : ℕ} → lentGood words coefs bw bc ww wc ow oc ≡ true → GoodLent words coefs bw bc ww wc ow oc
 unfolding lentGood spaceGood
 lent-passes {words} {coefs} {bw} {bc} {ww} {wc} {ow} {oc} h =
     let b = and-both (eqb words coefs) (eqb ow oc && spaceGood bw bc ww wc) h in

@@ -17,14 +17,27 @@ GoodPrime p = Prime p × (p ≤ 65521)
 abbrev pub Between : (low high x : ℕ) → Type 0
 Between low high x = (low ≤ x) × (x ≤ high)
 
--- "8: words and coefficients (input or output) of unequal length, bucket or work space of another size than above, starts missing or not as above, operations not whole pairs or over 16,777,216 of them"
-pub record GoodShape (words coefs ss ops : List ℕ) (bw bc ww wc ow oc : ℕ) : Type 0 where
-  pub lent : length words ≡ length coefs
+abbrev pub GoodSetting : (p order n : ℕ) → Type 0
+GoodSetting p order n = GoodPrime p × Between 1 3 order × Between 1 6 n
+
+-- the setting is refused, with r
+pub data SettingRefused (p order n r : ℕ) : Type 0 where
+  refused-1 : (GoodPrime p → ⊥) → r ≡ 1 → SettingRefused p order n r
+  refused-2 : GoodPrime p → (Between 1 3 order → ⊥) → r ≡ 2 → SettingRefused p order n r
+  refused-3 : GoodPrime p → Between 1 3 order → (Between 1 6 n → ⊥) → r ≡ 3 → SettingRefused p order n r
+
+-- "8: words and coefficients (input or output) of unequal length, bucket or work space of another size than above", by the lengths
+pub record GoodLent (words coefs bw bc ww wc ow oc : ℕ) : Type 0 where
+  pub lent : words ≡ coefs
   pub output : ow ≡ oc
   pub bucket-words : bw ≡ 5460
   pub bucket-coefs : bc ≡ 5460
   pub work-words : ww ≡ 8192
   pub work-coefs : wc ≡ 8192
+
+-- 8, with "starts missing or not as above, operations not whole pairs or over 16,777,216 of them"
+pub record GoodShape (words coefs ss ops : List ℕ) (bw bc ww wc ow oc : ℕ) : Type 0 where
+  pub lent : GoodLent (length words) (length coefs) bw bc ww wc ow oc
   pub starts : startsGood ss (length words) ≡ true
   pub whole : length ops % 2 ≡ 0
   pub most : length ops ≤ 33554432
@@ -38,19 +51,23 @@ GoodOperations [] polynomials = Unit {0}
 GoodOperations (code ∷ []) polynomials = ⊥
 GoodOperations (code ∷ (k ∷ ops)) polynomials = GoodOperation code k polynomials × GoodOperations ops polynomials
 
-module _ (p order n : ℕ) (words coefs ss ops : List ℕ) (bw bc ww wc ow oc : ℕ) where
+module _ (p order n : ℕ) (words coefs ss : List ℕ) where
+  -- no polynomial is refused
+  abbrev pub NoneRefused : Type 0
+  NoneRefused = (k : ℕ) → k < length ss - 1 → refusalAt (orderOf order) n p words coefs ss k ≡ 0
+
   -- "polynomial by polynomial": polynomial k is the first that is refused, with r, which is 4, 5 or 6
   pub record FirstRefused (r : ℕ) : Type 0 where
     pub k : ℕ
     pub there : k < length ss - 1
     pub before : (j : ℕ) → j < k → refusalAt (orderOf order) n p words coefs ss j ≡ 0
     pub is : refusalAt (orderOf order) n p words coefs ss k ≡ r
+    pub some : r ≡ 0 → ⊥
 
-  pub data Judged (r : ℕ) : Type 0 where
-    refused-1 : (GoodPrime p → ⊥) → r ≡ 1 → Judged r
-    refused-2 : GoodPrime p → (Between 1 3 order → ⊥) → r ≡ 2 → Judged r
-    refused-3 : GoodPrime p → Between 1 3 order → (Between 1 6 n → ⊥) → r ≡ 3 → Judged r
-    refused-8 : GoodPrime p → Between 1 3 order → Between 1 6 n → (GoodShape words coefs ss ops bw bc ww wc ow oc → ⊥) → r ≡ 8 → Judged r
-    refused-9 : GoodPrime p → Between 1 3 order → Between 1 6 n → GoodShape words coefs ss ops bw bc ww wc ow oc → (GoodOperations ops (length ss - 1) → ⊥) → r ≡ 9 → Judged r
-    refused-polynomial : GoodPrime p → Between 1 3 order → Between 1 6 n → GoodShape words coefs ss ops bw bc ww wc ow oc → GoodOperations ops (length ss - 1) → (r ≡ 0 → ⊥) → FirstRefused r → Judged r
-    passed : GoodPrime p → Between 1 3 order → Between 1 6 n → GoodShape words coefs ss ops bw bc ww wc ow oc → GoodOperations ops (length ss - 1) → ((k : ℕ) → k < length ss - 1 → refusalAt (orderOf order) n p words coefs ss k ≡ 0) → r ≡ 0 → Judged r
+-- "Opening order: 1, 2, 3, 8, 9; then polynomial by polynomial"
+pub data Judged (p order n : ℕ) (words coefs ss ops : List ℕ) (bw bc ww wc ow oc r : ℕ) : Type 0 where
+  refused-setting : SettingRefused p order n r → Judged p order n words coefs ss ops bw bc ww wc ow oc r
+  refused-8 : GoodSetting p order n → (GoodShape words coefs ss ops bw bc ww wc ow oc → ⊥) → r ≡ 8 → Judged p order n words coefs ss ops bw bc ww wc ow oc r
+  refused-9 : GoodSetting p order n → GoodShape words coefs ss ops bw bc ww wc ow oc → (GoodOperations ops (length ss - 1) → ⊥) → r ≡ 9 → Judged p order n words coefs ss ops bw bc ww wc ow oc r
+  refused-polynomial : GoodSetting p order n → GoodShape words coefs ss ops bw bc ww wc ow oc → GoodOperations ops (length ss - 1) → FirstRefused p order n words coefs ss r → Judged p order n words coefs ss ops bw bc ww wc ow oc r
+  passed : GoodSetting p order n → GoodShape words coefs ss ops bw bc ww wc ow oc → GoodOperations ops (length ss - 1) → NoneRefused p order n words coefs ss → r ≡ 0 → Judged p order n words coefs ss ops bw bc ww wc ow oc r

@@ -1,2 +1,3 @@
 pub mod OpenedLaws
 pub mod OutcomeLaws
+pub mod Demands
