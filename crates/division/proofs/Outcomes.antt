@@ -1,8 +1,8 @@
 -- Wrong programs for reductions: for each a call, and what is right there; the wrong program makes something else of it. Modulo 7 in dp, n = 2, with document 01's polynomials. Assumes nothing.
-use mathlib.Core.Path.{_≡_, refl, ap, _∙_}
-use mathlib.Core.Bool.{Bool, true, false}
+use mathlib.Core.Path.{_≡_, refl, ap}
+use mathlib.Core.Bool.{Bool, true}
 use mathlib.Core.List.{List, [], _∷_}
-use Prim.Native.Nat.{ℕ, zero, suc, _+_, _<_, Ordering}
+use Prim.Native.Nat.{ℕ, suc, _+_, _<_, Ordering}
 use lib.ListN.{length}
 use Rattle.residue.specs.Modular.{inverseBelow, inverseOf}
 use Rattle.monomial.specs.Layout.{wordOf, bytes}

@@ -1,19 +1,19 @@
 -- Demand 1 for the opening of a reduction: the refusal is the one whose condition holds where no earlier one does. Assumes nothing.
 use mathlib.Core.Path.{_≡_, refl, sym, ap, _∙_, subst}
-use mathlib.Core.Bool.{Bool, true, false, _&&_}
+use mathlib.Core.Bool.{Bool, true, false}
 use mathlib.Core.List.{List, [], _∷_}
-use Prim.Native.Nat.{ℕ, zero, suc, _+_, _-_, _<_, _≤_, min}
+use Prim.Native.Nat.{ℕ, suc, _+_, _-_, _<_, _≤_, min}
 use native.Mathlib.Numerals.{add-one}
 use native.Mathlib.Omega.{arith}
 use borrow.Author.Tests.{le-leb, lt-ltb}
-use lib.Dec.{leb, ltb}
-use lib.ListN.{length, getD, take, drop, length-take, length-drop}
+use lib.Dec.{ltb}
+use lib.ListN.{length, getD, drop, length-take, length-drop}
 use Rattle.monomial.specs.Exponents.{orderOf}
 use Rattle.polynomial.specs.Terms.{Term, terms}
-use Rattle.polynomial.specs.Opening.{startsGood, partOf, first}
+use Rattle.polynomial.specs.Opening.{partOf, first}
 use Rattle.polynomial.proofs.TermLists.{length-terms}
 use Rattle.polynomial.proofs.StartLaws.{good-within}
-use Rattle.opening.specs.Run.{unless, lentGood, polynomialsRefusal}
+use Rattle.opening.specs.Run.{unless, polynomialsRefusal}
 use Rattle.opening.specs.Reduction.{reductionShape, noneZero, divisorsGood, reductionRefusal}
 use Rattle.opening.specs.Judgement.{GoodSetting, NoneRefused, FirstRefused}
 use Rattle.opening.specs.ReductionJudgement.{GoodReductionShape, GoodDivisors, JudgedReduction, refused-setting, refused-8, refused-polynomial, refused-7, passed}

@@ -2,13 +2,11 @@
 use mathlib.Core.Path.{_≡_, refl, sym, ap, _∙_, subst}
 use mathlib.Core.Bool.{Bool, true, false}
 use mathlib.Core.List.{List, _++_, map}
-use Prim.Native.Nat.{ℕ, zero, suc, _+_, _-_, _%_, _<_, _≤_, Ordering}
+use Prim.Native.Nat.{ℕ, _+_, _-_, _%_, _<_, _≤_, Ordering}
 use native.Mathlib.Omega.{arith}
 use borrow.Author.Tests.{eq-eqb, ne-eqb, eqb-true}
 use lib.Dec.{eqb}
 use lib.ListN.{length, drop}
-use Rattle.residue.specs.Prime.{Prime}
-use Rattle.monomial.specs.declared.order.Order.{Order}
 use Rattle.monomial.specs.Exponents.{orderOf, divides, quotient, product, compareIn}
 use Rattle.monomial.specs.Layout.{Layout}
 use Rattle.monomial.specs.Words.{compareWords, dividesWord}
@@ -34,7 +32,7 @@ use Rattle.runs.specs.declared.Tally.{Tally}
 use Rattle.reducer.specs.Divisors.{divisorsOf}
 use Rattle.reductions.specs.declared.Answer.{Answer}
 use Rattle.reductions.specs.declared.Answer.the-variants.{Done, Refused}
-use Rattle.reductions.specs.Outcome.{ReductionOutcome, answerBy, tallyOf, ended, decidedBy, reducedThrough, reductionOutcome}
+use Rattle.reductions.specs.Outcome.{ReductionOutcome, answerBy, tallyOf, ended, reducedThrough, reductionOutcome}
 use Rattle.reductions.proofs.OutcomeLaws.{decided-none, decided-refused}
 use Rattle.reductions.proofs.OpenedLaws.{valid-polynomial, valid-divisors}
 
