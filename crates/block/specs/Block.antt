@@ -90,5 +90,10 @@ zeros s = below 1 s
 
 -- ---- what a header says
 
+-- the setting in the header from place `at` on
+abbrev pub settingAt : (at : ℕ) → List ℕ → Setting
+settingAt at s = record { p = numberAt 2 (at + 6) s; order = numberAt 1 (at + 8) s; n = numberAt 1 (at + 9) s }
+
+-- the first block's
 abbrev pub settingIn : List ℕ → Setting
-settingIn s = record { p = numberAt 2 6 s; order = numberAt 1 8 s; n = numberAt 1 9 s }
+settingIn s = settingAt 0 s
