@@ -1,13 +1,13 @@
 -- Bytes in a list: numbers put and got, and parts that are put one after the other. Assumes nothing.
 use mathlib.Core.Path.{_≡_, refl, sym, ap, ap₂, _∙_}
-use mathlib.Core.List.{List, [], _∷_, _++_, append-assoc, append-nil}
-use Prim.Native.Nat.{ℕ, zero, suc, _+_, _-_, _*_, _/_, _%_, _^_, _<_, _≤_}
+use mathlib.Core.List.{List, [], _∷_, _++_, append-assoc}
+use Prim.Native.Nat.{ℕ, zero, suc, _+_, _*_, _/_, _%_, _^_, _<_, _≤_}
 use native.Mathlib.Nat.{add-zero, mul-zero, pow-suc}
 use native.Mathlib.Numerals.{add-one}
 use native.Mathlib.Omega.{arith}
 use lib.ListN.{length, getD, take, drop, set, length-drop}
-use lib.Seq.{sets, sets-eq, take-add, take-take, drop-drop, drop-cons, take-at, drop-at, length-take-le, getD-take, getD-drop}
-use Rattle.monomial.specs.Layout.{bytes, ofBytes, Below}
+use lib.Seq.{sets, sets-eq, take-add, take-take, drop-drop, drop-cons, take-at, drop-at, length-take-le}
+use Rattle.monomial.specs.Layout.{bytes, ofBytes}
 use Rattle.monomial.proofs.ByteLaws.{length-bytes, bytes-below, ofBytes-bytes, bytes-of}
 use Rattle.merge.specs.Lent.{part}
 use Rattle.merge.proofs.Lists.{sets-append}

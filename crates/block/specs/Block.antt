@@ -15,9 +15,17 @@ numberAt k at s = ofBytes (part at k s)
 
 -- ---- the header, 16 bytes
 
--- "p (2), order (1), n (1), six zero bytes": the problem's setting
+-- "p (2), order (1), n (1), six zero bytes": the problem's setting, which begins at byte 6
 unfoldable pub settingBytes : Setting → List ℕ
 settingBytes s = bytes 2 (s .p) ++ (bytes 1 (s .order) ++ (bytes 1 (s .n) ++ replicate 6 0))
+
+-- the setting that a block's header has, from place `at` on
+abbrev pub settingAt : (at : ℕ) → List ℕ → Setting
+settingAt at s = record { p = numberAt 2 (at + 6) s; order = numberAt 1 (at + 8) s; n = numberAt 1 (at + 9) s }
+
+-- the first block's
+abbrev pub settingIn : List ℕ → Setting
+settingIn s = settingAt 0 s
 
 -- "block number from 0 (2 bytes), block count (2), terms here (2)", and the setting
 unfoldable pub header : (number count here : ℕ) → Setting → List ℕ
@@ -87,8 +95,3 @@ same (x ∷ xs) (y ∷ ys) = eqb x y && same xs ys
 -- each is 0
 abbrev pub zeros : List ℕ → Bool
 zeros s = below 1 s
-
--- ---- what a header says
-
-abbrev pub settingIn : List ℕ → Setting
-settingIn s = record { p = numberAt 2 6 s; order = numberAt 1 8 s; n = numberAt 1 9 s }

@@ -9,7 +9,7 @@ ghost use Prim.Native.Nat.{_+_, _≤_};
 ghost use lib.ListN.{length};
 ghost use lib.Seq.{sets};
 ghost use Rattle.merge.specs.Lent.{part};
-ghost use Rattle.block.specs.Block.{header, settingBytes, same, settingIn};
+ghost use Rattle.block.specs.Block.{header, settingBytes, same, settingAt};
 
 // The problem's setting, as a header has it.
 pub struct Setting {
@@ -29,15 +29,15 @@ pub fn put_setting(s: &mut [u8], at: usize, setting: Setting)
     clear(s, at + 4, 6);
 }
 
-// The setting that a block's header has.
-pub fn get_setting(s: &[u8]) -> Setting
-    requires { ⌜ 16 ≤ length (now s) ⌝ }
-    ensures { λ r. ⌜ r ≡ settingIn (now (s .entry)) ⌝ }
+// The setting in the header from place `at` on.
+pub fn get_setting(s: &[u8], at: usize) -> Setting
+    requires { ⌜ at + 16 ≤ length (now s) ⌝ }
+    ensures { λ r. ⌜ r ≡ settingAt at (now (s .entry)) ⌝ }
 {
     Setting {
-        p: get_2(s, 6),
-        order: get_1(s, 8),
-        n: get_1(s, 9),
+        p: get_2(s, at + 6),
+        order: get_1(s, at + 8),
+        n: get_1(s, at + 9),
     }
 }
 

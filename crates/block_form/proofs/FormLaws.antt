@@ -2,8 +2,7 @@
 use mathlib.Core.Path.{_≡_, refl, sym, ap, ap₂, _∙_}
 use mathlib.Core.Bool.{Bool, true, false, _&&_, and-false}
 use mathlib.Core.List.{List}
-use mathlib.Core.Logic.{_⊎_, inl, inr}
-use Prim.Native.Nat.{ℕ, zero, suc, _+_, _-_, _*_, _/_, _%_, _<_, _≤_}
+use Prim.Native.Nat.{ℕ, zero, suc, _+_, _-_, _*_, _%_, _<_, _≤_}
 use native.Mathlib.Decide.{decLe}
 use native.Mathlib.Numerals.{add-one}
 use native.Mathlib.Omega.{arith}
@@ -17,7 +16,7 @@ use Rattle.opening.specs.Run.{unless, between}
 use Rattle.opening.proofs.Tests.{first-none, passed}
 use Rattle.block.specs.declared.header.Setting.{Setting}
 use Rattle.block.specs.Block.{header, blockCount, same, zeros, settingIn}
-use Rattle.block_form.specs.Form.{allBelow, wholeBlocks, countIn, totalIn, hereOf, checksStand, blockStands, blocksStand, Counted, Lying, Formed, formRefusal}
+use Rattle.block_form.specs.Form.{allBelow, wholeBlocks, countIn, totalIn, hereOf, checksStand, blockStands, blocksStand, Counted, Formed, formRefusal}
 
 -- ---- a test of each number below another
 module _ (f : ℕ → Bool) where

@@ -5,13 +5,11 @@ use crate::count::total_in;
 use crate::count::whole_blocks;
 use block::check::check_stands;
 use block::filler::is_clear;
-use block::header::Setting;
 use block::header::get_setting;
 use block::header::header_stands;
 ghost use mathlib.Core.Path.{_≡_};
 ghost use Prim.Native.Nat.{_≤_, _<_};
 ghost use lib.ListN.{length};
-ghost use Rattle.block.specs.Block.{settingIn};
 ghost use Rattle.block_form.specs.Form.{formRefusal, checksStand, blockStands, blocksStand, allBelow, countIn, Counted};
 
 // The refusal for the form of the bytes, 0 for none: 8, 14, 15 for all blocks, 16. The last two are the
@@ -54,7 +52,8 @@ fn blocks_stand(s: &[u8]) -> bool
 {
     let count = s.len() / 512;
     let total = total_in(s);
-    if block_count(total) != count {
+    let blocks = block_count(total);
+    if blocks != count {
         return false;
     }
     if 4096 < total {
@@ -68,10 +67,9 @@ fn each_stands(s: &[u8], count: usize, total: usize) -> bool
     requires { ⌜ Counted (now s) count total ⌝ }
     ensures { λ r. ⌜ r ≡ allBelow (countIn (now (s .entry))) (blockStands (now (s .entry))) ⌝ }
 {
-    let setting = get_setting(s);
     let mut k = 0;
     while k < count {
-        if !block_stands(s, k, count, total, setting) {
+        if !block_stands(s, k, count, total) {
             return false;
         }
         k += 1;
@@ -80,12 +78,13 @@ fn each_stands(s: &[u8], count: usize, total: usize) -> bool
 }
 
 // Whether block k has its header and filler.
-fn block_stands(s: &[u8], k: usize, count: usize, total: usize, setting: Setting) -> bool
-    requires { ⌜ Counted (now s) count total × (k < count) × (setting ≡ settingIn (now s)) ⌝ }
+fn block_stands(s: &[u8], k: usize, count: usize, total: usize) -> bool
+    requires { ⌜ Counted (now s) count total × (k < count) ⌝ }
     ensures { λ r. ⌜ r ≡ blockStands (now (s .entry)) k ⌝ }
 {
     let at = 512 * k;
     let here = here_of(total, k);
+    let setting = get_setting(s, 0);
     if !header_stands(s, at, k as u32, count as u32, here as u32, setting) {
         return false;
     }

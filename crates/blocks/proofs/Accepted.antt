@@ -1,19 +1,22 @@
 -- Bytes that reading accepts are the blocks of the polynomial that it gives. Assumes nothing.
 use mathlib.Core.Path.{_≡_, refl, sym, ap, ap₂, _∙_}
-use mathlib.Core.Bool.{Bool, true, false, _&&_}
-use mathlib.Core.List.{List, [], _∷_, _++_, append-assoc, append-nil}
-use Prim.Native.Nat.{ℕ, zero, suc, _+_, _-_, _*_, _/_, _%_, _^_, _<_, _≤_}
+use mathlib.Core.Bool.{true}
+use mathlib.Core.List.{List, [], _∷_, _++_, append-nil}
+use Prim.Native.Nat.{ℕ, zero, suc, _+_, _-_, _*_, _^_, _<_, _≤_}
 use native.Mathlib.Nat.{add-zero, mul-zero}
 use native.Mathlib.Omega.{arith}
 use borrow.Author.Tests.{eqb-true}
 use lib.Dec.{eqb}
-use lib.ListN.{length, getD, take, drop, replicate, length-drop}
-use lib.Seq.{take-all, take-suc, take-add, take-length, length-take-le, getD-take, getD-drop}
+use lib.ListN.{length, getD, take, drop, replicate, length-map}
+use lib.Seq.{take-all, take-suc, take-add, take-length, getD-take, getD-drop}
 use Rattle.monomial.specs.Layout.{bytes, ofBytes, Below}
 use Rattle.monomial.proofs.ByteLaws.{bytes-of}
 use Rattle.monomial.proofs.Places.{and-both, true-below}
 use Rattle.monomial.proofs.Places as M
-use Rattle.polynomial.specs.Terms.{Term, term}
+use Rattle.monomial.specs.Exponents.{orderOf}
+use Rattle.polynomial.specs.Terms.{Term, term, words, coefs}
+use Rattle.polynomial.specs.Opening.{refusalOf}
+use Rattle.polynomial.proofs.TermLists.{terms-of}
 use Rattle.merge.specs.Lent.{part}
 use Rattle.merge.proofs.Lists.{length-part}
 use Rattle.block.specs.declared.header.Setting.{Setting}
@@ -21,10 +24,11 @@ use Rattle.block.specs.Block.{numberAt, header, place, places, unused, checkOf,
 use Rattle.block.proofs.ByteLaws.{part-append}
 use Rattle.block.proofs.BlockLaws.{places-append}
 use Rattle.block_form.specs.Form.{countIn, totalIn, hereOf, checkStands, blockStands}
-use Rattle.blocks.specs.Reading.{placeAt, termAt, firstTerms, termsIn, readRefusal}
+use Rattle.blocks.specs.Reading.{placeAt, termsIn, readRefusal}
 use Rattle.block_form.proofs.FormLaws.{all-each, Form}
+use Rattle.blocks.specs.Outcome.{writeRefusal}
 use Rattle.blocks.proofs.PlaceLaws.{length-first, first-at}
-use Rattle.blocks.proofs.WriteLaws.{length-termsOf, termsOf-few}
+use Rattle.blocks.proofs.WriteLaws.{no-stop, length-termsOf, termsOf-few}
 use Rattle.blocks.proofs.ReadLaws.{read-passes}
 
 -- ---- what the tests say
@@ -153,6 +157,21 @@ module _ (s : List ℕ) (u : Below 256 s) where
     all-blocks =
         let e : count ≡ blockCount (length ts) = sym (f .stand .fits) ∙ ap blockCount (sym long) in
         sym (take-all (512 * count) s (omega (arith, length-s))) ∙ (blocks-are count (omega arith) ∙ ap (λ (n : ℕ). firstBlocks n t ts n) e)
+
+-- Writing refuses nothing that reading accepts, with room for as many bytes.
+pub accepted-written : (s : List ℕ) (ow oc : ℕ) → readRefusal s ow oc ≡ 0 → writeRefusal (settingIn s) (words (termsIn s)) (coefs (termsIn s)) (length s) ≡ 0
+accepted-written s ow oc h =
+    let r = read-passes s ow oc h in
+    let t = settingIn s in
+    let ts = termsIn s in
+    let w = r .form .whole in
+    let f = r .form .stand in
+    let lw : length (words ts) ≡ totalIn s = length-map ts (λ u. u .mono) ∙ length-first s (totalIn s) in
+    let lc : length (coefs ts) ≡ totalIn s = length-map ts (λ u. u .coef) ∙ length-first s (totalIn s) in
+    let e : blockCount (length (words ts)) ≡ countIn s = ap blockCount lw ∙ f .fits in
+    sym (no-stop t (words ts) (coefs ts) (length s) (r .content .set) (lw ∙ sym lc)
+    (ap (refusalOf (orderOf (t .order)) (t .n) (t .p)) (terms-of ts) ∙ r .content .good)
+    (omega (arith, lw, f .few)) (omega (arith, e, w .whole)))
 
 -- Each number of accepted bytes is determined: they are the blocks of the setting and the terms that reading gives (`readOutcome`).
 pub accepted-blocks : (s : List ℕ) (ow oc : ℕ) → Below 256 s → readRefusal s ow oc ≡ 0 → s ≡ blocksOf (settingIn s) (termsIn s)

@@ -1,23 +1,20 @@
 -- What lies where in the blocks of a polynomial. Assumes nothing.
-use mathlib.Core.Path.{_≡_, refl, sym, ap, ap₂, _∙_}
-use mathlib.Core.List.{List, [], _∷_, _++_, append-assoc}
-use Prim.Native.Nat.{ℕ, zero, suc, _+_, _-_, _*_, _/_, _%_, _^_, _<_, _≤_}
+use mathlib.Core.Path.{_≡_, refl, sym, ap, _∙_}
+use mathlib.Core.List.{List, [], _∷_, _++_}
+use Prim.Native.Nat.{ℕ, zero, suc, _+_, _-_, _*_, _^_, _<_, _≤_}
 use native.Mathlib.Decide.{decLe}
-use native.Mathlib.Nat.{mod-eq-of-lt, mod-lt}
+use native.Mathlib.Nat.{mod-eq-of-lt}
 use native.Mathlib.Omega.{arith}
-use lib.Dec.{lit<}
-use lib.ListN.{length, getD, take, drop, replicate, length-append, length-replicate, length-drop}
-use lib.Seq.{take-all, take-append-le, drop-append-le, drop-append-add, getD-take, getD-drop}
+use lib.ListN.{length, getD, take, drop, length-replicate, length-drop}
+use lib.Seq.{take-all, take-append-le, drop-append-le, drop-append-add}
 use Rattle.monomial.specs.Layout.{bytes, ofBytes}
 use Rattle.monomial.proofs.ByteLaws.{length-bytes, ofBytes-bytes}
 use Rattle.polynomial.specs.Terms.{Term, term}
 use Rattle.merge.specs.Lent.{part}
 use Rattle.block.specs.declared.header.Setting.{Setting}
-use Rattle.block.specs.Block.{numberAt, settingBytes, header, place, places, unused, checkOf, body, block, termsOf, blockCount, firstBlocks, blocksOf}
-use Rattle.block.proofs.ByteLaws.{part-part}
+use Rattle.block.specs.Block.{settingBytes, header, place, places, unused, checkOf, body, block, termsOf, firstBlocks}
 use Rattle.block.proofs.BlockLaws.{length-header, length-places, length-body, length-block}
-use Rattle.blocks.specs.Reading.{placeAt, termAt}
-use Rattle.blocks.proofs.WriteLaws.{length-blocks, termsOf-few, length-termsOf}
+use Rattle.blocks.proofs.WriteLaws.{length-blocks, termsOf-few}
 
 -- ---- parts of two lists in a row
 pub part-left : (xs ys : List ℕ) (at n : ℕ) → at + n ≤ length xs → part at n (xs ++ ys) ≡ part at n xs

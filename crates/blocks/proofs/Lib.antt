@@ -5,3 +5,4 @@ mod InsideLaws
 pub mod RoundTrip
 pub mod Accepted
 pub mod Counts
+mod Outcomes

@@ -1,6 +1,6 @@
 -- The terms in blocks, place by place. Assumes nothing.
 use mathlib.Core.Path.{_≡_, refl, sym, ap, ap₂, _∙_}
-use mathlib.Core.Bool.{Bool, true, false, _&&_}
+use mathlib.Core.Bool.{Bool}
 use mathlib.Core.List.{List, [], _∷_, _++_, map, map-append}
 use Prim.Native.Nat.{ℕ, zero, suc, _+_, _-_, _*_, _/_, _%_, _^_, _<_, _≤_, Ordering}
 use native.Mathlib.Decide.{decLe}
@@ -8,7 +8,6 @@ use native.Mathlib.Nat.{mul-add-mod-self-left, mod-eq-of-lt}
 use native.Mathlib.Numerals.{add-one}
 use native.Mathlib.Omega.{arith}
 use borrow.Author.Tests.{eq-eqb, ne-eqb}
-use lib.Dec.{eqb}
 use lib.ListN.{length, getD, set, length-append, length-map, length-set, List·getD-map, List·getD-append}
 use lib.Seq.{sets, getD-at}
 use Rattle.monomial.specs.declared.order.Order.{Order}
@@ -19,7 +18,7 @@ use Rattle.polynomial.proofs.TermLists.{terms-of}
 use Rattle.polynomial.proofs.OpeningLaws.{Looked, look-start, look-stop, look-next, look-ends, still-falls, no-fall}
 use Rattle.merge.proofs.Lists.{sets-snoc}
 use Rattle.block.specs.Block.{numberAt}
-use Rattle.block_form.specs.Form.{countIn, Lying}
+use Rattle.block_form.specs.Form.{Lying}
 use Rattle.blocks.specs.Reading.{placeAt, nextBy, nextPlace, termAt, firstTerms, orderStep}
 
 -- ---- places

@@ -1,7 +1,6 @@
 -- The outcome of reading, at each of its returns. Assumes nothing.
 use mathlib.Core.Path.{_≡_, refl, sym, ap, ap₂, _∙_}
-use mathlib.Core.Bool.{true, false}
-use mathlib.Core.List.{List, [], _∷_, _++_}
+use mathlib.Core.List.{List, _++_}
 use Prim.Native.Nat.{ℕ, zero, suc, _+_, _<_, _≤_}
 use native.Mathlib.Omega.{arith}
 use borrow.Author.Tests.{leb-true, le-leb, lt-leb}
@@ -14,10 +13,8 @@ use Rattle.polynomial.specs.Opening.{first, refusalOf}
 use Rattle.opening.specs.Run.{unless, setting}
 use Rattle.opening.specs.Refusals.{refusalNamed}
 use Rattle.opening.proofs.Tests.{first-none, first-some, passed}
-use Rattle.opening.proofs.SettingLaws.{Set, setting-passes}
 use Rattle.block.specs.declared.header.Setting.{Setting}
 use Rattle.block.specs.Block.{settingIn}
-use Rattle.blocks.specs.declared.read.Reading.{Reading}
 use Rattle.blocks.specs.declared.read.Reading.the-variants as R
 use Rattle.block_form.specs.Form.{totalIn, formRefusal}
 use Rattle.blocks.specs.Reading.{firstTerms, termsIn, contentRefusal, readRefusal}
@@ -53,7 +50,7 @@ module _ (s : List ℕ) (ow : ℕ) (t : Setting) (e : t ≡ settingIn s) where
 
 -- ---- what is not refused
 pub record Content (s : List ℕ) (ow : ℕ) : Type 0 where
-  pub set : Set (settingIn s .p) (settingIn s .order) (settingIn s .n)
+  pub set : setting (settingIn s .p) (settingIn s .order) (settingIn s .n) ≡ 0
   pub good : refusalOf (orderOf (settingIn s .order)) (settingIn s .n) (settingIn s .p) (termsIn s) ≡ 0
   pub room : totalIn s ≤ ow
 
@@ -65,7 +62,7 @@ content-passes s ow h =
     let a = first-none (setting (t .p) (t .order) (t .n)) (first r (unless (leb (totalIn s) ow) 10)) h in
     let b = first-none r (unless (leb (totalIn s) ow) 10) (a .1) in
     record {
-      set = setting-passes (t .p) (t .order) (t .n) (a .0);
+      set = a .0;
       good = b .0;
       room = leb-true (totalIn s) ow (passed (leb (totalIn s) ow) 10 (omega arith) (b .1));
     }

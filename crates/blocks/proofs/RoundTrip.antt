@@ -1,27 +1,26 @@
 -- Reading what was written gives the same setting and polynomial. Assumes nothing.
 use mathlib.Core.Path.{_≡_, refl, sym, ap, ap₂, _∙_}
-use mathlib.Core.Bool.{Bool, true, false, _&&_}
+use mathlib.Core.Bool.{true, _&&_}
 use mathlib.Core.List.{List, [], _∷_, _++_}
 use Prim.Native.Nat.{ℕ, zero, suc, _+_, _-_, _*_, _/_, _%_, _^_, _<_, _≤_}
 use native.Mathlib.Nat.{mod-lt}
 use native.Mathlib.Omega.{arith}
 use borrow.Author.Tests.{eq-eqb, le-leb}
-use lib.Dec.{lit<, leb, eqb}
-use lib.ListN.{length, getD, take, drop, replicate}
+use lib.Dec.{lit<, leb}
+use lib.ListN.{length, getD, drop}
 use lib.Seq.{ext-getD, getD-take, getD-drop}
 use Rattle.monomial.specs.Exponents.{orderOf}
 use Rattle.monomial.specs.Layout.{bytes, ofBytes, Layout}
 use Rattle.monomial.proofs.LayoutLaws.{layout-packed}
 use Rattle.monomial.proofs.Places.{below-zeros}
-use Rattle.polynomial.specs.Terms.{Term, term, terms, words, coefs, All}
+use Rattle.polynomial.specs.Terms.{Term, term, terms, coefs, All}
 use Rattle.polynomial.specs.Opening.{first, refusalOf}
 use Rattle.polynomial.proofs.TermLists.{length-terms, words-terms, coefs-terms}
 use Rattle.polynomial.proofs.OpeningLaws.{passes}
 use Rattle.merge.specs.Lent.{part}
-use Rattle.opening.specs.Run.{unless, between, setting}
-use Rattle.opening.proofs.SettingLaws.{Set}
+use Rattle.opening.specs.Run.{unless, setting}
 use Rattle.block.specs.declared.header.Setting.{Setting}
-use Rattle.block.specs.Block.{numberAt, header, unused, sumWords, checkOf, body, block, termsOf, blockCount, firstBlocks, blocksOf, same, zeros, settingIn}
+use Rattle.block.specs.Block.{numberAt, header, unused, sumWords, checkOf, body, block, termsOf, blockCount, blocksOf, same, zeros, settingIn}
 use Rattle.block.proofs.ByteLaws.{part-part}
 use Rattle.block.proofs.BlockLaws.{length-header, length-body}
 use Rattle.blocks.specs.declared.read.Reading.the-variants as R

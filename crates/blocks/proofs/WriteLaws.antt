@@ -1,8 +1,7 @@
 -- Blocks put one after the other, and the outcome of writing at each of its returns. Assumes nothing.
 use mathlib.Core.Path.{_≡_, refl, sym, ap, ap₂, _∙_}
-use mathlib.Core.Bool.{Bool, true, false}
-use mathlib.Core.List.{List, [], _∷_, _++_}
-use Prim.Native.Nat.{ℕ, zero, suc, _+_, _-_, _*_, _/_, _<_, _≤_, min}
+use mathlib.Core.List.{List, _++_}
+use Prim.Native.Nat.{ℕ, zero, suc, _+_, _-_, _*_, _<_, _≤_, min}
 use native.Mathlib.Decide.{decLe}
 use native.Mathlib.Numerals.{add-one}
 use native.Mathlib.Omega.{arith}
@@ -22,7 +21,6 @@ use Rattle.block.specs.declared.header.Setting.{Setting}
 use Rattle.block.specs.Block.{block, termsOf, blockCount, firstBlocks, blocksOf}
 use Rattle.block.proofs.ByteLaws.{joined}
 use Rattle.block.proofs.BlockLaws.{length-block}
-use Rattle.blocks.specs.declared.write.Writing.{Writing}
 use Rattle.blocks.specs.declared.write.Writing.the-variants as W
 use Rattle.block_form.specs.Form.{hereOf}
 use Rattle.blocks.specs.Outcome.{writeRefusal, WriteOutcome, writtenBy}

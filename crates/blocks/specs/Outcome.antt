@@ -10,7 +10,6 @@ use Rattle.opening.specs.Run.{unless, setting}
 use Rattle.opening.specs.Refusals.{refusalNamed}
 use Rattle.block.specs.declared.header.Setting.{Setting}
 use Rattle.block.specs.Block.{blockCount, blocksOf, settingIn}
-use Rattle.block_form.specs.Form.{totalIn}
 use Rattle.blocks.specs.Reading.{termsIn, readRefusal}
 use Rattle.blocks.specs.declared.write.Writing.{Writing}
 use Rattle.blocks.specs.declared.write.Writing.the-variants as W

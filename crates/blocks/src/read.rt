@@ -43,7 +43,7 @@ pub fn read_blocks(s: &[u8], words: &mut [u64], coefs: &mut [u32]) -> Reading
     }
     let total = total_in(s);
     get_terms(s, total, words, coefs);
-    let t = get_setting(s);
+    let t = get_setting(s, 0);
     Reading::Done {
         p: t.p,
         order: t.order,
@@ -68,7 +68,7 @@ fn content_refusal(s: &[u8], ow: usize) -> u32
     requires { ⌜ Formed (now s) ⌝ }
     ensures { λ r. ⌜ r ≡ contentRefusal (now (s .entry)) ow ⌝ }
 {
-    let t = get_setting(s);
+    let t = get_setting(s, 0);
     let number = setting(t.p, t.order, t.n);
     if number != 0 {
         return number;

@@ -3,11 +3,20 @@ use borrow.Author.Needs.{needs}
 use Rattle.block.proofs.header.get_setting.Statement.{statement}
 use Rattle.block.proofs.header.get_setting.Tie as tie
 
+add-get-2 : tie.Need-add-get-2
+add-get-2 c = search needs
+
 get-2-requires : tie.Need-get-2-requires
 get-2-requires c κs = search needs
 
+add-get-1 : tie.Need-add-get-1
+add-get-1 c = search needs
+
 get-1-requires : tie.Need-get-1-requires
 get-1-requires c κs = search needs
+
+add-get-1-2 : tie.Need-add-get-1-2
+add-get-1-2 c = search needs
 
 get-1-requires-2 : tie.Need-get-1-requires-2
 get-1-requires-2 c κs = search needs
@@ -16,4 +25,13 @@ returns : tie.Need-returns
 returns c = rw (c .before .before .get-2 .ensures, c .before .get-1 .ensures, c .get-12 .ensures)
 
 pub get-setting-spec : {M : Type 1} → statement M
-get-setting-spec = tie.close (tie.spec get-2-requires get-1-requires get-1-requires-2 returns)
+get-setting-spec =
+    tie.close
+    (tie.spec
+    add-get-2
+    get-2-requires
+    add-get-1
+    get-1-requires
+    add-get-1-2
+    get-1-requires-2
+    returns)

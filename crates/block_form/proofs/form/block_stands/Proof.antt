@@ -11,6 +11,9 @@ mul-at c = search needs
 here-of-requires : tie.Need-here-of-requires
 here-of-requires c κs = search needs
 
+get-setting-requires : tie.Need-get-setting-requires
+get-setting-requires c κs = search needs
+
 cast-header-stands : tie.Need-cast-header-stands
 cast-header-stands c = search needs
 
@@ -24,7 +27,7 @@ header-stands-requires : tie.Need-header-stands-requires
 header-stands-requires c κs = search needs
 
 returns : tie.Need-returns
-returns c = let z = c .before .before .before .before in let a = z .args in no-header (a .s .now) (a .k) (a .count) (a .total) _ (a .setting) (z .pre .0) (z .pre .2) (c .before .before .here-of .ensures) (no (c .before .header-stands .ensures) (c .if1 .taken))
+returns c = let z = c .before .before .before .before .before in let a = z .args in no-header (a .s .now) (a .k) (a .count) (a .total) _ _ (z .pre .0) (c .before .before .get-setting .ensures) (c .before .before .before .here-of .ensures) (no (c .before .header-stands .ensures) (c .if1 .taken))
 
 add-is-clear : tie.Need-add-is-clear
 add-is-clear c = search needs
@@ -45,7 +48,7 @@ is-clear-requires : tie.Need-is-clear-requires
 is-clear-requires c κs = search needs
 
 returns-2 : tie.Need-returns-2
-returns-2 c = let z = c .before .before .before .before .before in let a = z .args in by-filler (a .s .now) (a .k) (a .count) (a .total) _ (a .setting) (z .pre .0) (z .pre .2) (c .before .before .before .here-of .ensures) _ (yes (c .before .before .header-stands .ensures) (c .before .if1 .left)) (c .is-clear .ensures)
+returns-2 c = let z = c .before .before .before .before .before .before in let a = z .args in by-filler (a .s .now) (a .k) (a .count) (a .total) _ _ (z .pre .0) (c .before .before .before .get-setting .ensures) (c .before .before .before .before .here-of .ensures) _ (yes (c .before .before .header-stands .ensures) (c .before .if1 .left)) (c .is-clear .ensures)
 
 pub block-stands-spec : {M : Type 1} → statement M
 block-stands-spec =
@@ -53,6 +56,7 @@ block-stands-spec =
     (tie.spec
     mul-at
     here-of-requires
+    get-setting-requires
     cast-header-stands
     cast-header-stands-2
     cast-header-stands-3

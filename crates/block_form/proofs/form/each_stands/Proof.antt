@@ -11,23 +11,20 @@ use Rattle.block_form.proofs.form.each_stands.Statement.{statement}
 use Rattle.block_form.proofs.form.each_stands.Tie as tie
 
 abbrev Inv-loop : tie.InvT-loop
-Inv-loop s count total setting k₀ k = (k ≤ count) × (allBelow k (blockStands s) ≡ true)
+Inv-loop s count total k₀ k = (k ≤ count) × (allBelow k (blockStands s) ≡ true)
 
 abbrev μ-loop : tie.MeasureT-loop
-μ-loop s count total setting k₀ k = count - k
-
-get-setting-requires : tie.Need-get-setting-requires Inv-loop μ-loop
-get-setting-requires c κs = omega arith
+μ-loop s count total k₀ k = count - k
 
 loop-holds : tie.Need-loop-holds Inv-loop μ-loop
 unfolding allBelow
 loop-holds c = (omega arith, refl)
 
 block-stands-requires : tie.Need-block-stands-requires Inv-loop μ-loop
-block-stands-requires c κs = (c .before .before .before .before .pre, c .loop-test .taken, c .before .before .get-setting .ensures)
+block-stands-requires c κs = (c .before .before .before .pre, c .loop-test .taken)
 
 returns : tie.Need-returns Inv-loop μ-loop
-returns c = let h = c .before .before .before in let z = c .before .before .before .before .before .before in let a = z .args in all-fails (blockStands (a .s .now)) (countIn (a .s .now)) (h .loop .k) (omega (arith, z .pre .count-is, c .before .before .loop-test .taken)) (no (c .before .block-stands .ensures) (c .if1 .taken))
+returns c = let h = c .before .before .before in let z = c .before .before .before .before .before in let a = z .args in all-fails (blockStands (a .s .now)) (countIn (a .s .now)) (h .loop .k) (omega (arith, z .pre .count-is, c .before .before .loop-test .taken)) (no (c .before .block-stands .ensures) (c .if1 .taken))
 
 add-k : tie.Need-add-k Inv-loop μ-loop
 add-k c = omega arith
@@ -36,10 +33,10 @@ loop-less : tie.Need-loop-less Inv-loop μ-loop
 loop-less c = omega arith
 
 loop-again : tie.Need-loop-again Inv-loop μ-loop
-loop-again c = let h = c .before .before .before in let a = c .before .before .before .before .before .before .args in (omega arith, all-more (blockStands (a .s .now)) (h .loop .k) (h .loop .inv .1) (yes (c .before .block-stands .ensures) (c .if1 .left)))
+loop-again c = let h = c .before .before .before in let a = c .before .before .before .before .before .args in (omega arith, all-more (blockStands (a .s .now)) (h .loop .k) (h .loop .inv .1) (yes (c .before .block-stands .ensures) (c .if1 .left)))
 
 returns-2 : tie.Need-returns-2 Inv-loop μ-loop
-returns-2 c = let h = c .before in let z = c .before .before .before .before in let a = z .args in let e : h .loop .k ≡ countIn (a .s .now) = omega (arith, z .pre .count-is, c .loop-test .left, h .loop .inv .0) in sym (ap (λ (n : ℕ). allBelow n (blockStands (a .s .now))) (sym e) ∙ h .loop .inv .1)
+returns-2 c = let h = c .before in let z = c .before .before .before in let a = z .args in let e : h .loop .k ≡ countIn (a .s .now) = omega (arith, z .pre .count-is, c .loop-test .left, h .loop .inv .0) in sym (ap (λ (n : ℕ). allBelow n (blockStands (a .s .now))) (sym e) ∙ h .loop .inv .1)
 
 pub each-stands-spec : {M : Type 1} → statement M
 each-stands-spec =
@@ -47,7 +44,6 @@ each-stands-spec =
     (tie.spec
     Inv-loop
     μ-loop
-    get-setting-requires
     loop-holds
     block-stands-requires
     returns

@@ -1,0 +1,87 @@
+//! The text that the program `block_file` writes, from the model: its stored output must be the same.
+use second::block_store::{read, repair, Polynomial, Setting};
+use second::monomial::Order;
+use std::fmt::Write;
+
+const STORED: &str = include_str!("../../crates/block_file/stdout");
+
+/// A polynomial modulo 7, in dp and two variables.
+fn polynomial(terms: &[([u8; 2], u32)]) -> Polynomial {
+    let order = Order::DegRevLex;
+    Polynomial {
+        setting: Setting {
+            p: 7,
+            order: order.number(),
+            n: 2,
+        },
+        words: terms.iter().map(|(m, _)| order.word(m)).collect(),
+        coefs: terms.iter().map(|(_, c)| *c).collect(),
+    }
+}
+
+/// What is said of the polynomial written, and of the block read back.
+fn kept(text: &mut String, f: &Polynomial) {
+    let block = match f.write(512) {
+        Ok(block) => block,
+        Err(refusal) => return line(text, format!("refused {refusal}")),
+    };
+    line(text, "blocks 1".into());
+    row(text, "header", &block[..16]);
+    for place in block[16..76].chunks(12) {
+        row(text, "place ", place);
+    }
+    row(text, "check ", &block[508..]);
+    given(text, &block);
+}
+
+fn given(text: &mut String, block: &[u8]) {
+    let f = match read(block, 41, 41) {
+        Ok(f) => f,
+        Err(refusal) => return line(text, format!("refused {refusal}")),
+    };
+    let Setting { p, order, n } = f.setting;
+    let terms = f.words.len();
+    line(text, format!("p {p}\norder {order}\nn {n}\nterms {terms}"));
+    for (word, coef) in f.words.iter().zip(&f.coefs) {
+        line(text, format!("term {coef} {word:016x}"));
+    }
+}
+
+fn row(text: &mut String, name: &str, bytes: &[u8]) {
+    text.push_str(name);
+    for byte in bytes {
+        write!(text, " {byte:02x}").expect("a string takes all");
+    }
+    text.push('\n');
+}
+
+fn line(text: &mut String, what: String) {
+    text.push_str(&what);
+    text.push('\n');
+}
+
+#[test]
+fn stored() {
+    let text = &mut String::new();
+    line(text, "five terms, p = 7, dp, two variables".into());
+    let five = [
+        ([2, 0], 3),
+        ([1, 1], 1),
+        ([0, 2], 1),
+        ([1, 0], 1),
+        ([0, 1], 1),
+    ];
+    kept(text, &polynomial(&five));
+    line(text, "zero".into());
+    kept(text, &polynomial(&[]));
+    line(text, "terms that rise".into());
+    kept(text, &polynomial(&[([1, 0], 1), ([2, 0], 1)]));
+    line(text, "a file with a byte changed".into());
+    let mut block = polynomial(&[]).blocks();
+    block[0] = 1;
+    given(text, &block);
+    assert_eq!(text, STORED);
+    // Only the check is wrong there: put right, the block number is.
+    repair(&mut block);
+    assert_eq!(read(&block, 41, 41), Err(16));
+}
