@@ -8,7 +8,7 @@ use native.Mathlib.Numerals.{add-one}
 use native.Mathlib.Omega.{arith}
 use borrow.Author.Tests.{lt-ltb, le-ltb}
 use lib.Dec.{ltb}
-use lib.ListN.{length, getD, drop, set, length-set, drop-of-length-le}
+use lib.ListN.{length, getD, drop, drop-of-length-le}
 use lib.Seq.{drop-cons}
 use Rattle.monomial.specs.declared.order.Order.{Order}
 use Rattle.monomial.specs.declared.word.Product.{Product}
@@ -59,6 +59,12 @@ coef-within p ws cs h i k =
 pub coef-below : (p : ℕ) (ws cs : List ℕ) → Poly p ws cs → (i : ℕ) → i < length ws → getD cs i 0 < p
 coef-below p ws cs h i k = coef-within p ws cs h i k .1
 
+pub chosen-one : (f x y : ℕ) → f ≡ 1 → x ≡ chosen f x y
+chosen-one f x y h = rw h
+
+pub chosen-none : (f x y : ℕ) → f ≤ 1 → (f ≡ 1 → ⊥) → y ≡ chosen f x y
+chosen-none f x y h ne = let e : f ≡ 0 = omega arith in rw e
+
 -- a coefficient that is taken, or 0
 pub chosen-below : (f c p : ℕ) → 0 < p → c < p → chosen f c 0 < p
 chosen-below zero c p h k = h
@@ -73,11 +79,6 @@ pub record Bounds (la lb to lw lc i j k n l-ow l-oc : ℕ) : Type 0 where
   pub made : n ≤ i + j
   pub words-len : l-ow ≡ lw
   pub coefs-len : l-oc ≡ lc
-
--- a turn uses up f and g terms, at least one, and stores z
-pub next-bounds : {la lb to lw lc i j k n : ℕ} (ow oc : List ℕ) (w v l q z : ℕ) → Bounds la lb to lw lc i j k n (length ow) (length oc) → i < la → j < lb → l + q ≤ 1 → z ≤ 1
-    → Bounds la lb to lw lc (i + (l + q)) (j + (1 - l)) (k + z) (n + 1) (length (set ow k w)) (length (set oc k v))
-next-bounds ow oc w v l q z b hi hj hl hz = simp length-set (omega arith)
 
 -- ---- products that go over
 pub fits-word : (b : Bool) (w x : ℕ) (r : Product) → r ≡ productBy b w → r ≡ Word x → false ≡ not b
