@@ -1,4 +1,6 @@
 pub mod Lists
 pub mod State
 pub mod Steps
+pub mod Places
+pub mod Turns
 mod Outcomes

@@ -1,22 +1,22 @@
 -- A merge under way, over lists alone: what each turn of the loop does to it. All merges have this state. Assumes nothing.
-use mathlib.Core.Path.{_≡_, refl, sym, ap, ap₂, _∙_, subst}
+use mathlib.Core.Path.{_≡_, refl, sym, ap, ap₂, _∙_}
 use mathlib.Core.Bool.{Bool, true, false, not}
 use mathlib.Core.List.{List, [], _∷_, _++_, map, append-nil}
 use mathlib.Core.Logic.{_⊎_, inl, inr, ⊎-elim}
 use Prim.Native.Nat.{ℕ, zero, suc, _+_, _-_, _%_, _<_, _≤_, Ordering, Ordering·lt, Ordering·eq, Ordering·gt}
 use native.Mathlib.Nat.{add-zero, zero-add, add-assoc, mod-eq-of-lt}
 use native.Mathlib.Decide.{decLe}
-use borrow.Author.Tests.{eq-eqb, ne-eqb, eqb-true}
+use borrow.Author.Tests.{eq-eqb, ne-eqb}
 use lib.Dec.{eqb}
 use native.Mathlib.Omega.{arith}
 use lib.ListN.{length, drop, set, getD, length-append, length-map, drop-of-length-le, length-drop}
 use lib.Seq.{sets, set-set, append-snoc, length-sets, ext-getD, getD-drop}
-use Rattle.monomial.specs.TotalOrder.{TotalOrder}
+use Rattle.monomial.specs.TotalOrder.{turned, TotalOrder}
 use Rattle.polynomial.specs.Terms.{Term, term, terms, words, coefs, All}
 use Rattle.polynomial.specs.Merge.{keep, into, merge, comparedInto, compared, mergeCount}
 use Rattle.polynomial.specs.Opening.{isLarger}
 use Rattle.polynomial.proofs.MergeLaws.{merge-less, merge-same, merge-more, compared-less, compared-same, compared-more, Stands, less, same, more, stands}
-use Rattle.polynomial.proofs.TermLists.{length-terms, lead-at, words-terms, coefs-terms, map-drop}
+use Rattle.polynomial.proofs.TermLists.{length-terms, words-terms, coefs-terms, map-drop}
 use Rattle.merge.specs.Lent.{restOf, part, flag, chosen}
 use Rattle.merge.proofs.Lists.{sets-append, sets-snoc, length-part, getD-part, getD-sets-other}
 
@@ -176,100 +176,131 @@ same-state {cmp} {p} {n = n} s ex ey ew ec ek = record {
   coefs-are = ec ∙ s .coefs-are;
 }
 
--- ---- a turn, by its flags: l is 1 where x is larger, q where the two are like, and z where the sum that is stored is not 0
+-- ---- the flags of two monomials: l is 1 where a is larger, m where b is, and q where the two are like
+module _ (cmp : ℕ → ℕ → Ordering) (O : TotalOrder ℕ cmp) (a b l m q : ℕ) (el : l ≡ flag (isLarger (cmp a b))) (em : m ≡ flag (isLarger (cmp b a))) (eq : q ≡ flag (eqb a b)) where
+  l-by : (t : Ordering) → cmp a b ≡ t → l ≡ flag (isLarger t)
+  l-by t h = el ∙ ap (λ (u : Ordering). flag (isLarger u)) h
+
+  m-by : (t : Ordering) → cmp a b ≡ t → m ≡ flag (isLarger (turned t))
+  m-by t h = em ∙ ap (λ (u : Ordering). flag (isLarger u)) (O .turn a b ∙ ap turned h)
+
+  unlike : (cmp a b ≡ Ordering·eq → ⊥) → q ≡ 0
+  unlike h = eq ∙ ap flag (ne-eqb a b (λ e. h (ap (cmp a) (sym e) ∙ O .like a)))
+
+  flags-more : cmp a b ≡ Ordering·gt → (l ≡ 1) × (m ≡ 0) × (q ≡ 0)
+  flags-more h = (l-by Ordering·gt h, m-by Ordering·gt h, unlike (λ e. clash (sym h ∙ e)))
+    where
+      clash : _≡_ {A = Ordering} Ordering·gt Ordering·eq → ⊥
+      clash e = let w : _≡_ {A = ℕ} 0 1 = cc in omega arith
+
+  flags-less : cmp a b ≡ Ordering·lt → (l ≡ 0) × (m ≡ 1) × (q ≡ 0)
+  flags-less h = (l-by Ordering·lt h, m-by Ordering·lt h, unlike (λ e. clash (sym h ∙ e)))
+    where
+      clash : _≡_ {A = Ordering} Ordering·lt Ordering·eq → ⊥
+      clash e = let w : _≡_ {A = ℕ} 0 1 = cc in omega arith
+
+  flags-same : cmp a b ≡ Ordering·eq → (l ≡ 0) × (m ≡ 0) × (q ≡ 1)
+  flags-same h = (l-by Ordering·eq h, m-by Ordering·eq h, eq ∙ ap flag (eq-eqb a b (O .same a b h)))
+
+  -- one of the three flags is 1
+  pub one-flag : l + m + q ≡ 1
+  one-flag = go (stands cmp a b)
+    where
+      go : Stands cmp a b → l + m + q ≡ 1
+      go (less h) = omega (arith, flags-less h)
+      go (same h) = omega (arith, flags-same h)
+      go (more h) = omega (arith, flags-more h)
+
+-- ---- a turn, by its flags: l is 1 where x is larger, m where y is, q where the two are like, and z where the sum that is stored is not 0
 module _ {cmp : ℕ → ℕ → Ordering} {p : ℕ} {M : List (Term ℕ)} {N to : ℕ} {ow₀ oc₀ ow oc : List ℕ} {k n : ℕ} (L R : List (Term ℕ)) (i j : ℕ)
     (s : State cmp p M N to ow₀ oc₀ (drop i L) (drop j R) ow oc k n)
     (O : TotalOrder ℕ cmp) (x y : Term ℕ) (ex : drop i L ≡ x ∷ drop (i + 1) L) (ey : drop j R ≡ y ∷ drop (j + 1) R)
     (hx : (0 < x .coef) × (x .coef < p)) (hy : (0 < y .coef) × (y .coef < p))
-    (l q c z : ℕ) (el : l ≡ flag (isLarger (cmp (x .mono) (y .mono)))) (eq : q ≡ flag (eqb (x .mono) (y .mono)))
-    (ec : c ≡ (chosen (l + q) (x .coef) 0 + chosen (1 - l) (y .coef) 0) % p) (ez : z ≡ flag (not (eqb c 0))) where
+    (l m q c z : ℕ) (el : l ≡ flag (isLarger (cmp (x .mono) (y .mono)))) (em : m ≡ flag (isLarger (cmp (y .mono) (x .mono)))) (eq : q ≡ flag (eqb (x .mono) (y .mono)))
+    (ec : c ≡ (chosen (l + q) (x .coef) 0 + chosen (m + q) (y .coef) 0) % p) (ez : z ≡ flag (not (eqb c 0))) where
   pub Turned : Type 0
-  Turned = State cmp p M N to ow₀ oc₀ (drop (i + (l + q)) L) (drop (j + (1 - l)) R) (set ow k (chosen (l + q) (x .mono) (y .mono))) (set oc k c) (k + z) (n + 1)
-
-  unlike : (cmp (x .mono) (y .mono) ≡ Ordering·eq → ⊥) → q ≡ 0
-  unlike h = eq ∙ ap flag (ne-eqb (x .mono) (y .mono) (λ e. h (ap (cmp (x .mono)) (sym e) ∙ O .like (x .mono))))
-
-  by-cmp : (t : Ordering) → cmp (x .mono) (y .mono) ≡ t → l ≡ flag (isLarger t)
-  by-cmp t h = el ∙ ap (λ (u : Ordering). flag (isLarger u)) h
+  Turned = State cmp p M N to ow₀ oc₀ (drop (i + (1 - m)) L) (drop (j + (1 - l)) R) (set ow k (chosen m (y .mono) (x .mono))) (set oc k c) (k + z) (n + 1)
 
   stored-flag : (c ≡ 0 → ⊥) → z ≡ 1
   stored-flag h = ez ∙ ap (λ (b : Bool). flag (not b)) (ne-eqb c 0 h)
 
+  -- what is left, as the flags move the places
+  abbrev a-from : ℕ → List (Term ℕ)
+  a-from d = drop (i + d) L
+
+  abbrev b-from : ℕ → List (Term ℕ)
+  b-from d = drop (j + d) R
+
   turned-more : cmp (x .mono) (y .mono) ≡ Ordering·gt → Turned
   unfolding Turned
   turned-more h =
-      let l1 : l ≡ 1 = by-cmp Ordering·gt h in
-      let q0 : q ≡ 0 = unlike (λ e. clash (sym h ∙ e)) in
+      let f = flags-more cmp O (x .mono) (y .mono) l m q el em eq h in
+      let m0 : m ≡ 0 = omega arith in
+      let u1 : 1 - m ≡ 1 = omega arith in
+      let v0 : 1 - l ≡ 0 = omega arith in
       let f1 : l + q ≡ 1 = omega arith in
-      let g0 : 1 - l ≡ 0 = omega arith in
-      let c1 : c ≡ x .coef = ec ∙ (ap₂ (λ (f g : ℕ). (chosen f (x .coef) 0 + chosen g (y .coef) 0) % p) f1 g0 ∙ (ap (λ (m : ℕ). m % p) (add-zero (x .coef)) ∙ mod-eq-of-lt (hx .1))) in
+      let g0 : m + q ≡ 0 = omega arith in
+      let c1 : c ≡ x .coef = ec ∙ (ap₂ (λ (f g : ℕ). (chosen f (x .coef) 0 + chosen g (y .coef) 0) % p) f1 g0 ∙ (ap (λ (v : ℕ). v % p) (add-zero (x .coef)) ∙ mod-eq-of-lt (hx .1))) in
       let z1 : z ≡ 1 = stored-flag (λ e. let w : ⊥ = omega (arith, hx .0) in w) in
       same-state (after-more s O x y (drop (i + 1) L) (drop (j + 1) R) ex ey h)
-      (ap (λ (m : ℕ). drop (i + m) L) f1) (ap (λ (m : ℕ). drop (j + m) R) g0 ∙ ap (λ (m : ℕ). drop m R) (add-zero j))
-      (ap (λ (v : ℕ). set ow k (chosen v (x .mono) (y .mono))) f1)
+      (ap a-from u1) (ap b-from v0 ∙ ap (λ (v : ℕ). drop v R) (add-zero j))
+      (ap (λ (v : ℕ). set ow k (chosen v (y .mono) (x .mono))) m0)
       (ap (set oc k) c1)
-      (ap (λ (m : ℕ). k + m) z1)
-    where
-      clash : {B : Type 0} → _≡_ {A = Ordering} Ordering·gt Ordering·eq → B
-      clash e = absurd (let w : _≡_ {A = ℕ} 0 1 = cc in omega arith)
+      (ap (λ (v : ℕ). k + v) z1)
 
   turned-less : cmp (x .mono) (y .mono) ≡ Ordering·lt → Turned
   unfolding Turned
   turned-less h =
-      let l0 : l ≡ 0 = by-cmp Ordering·lt h in
-      let q0 : q ≡ 0 = unlike (λ e. clash (sym h ∙ e)) in
+      let f = flags-less cmp O (x .mono) (y .mono) l m q el em eq h in
+      let m1 : m ≡ 1 = omega arith in
+      let u0 : 1 - m ≡ 0 = omega arith in
+      let v1 : 1 - l ≡ 1 = omega arith in
       let f0 : l + q ≡ 0 = omega arith in
-      let g1 : 1 - l ≡ 1 = omega arith in
-      let c1 : c ≡ y .coef = ec ∙ (ap₂ (λ (f g : ℕ). (chosen f (x .coef) 0 + chosen g (y .coef) 0) % p) f0 g1 ∙ (ap (λ (m : ℕ). m % p) (zero-add (y .coef)) ∙ mod-eq-of-lt (hy .1))) in
+      let g1 : m + q ≡ 1 = omega arith in
+      let c1 : c ≡ y .coef = ec ∙ (ap₂ (λ (f g : ℕ). (chosen f (x .coef) 0 + chosen g (y .coef) 0) % p) f0 g1 ∙ (ap (λ (v : ℕ). v % p) (zero-add (y .coef)) ∙ mod-eq-of-lt (hy .1))) in
       let z1 : z ≡ 1 = stored-flag (λ e. let w : ⊥ = omega (arith, hy .0) in w) in
       same-state (after-less s O x y (drop (i + 1) L) (drop (j + 1) R) ex ey h)
-      (ap (λ (m : ℕ). drop (i + m) L) f0 ∙ ap (λ (m : ℕ). drop m L) (add-zero i)) (ap (λ (m : ℕ). drop (j + m) R) g1)
-      (ap (λ (v : ℕ). set ow k (chosen v (x .mono) (y .mono))) f0)
+      (ap a-from u0 ∙ ap (λ (v : ℕ). drop v L) (add-zero i)) (ap b-from v1)
+      (ap (λ (v : ℕ). set ow k (chosen v (y .mono) (x .mono))) m1)
       (ap (set oc k) c1)
-      (ap (λ (m : ℕ). k + m) z1)
-    where
-      clash : {B : Type 0} → _≡_ {A = Ordering} Ordering·lt Ordering·eq → B
-      clash e = absurd (let w : _≡_ {A = ℕ} 0 1 = cc in omega arith)
+      (ap (λ (v : ℕ). k + v) z1)
 
   turned-same : cmp (x .mono) (y .mono) ≡ Ordering·eq → Turned
   unfolding Turned
   turned-same h = go (decLe c 0)
     where
-      l0 : l ≡ 0
-      l0 = by-cmp Ordering·eq h
+      f : (l ≡ 0) × (m ≡ 0) × (q ≡ 1)
+      f = flags-same cmp O (x .mono) (y .mono) l m q el em eq h
 
-      q1 : q ≡ 1
-      q1 = eq ∙ ap flag (eq-eqb (x .mono) (y .mono) (O .same (x .mono) (y .mono) h))
+      u1 : 1 - m ≡ 1
+      u1 = omega (arith, f)
 
-      f1 : l + q ≡ 1
-      f1 = ap₂ (λ (a b : ℕ). a + b) l0 q1
-
-      g1 : 1 - l ≡ 1
-      g1 = ap (λ (a : ℕ). 1 - a) l0
+      v1 : 1 - l ≡ 1
+      v1 = omega (arith, f)
 
       c1 : c ≡ (x .coef + y .coef) % p
-      c1 = ec ∙ ap₂ (λ (f g : ℕ). (chosen f (x .coef) 0 + chosen g (y .coef) 0) % p) f1 g1
+      c1 = ec ∙ ap₂ (λ (f g : ℕ). (chosen f (x .coef) 0 + chosen g (y .coef) 0) % p) (let w : l + q ≡ 1 = omega (arith, f) in w) (let w : m + q ≡ 1 = omega (arith, f) in w)
 
       go : Dec (c ≤ 0) → Turned
       go (no u) =
           let ne : c ≡ 0 → ⊥ = λ e. let w : ⊥ = omega arith in w in
           let z1 : z ≡ 1 = stored-flag ne in
           same-state (after-sum s O x y (drop (i + 1) L) (drop (j + 1) R) ex ey h c c1 ne)
-          (ap (λ (m : ℕ). drop (i + m) L) f1) (ap (λ (m : ℕ). drop (j + m) R) g1)
-          (ap (λ (v : ℕ). set ow k (chosen v (x .mono) (y .mono))) f1)
+          (ap a-from u1) (ap b-from v1)
+          (ap (λ (v : ℕ). set ow k (chosen v (y .mono) (x .mono))) (f .1))
           refl
-          (ap (λ (m : ℕ). k + m) z1)
+          (ap (λ (v : ℕ). k + v) z1)
       go (yes u) =
           let c0 : c ≡ 0 = omega arith in
           let z0 : z ≡ 0 = ez ∙ ap (λ (b : Bool). flag (not b)) (eq-eqb c 0 c0) in
-          same-state (after-past s O x y (drop (i + 1) L) (drop (j + 1) R) ex ey h (sym c0 ∙ c1) (chosen (l + q) (x .mono) (y .mono)) c)
-          (ap (λ (m : ℕ). drop (i + m) L) f1) (ap (λ (m : ℕ). drop (j + m) R) g1)
+          same-state (after-past s O x y (drop (i + 1) L) (drop (j + 1) R) ex ey h (sym c0 ∙ c1) (chosen m (y .mono) (x .mono)) c)
+          (ap a-from u1) (ap b-from v1)
           refl
           refl
-          (ap (λ (m : ℕ). k + m) z0 ∙ add-zero k)
+          (ap (λ (v : ℕ). k + v) z0 ∙ add-zero k)
 
   -- what the code stores is what the flags choose
-  pub turn : (w : ℕ) → w ≡ chosen (l + q) (x .mono) (y .mono) → State cmp p M N to ow₀ oc₀ (drop (i + (l + q)) L) (drop (j + (1 - l)) R) (set ow k w) (set oc k c) (k + z) (n + 1)
+  pub turn : (w : ℕ) → w ≡ chosen m (y .mono) (x .mono) → State cmp p M N to ow₀ oc₀ (drop (i + (1 - m)) L) (drop (j + (1 - l)) R) (set ow k w) (set oc k c) (k + z) (n + 1)
   unfolding Turned
   turn w ew = same-state (go (stands cmp (x .mono) (y .mono))) refl refl (ap (set ow k) ew) refl refl
     where
@@ -297,14 +328,6 @@ less-by cmp O a b l el h ne = go (stands cmp a b)
 
 pub same-by : (cmp : ℕ → ℕ → Ordering) → TotalOrder ℕ cmp → (a b : ℕ) → a ≡ b → cmp a b ≡ Ordering·eq
 same-by cmp O a b e = ap (cmp a) (sym e) ∙ O .like a
-
--- no monomial is both larger than another and like it
-pub one-flag : (cmp : ℕ → ℕ → Ordering) → TotalOrder ℕ cmp → (a b l q : ℕ) → l ≡ flag (isLarger (cmp a b)) → q ≡ flag (eqb a b) → l + q ≤ 1
-one-flag cmp O a b l q el eq = go (eqb a b) refl (isLarger (cmp a b)) refl
-  where
-    go : (t : Bool) → eqb a b ≡ t → (u : Bool) → isLarger (cmp a b) ≡ u → l + q ≤ 1
-    go false et u eu = omega (arith, el, eq ∙ ap flag et, flag-small (isLarger (cmp a b)))
-    go true et u eu = omega (arith, el ∙ ap (λ (t : Ordering). flag (isLarger t)) (ap (cmp a) (sym (eqb-true a b et)) ∙ O .like a), eq ∙ ap flag et)
 
 module _ {cmp : ℕ → ℕ → Ordering} {p : ℕ} {M : List (Term ℕ)} {N to : ℕ} {ow₀ oc₀ : List ℕ} {xs ys : List (Term ℕ)} {ow oc : List ℕ} {k n : ℕ} (s : State cmp p M N to ow₀ oc₀ xs ys ow oc k n) where
   -- the rest is put from k on
@@ -372,18 +395,6 @@ pub stays : (f : Term ℕ → ℕ) (l o : List ℕ) (to : ℕ) (ts : List (Term 
 stays f l o to ts js from len i k q one e h out =
     getD-part from len l i h
     ∙ sym (ap (λ (x : List ℕ). getD x (from + i) 0) q ∙ getD-sets-other l to (map f ts ++ js) (from + i) (⊎-elim (λ u. inl u) (λ u. inr (omega (arith, length-map ts f, length-append (map f ts) js))) out))
-
--- what is left of the operand begins with the term that stands in the slices now
-pub lead-within : {cmp : ℕ → ℕ → Ordering} {p : ℕ} {M : List (Term ℕ)} {N to : ℕ} {xs ys : List (Term ℕ)} {k n : ℕ} (ww₀ wc₀ ww wc : List ℕ) (from len i : ℕ)
-    → State cmp p M N to ww₀ wc₀ xs ys ww wc k n
-    → from + len ≤ length ww₀ → from + len ≤ length wc₀ → i < len → (from + i < to) ⊎ (k < from + i)
-    → drop i (terms (part from len ww₀) (part from len wc₀)) ≡ term (getD ww (from + i) 0) (getD wc (from + i) 0) ∷ drop (i + 1) (terms (part from len ww₀) (part from len wc₀))
-lead-within {to} {k} ww₀ wc₀ ww wc from len i s hw hc h out =
-    let lw : length (part from len ww₀) ≡ len = length-part from len ww₀ hw in
-    let lc : length (part from len wc₀) ≡ len = length-part from len wc₀ hc in
-    lead-at (part from len ww₀) (part from len wc₀) i (lc ∙ sym lw) (omega arith)
-    ∙ ap₂ (λ (w c : ℕ). term w c ∷ drop (i + 1) (terms (part from len ww₀) (part from len wc₀)))
-    (stays (λ t. t .mono) ww₀ ww to (s .done) (s .past-words) from len i k (s .words-are) (s .one-word) (s .at) h out) (stays (λ t. t .coef) wc₀ wc to (s .done) (s .past-coefs) from len i k (s .coefs-are) (s .one-coef) (s .at) h out)
 
 -- what is left of the operand, read where it stands now
 pub part-within : (f : Term ℕ → ℕ) (l o : List ℕ) (to : ℕ) (ts : List (Term ℕ)) (js : List ℕ) (from len i k : ℕ) → o ≡ sets l to (map f ts ++ js) → length js ≤ 1 → to + length ts ≡ k → from + len ≤ length l → i ≤ len → (from + len ≤ to) ⊎ (k < from + i)

@@ -3,6 +3,9 @@ use crate::copy::put_coefs;
 use crate::copy::put_words;
 use crate::copy::rest_coefs;
 use crate::copy::rest_words;
+use crate::deg_lex;
+use crate::deg_rev_lex;
+use crate::lex;
 use monomial::order::Order;
 use residue::arithmetic::add;
 ghost use mathlib.Core.Path.{_≡_};
@@ -58,32 +61,10 @@ fn merge_by_flags<'a>(
     requires { ⌜ Sides p (now aw) (now ac) (now bw) (now bc) (now ow) (now oc) ⌝ }
     ensures { λ r. ⌜ Made (compareWords order) p (terms (now (aw .entry)) (now (ac .entry))) (terms (now (bw .entry)) (now (bc .entry))) 0 (now (ow .entry)) (now (oc .entry)) (now (ow .exit)) (now (oc .exit)) (r .len) (r .comparisons) ⌝ }
 {
-    let mut i = 0;
-    let mut j = 0;
-    let mut k = 0;
-    let mut n: u64 = 0;
-    while i < aw.len() && j < bw.len() {
-        let x = aw[i];
-        let y = bw[j];
-        let l = larger(order, x, y);
-        let f = l + like(x, y);
-        let g = 1 - l;
-        let s = add(choose_coef(f, ac[i], 0), choose_coef(g, bc[j], 0), p);
-        let z = not_zero(s);
-        ow[k] = choose_word(f, x, y);
-        oc[k] = s;
-        i += f;
-        j += g;
-        k += z;
-        n += 1;
-    }
-    let tw = rest_words(aw, i, bw, j);
-    let tc = rest_coefs(ac, i, bc, j);
-    put_words(tw, ow, k);
-    put_coefs(tc, oc, k);
-    Merged {
-        len: k + tw.len(),
-        comparisons: n,
+    match order {
+        Order::Lex => lex::by_flags(p, aw, ac, bw, bc, ow, oc),
+        Order::DegLex => deg_lex::by_flags(p, aw, ac, bw, bc, ow, oc),
+        Order::DegRevLex => deg_rev_lex::by_flags(p, aw, ac, bw, bc, ow, oc),
     }
 }
 
@@ -166,8 +147,7 @@ pub fn choose_word(f: usize, x: u64, y: u64) -> u64
     requires { ⌜ f ≤ 1 ⌝ }
     ensures { λ r. ⌜ r ≡ chosen f x y ⌝ }
 {
-    let g = f as u64;
-    x * g + y * (1 - g)
+    if f == 1 { x } else { y }
 }
 
 // The same for coefficients.

@@ -8,7 +8,6 @@ use lib.Dec.{lit<}
 use Rattle.residue.specs.declared.factor.Factor.{Factor}
 use Rattle.residue.specs.Modular.{Modulus, product}
 use Rattle.residue.specs.Share.{FactorOf, Prepared}
-use Rattle.residue.proofs.Modular.{product-fits, product-below}
 
 module _ (v x p B : ℕ) (pos : 0 < p) (above : 0 < B) (small : x ≤ B) where
   abbrev s : ℕ
@@ -68,41 +67,39 @@ share-small v p B h above =
 
 -- what the estimate leaves of the product
 abbrev pub rest : (f : Factor) (x : ℕ) → ℕ
-rest f x = f .value * x - f .share * x / 4294967296 * f .prime
+rest f x = f .value * x - f .share * x / 65536 * f .prime
 
 -- a factor that is prepared, and a number below its modulus, as the code has them
 module _ (f : Factor) (x : ℕ) (h : Prepared f) (l : x < f .prime) where
-  -- the product by the share fits in 64 bits
-  pub share-fits : f .share * x < 2 ^ 64
+  -- the product by the share fits in 32 bits
+  pub share-fits : f .share * x < 2 ^ 32
   share-fits =
-      let s : f .share ≤ 4294967296 = rw (h .share) (share-small (f .value) (f .prime) 4294967296 (h .below) (lit< tt)) in
-      omega (arith, mul-le-mul-right x s, h .modulus .limit)
+      let s : f .share ≤ 65536 = rw (h .share) (share-small (f .value) (f .prime) 65536 (h .below) (lit< tt)) in
+      omega (arith, mul-le-mul-right x s, h .short)
 
-  -- the product fits in 62 bits
-  pub value-fits : f .value * x < 2 ^ 62
-  value-fits = product-fits (f .value) x (f .prime) (h .below) l (h .modulus .limit)
+  -- and so does the product
+  pub value-fits : f .value * x < 2 ^ 32
+  value-fits =
+      let v : f .value ≤ 65536 = omega (arith, h .below, h .short) in
+      omega (arith, mul-le-mul-right x v, h .short)
 
   -- the estimated multiple of the modulus is at most the product
-  pub at-most : f .share * x / 4294967296 * f .prime ≤ f .value * x
-  at-most = rw (h .share) (low (f .value) x (f .prime) 4294967296 (omega arith) (lit< tt) (omega (arith, h .modulus .limit)))
+  pub at-most : f .share * x / 65536 * f .prime ≤ f .value * x
+  at-most = rw (h .share) (low (f .value) x (f .prime) 65536 (omega arith) (lit< tt) (omega (arith, h .short)))
 
   -- what is left is the remainder where it is below the modulus
   pub small-rest : rest f x < f .prime → rest f x ≡ product (f .prime) (f .value) x
-  small-rest = rw (h .share) (exact (f .value) x (f .prime) 4294967296 (omega arith) (lit< tt) (omega (arith, h .modulus .limit)))
+  small-rest = rw (h .share) (exact (f .value) x (f .prime) 65536 (omega arith) (lit< tt) (omega (arith, h .short)))
 
   -- and less the modulus where it is not
   pub large-rest : f .prime ≤ rest f x → rest f x - f .prime ≡ product (f .prime) (f .value) x
-  large-rest = rw (h .share) (short (f .value) x (f .prime) 4294967296 (omega arith) (lit< tt) (omega (arith, h .modulus .limit)))
-
-  -- which fits in 32 bits
-  pub rest-fits : f .prime ≤ rest f x → rest f x - f .prime < 2 ^ 32
-  rest-fits k =
-      rw (large-rest k) (let z : product (f .prime) (f .value) x < 2 ^ 32 = omega (arith, product-below (f .prime) (omega arith) (f .value) x, h .modulus .limit) in z)
+  large-rest = rw (h .share) (short (f .value) x (f .prime) 65536 (omega arith) (lit< tt) (omega (arith, h .short)))
 
 -- what `Factor::new` makes is prepared
-pub prepared : (p value : ℕ) (f : Factor) → Modulus p → value < p → FactorOf p value f → Prepared f
-prepared p value f m l k = record {
+pub prepared : (p value : ℕ) (f : Factor) → Modulus p → p ≤ 65536 → value < p → FactorOf p value f → Prepared f
+prepared p value f m s l k = record {
   modulus = rw (k .prime-is) m;
+  short = rw (k .prime-is) s;
   below = rw (k .prime-is, k .value-is) l;
   share = rw (k .prime-is, k .value-is) (k .share-is);
 }

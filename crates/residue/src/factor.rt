@@ -1,31 +1,30 @@
-// Products modulo p by one factor, with no division for each product (Shoup's method).
+// Products modulo p by one factor, with no division for each product (Shoup's method), for a p of at
+// most 2^16.
 ghost use mathlib.Core.Path.{_≡_};
-ghost use Prim.Native.Nat.{_<_};
+ghost use Prim.Native.Nat.{_<_, _≤_};
 ghost use Rattle.residue.specs.Modular.{Modulus, product};
 ghost use Rattle.residue.specs.Share.{FactorOf, Prepared};
 
-const WORD: u64 = 4294967296;
+const HALF: u32 = 65536;
 
-// A factor and its modulus. `share` is value * 2^32 / prime, rounded down. The fields are as wide
-// as the products, so that no product converts them.
+// A factor and its modulus. `share` is value * 2^16 / prime, rounded down. All products fit in 32 bits,
+// so that the processor makes several at once.
 pub struct Factor {
-    pub value: u64,
-    pub share: u64,
-    pub prime: u64,
+    pub value: u32,
+    pub share: u32,
+    pub prime: u32,
 }
 
 impl Factor {
     // The factor `value` modulo p: the one division.
     pub fn new(value: u32, p: u32) -> Self
-        requires { ⌜ Modulus p × (value < p) ⌝ }
+        requires { ⌜ Modulus p × (p ≤ 65536) × (value < p) ⌝ }
         ensures { λ r. ⌜ FactorOf p value r ⌝ }
     {
-        let value = value as u64;
-        let prime = p as u64;
         Self {
             value,
-            share: value * WORD / prime,
-            prime,
+            share: value * HALF / p,
+            prime: p,
         }
     }
 
@@ -36,9 +35,8 @@ impl Factor {
         ensures { λ r. ⌜ r ≡ product (self .prime) (self .value) x ⌝ }
     {
         let p = self.prime;
-        let x = x as u64;
-        let quotient = self.share * x / WORD;
+        let quotient = self.share * x / HALF;
         let r = self.value * x - quotient * p;
-        if r < p { r as u32 } else { (r - p) as u32 }
+        if r < p { r } else { r - p }
     }
 }

@@ -1,27 +1,15 @@
 -- `merge::merging::choose_word` meets its contract. Assumes nothing.
-use Prim.Native.Nat.{_^_}
-use native.Mathlib.Omega.{arith}
-use Rattle.merge.proofs.Steps.{choose-fits, choose-is, choose-below}
-use borrow.Author.Needs.{needs}
+use Rattle.merge.proofs.Steps.{chosen-one, chosen-none}
 use Rattle.merge.proofs.merging.choose_word.Statement.{statement}
 use Rattle.merge.proofs.merging.choose_word.Tie as tie
 use Rattle.merge.proofs.merging.choose_word.Reads as reads
 use Rattle.merge.proofs.merging.choose_word.Lts as lts
 
-mul-result : tie.Need-mul-result
-mul-result c = let a = c .args in omega (arith, choose-fits (a .f) (a .x) (c .pre))
-
-sub-result : tie.Need-sub-result
-sub-result c = search needs
-
-mul-result-2 : tie.Need-mul-result-2
-mul-result-2 c = let a = c .args in omega (arith, choose-fits (a .f) (a .y) (c .pre))
-
-add-result : tie.Need-add-result
-add-result c = let a = c .args in record { fits = choose-below (a .f) (a .x) (a .y) (2 ^ 64) (c .pre) (c .fits .x .fits) (c .fits .y .fits) }
-
 returns : tie.Need-returns
-returns c = let a = c .args in choose-is (a .f) (a .x) (a .y) (c .pre)
+returns c = let a = c .before .args in chosen-one (a .f) (a .x) (a .y) (c .if1 .taken)
+
+returns-2 : tie.Need-returns-2
+returns-2 c = let s = c .before in let a = s .args in chosen-none (a .f) (a .x) (a .y) (s .pre) (c .if1 .left)
 
 pub choose-word-spec : {M : Type 1} → statement M
-choose-word-spec = tie.close (tie.spec mul-result sub-result mul-result-2 add-result returns)
+choose-word-spec = tie.close (tie.spec returns returns-2)

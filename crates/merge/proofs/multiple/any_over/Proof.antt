@@ -1,35 +1,31 @@
--- `merge::multiple::any_over` meets its contract: after i turns the first i products do not go over. Assumes nothing.
-use mathlib.Core.Path.{refl}
-use Prim.Native.Nat.{_-_, zero-le}
+-- `merge::multiple::any_over` meets its contract: after i turns the bits of the first i sums are gathered. Assumes nothing.
+use Prim.Native.Nat.{_-_}
 use native.Mathlib.Omega.{arith}
 use lib.ListN.{length}
-use Rattle.merge.proofs.Steps.{Sound, sound-stop, sound-more, sound-all, packed-at}
+use Rattle.merge.proofs.Steps.{Seen, seen-none, seen-more, seen-all, packed-at}
 use Rattle.merge.proofs.multiple.any_over.Statement.{statement}
 use Rattle.merge.proofs.multiple.any_over.Tie as tie
-use Rattle.merge.proofs.multiple.any_over.Reads as reads
-use Rattle.merge.proofs.multiple.any_over.Lts as lts
-use Rattle.merge.proofs.multiple.is_over.Reads as is-over-reads
 
 abbrev Inv-loop : tie.InvT-loop
-Inv-loop q words i₀ i = Sound q words i
+Inv-loop q words seen₀ i₀ seen i = Seen q words seen i
 
 abbrev μ-loop : tie.MeasureT-loop
-μ-loop q words i₀ i = length words - i
+μ-loop q words seen₀ i₀ seen i = length words - i
 
 loop-holds : tie.Need-loop-holds Inv-loop μ-loop
-loop-holds c = record { low = zero-le; rest = refl }
+loop-holds c = seen-none _ _
 
-mul-is-over : tie.Need-mul-is-over Inv-loop μ-loop
-mul-is-over c = omega arith
+mul-seen : tie.Need-mul-seen Inv-loop μ-loop
+mul-seen c = omega arith
 
-shared-slice-read-is-over : tie.Need-shared-slice-read-is-over Inv-loop μ-loop
-shared-slice-read-is-over c = omega arith
+shared-slice-read-seen : tie.Need-shared-slice-read-seen Inv-loop μ-loop
+shared-slice-read-seen c = omega arith
 
-is-over-requires : tie.Need-is-over-requires Inv-loop μ-loop
-is-over-requires c κs = let h = c .before .before in let s = h .before .before in (s .pre .0, packed-at (s .args .words .now) (h .loop .i) (s .pre .1) (omega arith))
-
-returns : tie.Need-returns Inv-loop μ-loop
-returns c = let h = c .before .before .before .before in sound-stop _ _ _ (h .loop .inv) (omega arith) _ (c .before .is-over .ensures) (c .if1 .taken)
+add-seen : tie.Need-add-seen Inv-loop μ-loop
+add-seen c =
+    let h = c .before .before in
+    let s = h .before in
+    omega (arith, s .pre .0 .room, packed-at (s .args .words .now) (h .loop .i) (s .pre .1) (omega arith) .room)
 
 add-i : tie.Need-add-i Inv-loop μ-loop
 add-i c = omega arith
@@ -38,10 +34,13 @@ loop-less : tie.Need-loop-less Inv-loop μ-loop
 loop-less c = omega arith
 
 loop-again : tie.Need-loop-again Inv-loop μ-loop
-loop-again c = let h = c .before .before .before .before in sound-more _ _ _ (h .loop .inv) (omega arith) _ (c .before .is-over .ensures) (c .if1 .left)
+loop-again c =
+    let h = c .before .before in
+    let s = h .before in
+    seen-more _ _ _ _ (s .pre .0) (s .pre .1) (h .loop .inv) (omega arith)
 
-returns-2 : tie.Need-returns-2 Inv-loop μ-loop
-returns-2 c = sound-all _ _ _ (c .before .loop .inv) (omega arith)
+returns : tie.Need-returns Inv-loop μ-loop
+returns c = seen-all _ _ _ _ (c .before .loop .inv) (omega arith)
 
 pub any-over-spec : {M : Type 1} → statement M
 any-over-spec =
@@ -50,11 +49,10 @@ any-over-spec =
     Inv-loop
     μ-loop
     loop-holds
-    mul-is-over
-    shared-slice-read-is-over
-    is-over-requires
-    returns
+    mul-seen
+    shared-slice-read-seen
+    add-seen
     add-i
     loop-less
     loop-again
-    returns-2)
+    returns)

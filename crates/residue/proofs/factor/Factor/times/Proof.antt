@@ -1,6 +1,6 @@
 -- `times` meets its contract: each need is a law of `Shoup.antt`.
 use native.Mathlib.Omega.{arith}
-use Rattle.residue.proofs.Shoup.{share-fits, value-fits, at-most, small-rest, large-rest, rest-fits}
+use Rattle.residue.proofs.Shoup.{share-fits, value-fits, at-most, small-rest, large-rest}
 use borrow.Author.Needs.{needs}
 use Rattle.residue.proofs.factor.Factor.times.Statement.{statement}
 use Rattle.residue.proofs.factor.Factor.times.Tie as tie
@@ -17,12 +17,6 @@ mul-r-2 c = let h = c .before .before .pre in omega (arith, value-fits _ _ (h .0
 sub-r : tie.Need-sub-r
 sub-r c = at-most _ _ (c .before .before .pre .0) (c .before .before .pre .1)
 
-cast-result : tie.Need-cast-result
-cast-result c = search needs
-
-cast-result-2 : tie.Need-cast-result-2
-cast-result-2 c = let h = c .before .before .before .pre in omega (arith, rest-fits _ _ (h .0) (h .1) (c .if1 .left))
-
 returns : tie.Need-returns
 returns c = let h = c .before .before .before .pre in small-rest _ _ (h .0) (h .1) (c .if1 .taken)
 
@@ -32,4 +26,4 @@ returns-2 c = let h = c .before .before .before .pre in large-rest _ _ (h .0) (h
 pub times-spec : {M : Type 1} → statement M
 times-spec =
     tie.close
-    (tie.spec mul-quotient mul-r mul-r-2 sub-r cast-result cast-result-2 returns returns-2)
+    (tie.spec mul-quotient mul-r mul-r-2 sub-r returns returns-2)
