@@ -153,6 +153,7 @@ module _ {o : Order} {p : ℕ} {words coefs starts : List ℕ} {k : ℕ} {s : St
             multiplicands = record {
               prepared = record {
                 modulus = subst Modulus (sym (ef .prime-is)) (a .checked .modulus);
+                short = omega (arith, ef .prime-is, a .checked .short);
                 below = omega (arith, ef .value-is, ef .prime-is, ev, multiplier-small);
                 share = ef .share-is ∙ ap₂ shareOf (sym (ef .prime-is)) (sym (ef .value-is));
               };
@@ -228,5 +229,5 @@ module _ {o : Order} {p : ℕ} {words coefs starts : List ℕ} {k : ℕ} {s : St
       pub multiplier-is : v ≡ product p (negative p (lead .coef)) (inverseOf p (leadCoef coefs starts k))
       multiplier-is = ev ∙ ap₂ (product p) ex ey
 
-      pub factor-asks : Modulus p × (v < p)
-      factor-asks = (a .checked .modulus, omega (arith, multiplier-is, multiplier-small a))
+      pub factor-asks : Modulus p × (p ≤ 65536) × (v < p)
+      factor-asks = (a .checked .modulus, a .checked .short, omega (arith, multiplier-is, multiplier-small a))

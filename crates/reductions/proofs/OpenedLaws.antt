@@ -52,6 +52,7 @@ module _ {p order n : ℕ} {words coefs ss : List ℕ} {steps lbw lbc lww lwc lo
   reducible = record {
     checked = record {
       modulus = record { two = o .prime .above; limit = omega (arith, o .limit) };
+      short = omega (arith, o .limit);
       prime = o .prime;
       long = sym (o .lent);
       some = o .some;
