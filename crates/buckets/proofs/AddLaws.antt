@@ -5,13 +5,13 @@ use Prim.Native.Nat.{ℕ, zero, suc, _+_, _-_, _*_, _<_, _≤_, Ordering}
 use native.Mathlib.Nat.{zero-add}
 use native.Mathlib.Omega.{arith}
 use borrow.Author.Tests.{le-leb, lt-leb}
-use lib.ListN.{length, take, drop, getD, length-append}
+use lib.ListN.{length, take, drop, length-append}
 use lib.Seq.{length-sets}
 use Rattle.residue.specs.Modular.{Modulus}
 use Rattle.monomial.specs.TotalOrder.{TotalOrder}
 use Rattle.polynomial.specs.Terms.{Term, terms, words, coefs, Canonical}
 use Rattle.polynomial.specs.Merge.{merge, compared, mergeCount}
-use Rattle.polynomial.proofs.MergeLaws.{merge-size, merge-canonical, count-size}
+use Rattle.polynomial.proofs.MergeLaws.{merge-size, merge-canonical, merge-nil, count-size, count-right}
 use Rattle.polynomial.proofs.TermLists.{length-terms}
 use Rattle.merge.specs.Lent.{Poly, part}
 use Rattle.merge.specs.Merging.{Made, Sides}
@@ -19,15 +19,15 @@ use Rattle.merge.proofs.Lists.{length-part}
 use Rattle.geobucket.specs.Buckets.{held, Good, carry, carryCompared, place, placeCompared, add, addCompared}
 use Rattle.geobucket.proofs.AddLaws.{adds}
 use Rattle.geobucket.proofs.EventLaws.{room-six}
-use Rattle.space.specs.Space.{capacity, start, listFrom, rowAt, bucketAt, bucketsIn, Laid, Stands}
-use Rattle.space.specs.declared.state.Buckets.{Buckets}
+use Rattle.space.specs.Space.{Buckets, headAt, lenAt, capacity, start, listFrom, rowAt, bucketAt, bucketsIn, Laid, Stands}
 use Rattle.buckets.specs.declared.level.Level.{Level}
 use Rattle.buckets.specs.declared.add.Carried.{Carried}
 use Rattle.buckets.specs.Levels.{levelAt, LevelFor}
 use Rattle.buckets.specs.Adding.{Addition, AddDone, landed, landedCompared, Carry, CarryDone, Store, Stored}
 use Rattle.space.proofs.Starts.{next-capacity, cap-zero}
-use Rattle.space.proofs.SpaceLaws.{good-at, row-end, row-long, bucket-long, bucket-poly, held-cons, held-append, from-same, from-next, from-split, from-at, from-long}
+use Rattle.space.proofs.SpaceLaws.{good-at, bucket-none, row-end, row-long, bucket-long, bucket-poly, held-cons, held-append, from-same, from-next, from-split, from-at, from-long}
 use Rattle.buckets.proofs.WorkLaws.{made-terms}
+use Rattle.buckets.proofs.CarryLaws.{landed-fits, compared-fits}
 
 -- ---- the bucket that an addition begins with
 module _ (cmp : ℕ → ℕ → Ordering) (p : ℕ) (f : List (Term ℕ)) (g : ℕ → List (Term ℕ)) where
@@ -111,11 +111,21 @@ module _ {cmp : ℕ → ℕ → Ordering} {p : ℕ} {b : Buckets} {fw fc sw sc w
   pub f-short : length fw ≤ 4096
   f-short = omega (arith, a .room)
 
+  -- the buckets of the published addition are good
+  added-stands : TotalOrder ℕ cmp → {b' : Buckets} {sw' sc' : List ℕ} → Laid b' → length sw' ≡ 5460 → length sc' ≡ 5460 → bucketsIn b' sw' sc' ≡ add cmp p (terms fw fc) (bucketsIn b sw sc) → Stands cmp p b' sw' sc'
+  added-stands O laid hw hc lists = record {
+    modulus = a .stands .modulus;
+    words-long = hw;
+    coefs-long = hc;
+    laid = laid;
+    good = subst (λ (x : List (List (Term ℕ))). Good cmp p 4 x) (sym lists) (adds cmp p O (omega (arith, a .stands .modulus .two)) (terms fw fc) (bucketsIn b sw sc) (omega (arith, a .room, f-long, room-six (bucketsIn b sw sc) (from-long (bucketAt b sw sc) 0 6))) (a .canonical) (a .stands .good) .good);
+  }
+
   module _ (l : Level) (v : LevelFor (length fw) l) where
     w : LevelFor (length (terms fw fc)) l
     w = subst (λ (n : ℕ). LevelFor n l) (sym f-long) v
 
-    pub first-end : getD (b .head) (l .bucket) 0 + getD (b .len) (l .bucket) 0 ≤ 5460
+    pub first-end : headAt b (l .bucket) + lenAt b (l .bucket) ≤ 5460
     first-end = row-end b (a .stands .laid) (l .bucket) (v .within)
 
     -- the terms held, parted at the bucket
@@ -124,6 +134,56 @@ module _ {cmp : ℕ → ℕ → Ordering} {p : ℕ} {b : Buckets} {fw fc sw sc w
         ap held (from-at (bucketAt b sw sc) (l .bucket) (v .within))
         ∙ (held-append (listFrom (bucketAt b sw sc) 0 (l .bucket)) (bucketAt b sw sc (l .bucket) ∷ listFrom (bucketAt b sw sc) (suc (l .bucket)) (5 - l .bucket))
         ∙ ap (λ (n : ℕ). held (listFrom (bucketAt b sw sc) 0 (l .bucket)) + n) (held-cons (bucketAt b sw sc (l .bucket)) (listFrom (bucketAt b sw sc) (suc (l .bucket)) (5 - l .bucket))))
+
+    -- an empty bucket takes f as it is
+    module _ (O : TotalOrder ℕ cmp) (none : lenAt b (l .bucket) ≡ 0) where
+      pub straight-asks : Store b l fw fc sw sc
+      straight-asks = record {
+        laid = a .stands .laid;
+        level-is = v .is;
+        within = v .within;
+        long = a .long;
+        fits = v .fits;
+        words-long = a .stands .words-long;
+        coefs-long = a .stands .coefs-long;
+      }
+
+      module _ (some : 0 < length fw) {sw' sc' : List ℕ} {b' : Buckets} (s : Stored b l (terms fw fc) sw sc sw' sc' b') where
+        unmerged : merge cmp p (terms fw fc) (bucketAt b sw sc (l .bucket)) ≡ terms fw fc
+        unmerged = ap (merge cmp p (terms fw fc)) (bucket-none b (l .bucket) (a .stands .laid) (v .within) sw sc none) ∙ merge-nil cmp p (terms fw fc)
+
+        straight-lists : bucketsIn b' sw' sc' ≡ add cmp p (terms fw fc) (bucketsIn b sw sc)
+        straight-lists =
+            let k = l .bucket in
+            let g' = bucketAt b' sw' sc' in
+            let h = bucketAt b sw sc in
+            let above = listFrom h (suc k) (5 - k) in
+            from-at g' k (v .within)
+            ∙ (ap₂ (λ (x : List (List (Term ℕ))) (y : List (Term ℕ)). x ++ (y ∷ listFrom g' (suc k) (5 - k))) (from-same g' h 0 k (λ j x y. s .others j (omega (arith, v .within)) (λ q. let z : ⊥ = omega arith in z))) (s .here)
+            ∙ (ap (λ (x : List (List (Term ℕ))). listFrom h 0 k ++ (terms fw fc ∷ x)) (from-same g' h (suc k) (5 - k) (λ j x y. s .others j (omega (arith, v .within)) (λ q. let z : ⊥ = omega arith in z)))
+            ∙ (ap (λ (x : List (List (Term ℕ))). listFrom h 0 k ++ x) (sym (landed-fits cmp p (capacity k) (terms fw fc) above (w .fits)) ∙ ap (λ (x : List (Term ℕ)). landed cmp p (capacity k) x above) (sym unmerged))
+            ∙ sym (add-at cmp p (terms fw fc) h l w (omega (arith, some, f-long))))))
+
+        straight-count : 0 ≡ length (addCompared cmp p (terms fw fc) (bucketsIn b sw sc))
+        straight-count =
+            let k = l .bucket in
+            let h = bucketAt b sw sc in
+            let above = listFrom h (suc k) (5 - k) in
+            omega (
+              arith,
+              added-compared cmp p (terms fw fc) h l w (omega (arith, some, f-long)),
+              ap (mergeCount cmp (terms fw fc)) (bucket-none b k (a .stands .laid) (v .within) sw sc none),
+              count-right cmp (terms fw fc),
+              ap length (ap (λ (x : List (Term ℕ)). landedCompared cmp p (capacity k) x above) unmerged ∙ compared-fits cmp p (capacity k) (terms fw fc) above (w .fits)),
+            )
+
+        pub straight-done : AddDone cmp p b (terms fw fc) sw sc sw' sc' b' 0
+        straight-done = record {
+          lists-are = straight-lists;
+          count-is = straight-count;
+          few = omega arith;
+          stands = added-stands O (s .laid) (s .words-long) (s .coefs-long) straight-lists;
+        }
 
     module _ {bw bc : List ℕ} (ew : bw ≡ rowAt b sw (l .bucket)) (ec : bc ≡ rowAt b sc (l .bucket)) where
       bucket-canonical : Canonical cmp p (bucketAt b sw sc (l .bucket))
@@ -184,7 +244,7 @@ module _ {cmp : ℕ → ℕ → Ordering} {p : ℕ} {b : Buckets} {fw fc sw sc w
           few = omega (arith, cnt-is, count-size cmp p (terms fw fc) (bucketAt b sw sc (l .bucket)), f-long, a .room, parted);
         }
 
-        module _ {ww'' wc'' : List ℕ} (r : Carried) (e : CarryDone cmp p b l sw sc ww' wc' len cnt ww'' wc'' r) (lw : length ww'' ≡ 8192) (lc : length wc'' ≡ 8192)
+        module _ {b₁ : Buckets} {ww'' wc'' : List ℕ} (r : Carried) (e : CarryDone cmp p b l sw sc ww' wc' len cnt b₁ ww'' wc'' r) (lw : length ww'' ≡ 8192) (lc : length wc'' ≡ 8192)
             {tw tc : List ℕ} (etw : tw ≡ part (r .from) (r .len) ww'') (etc : tc ≡ part (r .from) (r .len) wc'') where
           tw-long : length tw ≡ r .len
           tw-long = ap length etw ∙ length-part (r .from) (r .len) ww'' (omega (arith, e .in-work, lw))
@@ -192,7 +252,7 @@ module _ {cmp : ℕ → ℕ → Ordering} {p : ℕ} {b : Buckets} {fw fc sw sc w
           tc-long : length tc ≡ r .len
           tc-long = ap length etc ∙ length-part (r .from) (r .len) wc'' (omega (arith, e .in-work, lc))
 
-          pub store-asks : Store (r .buckets) (r .level) tw tc sw sc
+          pub store-asks : Store b₁ (r .level) tw tc sw sc
           store-asks = record {
             laid = e .laid;
             level-is = e .level-is;
@@ -203,7 +263,7 @@ module _ {cmp : ℕ → ℕ → Ordering} {p : ℕ} {b : Buckets} {fw fc sw sc w
             coefs-long = a .stands .coefs-long;
           }
 
-          module _ (some : 0 < length fw) {sw' sc' : List ℕ} {b' : Buckets} (s : Stored (r .buckets) (r .level) (terms tw tc) sw sc sw' sc' b') where
+          module _ (some : 0 < length fw) {sw' sc' : List ℕ} {b' : Buckets} (s : Stored b₁ (r .level) (terms tw tc) sw sc sw' sc' b') where
             k : ℕ
             k = r .level .bucket
 
@@ -211,7 +271,7 @@ module _ {cmp : ℕ → ℕ → Ordering} {p : ℕ} {b : Buckets} {fw fc sw sc w
             unfolding k
             lists =
                 let g' = bucketAt b' sw' sc' in
-                let h = bucketAt (r .buckets) sw sc in
+                let h = bucketAt b₁ sw sc in
                 let here : g' k ≡ terms (part (r .from) (r .len) ww'') (part (r .from) (r .len) wc'') = s .here ∙ ap₂ terms etw etc in
                 let below : listFrom g' 0 k ≡ listFrom h 0 k = from-same g' h 0 k (λ j x y. s .others j (omega (arith, e .within)) (λ q. let z : ⊥ = omega arith in z)) in
                 let above : listFrom g' (suc k) (5 - k) ≡ listFrom h (suc k) (5 - k) = from-same g' h (suc k) (5 - k) (λ j x y. s .others j (omega (arith, e .within)) (λ q. let z : ⊥ = omega arith in z)) in
@@ -233,11 +293,5 @@ module _ {cmp : ℕ → ℕ → Ordering} {p : ℕ} {b : Buckets} {fw fc sw sc w
               lists-are = lists;
               count-is = count;
               few = e .few;
-              stands = record {
-                modulus = a .stands .modulus;
-                words-long = s .words-long;
-                coefs-long = s .coefs-long;
-                laid = s .laid;
-                good = subst (λ (x : List (List (Term ℕ))). Good cmp p 4 x) (sym lists) (adds cmp p O pos (terms fw fc) (bucketsIn b sw sc) (omega (arith, a .room, f-long, room-six (bucketsIn b sw sc) (from-long (bucketAt b sw sc) 0 6))) (a .canonical) (a .stands .good) .good);
-              };
+              stands = added-stands O (s .laid) (s .words-long) (s .coefs-long) lists;
             }

@@ -7,7 +7,7 @@ use native.Mathlib.Nat.{zero-add}
 use native.Mathlib.Omega.{arith}
 use borrow.Author.Tests.{le-leb, lt-leb}
 use lib.ListN.{length, take, drop, set, getD, length-append, length-map, length-set}
-use lib.Seq.{sets, set-getD, append-snoc, length-sets, getD-set-other}
+use lib.Seq.{sets, set-getD, append-snoc, length-sets, getD-set-same}
 use Rattle.residue.specs.Modular.{Modulus}
 use Rattle.monomial.specs.TotalOrder.{TotalOrder}
 use Rattle.polynomial.specs.Terms.{Term, terms, words, coefs, Canonical}
@@ -18,8 +18,7 @@ use Rattle.merge.specs.Lent.{Poly, part, Apart}
 use Rattle.merge.specs.Merging.{Made, Within}
 use Rattle.merge.proofs.Lists.{length-part}
 use Rattle.geobucket.specs.Buckets.{held, Good, carry, carryCompared}
-use Rattle.space.specs.Space.{capacity, start, listFrom, rowAt, bucketAt, bucketsIn, Laid, Stands, moved}
-use Rattle.space.specs.declared.state.Buckets.{Buckets}
+use Rattle.space.specs.Space.{Buckets, headAt, capacity, start, listFrom, rowAt, bucketAt, bucketsIn, Laid, Stands, moved}
 use Rattle.buckets.specs.declared.level.Level.{Level}
 use Rattle.buckets.specs.Levels.{levelAt}
 use Rattle.buckets.specs.Adding.{landed, landedCompared, Carry, CarryDone}
@@ -109,24 +108,21 @@ same-carrying {cmp} {p} {G} {N} {g} {i} {m} {n} {i'} {m'} {n'} c ei em en =
 
 -- ---- a bucket in the bucket space is emptied
 abbrev pub without : Buckets → ℕ → Buckets
-without b i = record { head = b .head; len = set (b .len) i 0 }
+without b i = set b (6 + i) 0
 
 module _ (b : Buckets) (i : ℕ) (laid : Laid b) (in-six : i < 6) where
-  without-moved : without b i ≡ moved b i (getD (b .head) i 0) 0
-  without-moved = ap (λ (l : List ℕ). record { head = l; len = set (b .len) i 0 }) (sym (set-getD (b .head) i 0))
+  without-moved : without b i ≡ moved b i (headAt b i) 0
+  without-moved = ap (λ (l : List ℕ). set l (6 + i) 0) (sym (set-getD b i 0))
 
   pub without-laid : Laid (without b i)
-  without-laid = subst Laid (sym without-moved) (laid-moved b i (getD (b .head) i 0) 0 laid in-six (laid .low i in-six) (omega (arith, laid .high i in-six)))
+  without-laid = subst Laid (sym without-moved) (laid-moved b i (headAt b i) 0 laid in-six (laid .low i in-six) (omega (arith, laid .high i in-six)))
 
   pub without-other : (sw sc : List ℕ) (j : ℕ) → j < 6 → (j ≡ i → ⊥) → bucketAt (without b i) sw sc j ≡ bucketAt b sw sc j
   without-other sw sc j k ne =
       ap (λ (x : Buckets). bucketAt x sw sc j) without-moved
-      ∙ bucket-other b i (getD (b .head) i 0) 0 laid in-six sw sc (start i) (start i) [] [] (omega arith) (omega (arith, next-start i)) (omega arith) (omega (arith, next-start i)) j k ne
+      ∙ bucket-other b i (headAt b i) 0 laid in-six sw sc (start i) (start i) [] [] (omega arith) (omega (arith, next-start i)) (omega arith) (omega (arith, next-start i)) j k ne
 
   pub without-here : (sw sc : List ℕ) → bucketAt (without b i) sw sc i ≡ []
-  without-here sw sc = ap (λ (n : ℕ). terms (part (getD (b .head) i 0) n sw) (part (getD (b .head) i 0) n sc)) (getD-set-same' (b .len) i (let z : i < length (b .len) = omega (arith, laid .six-lens) in z))
-    where
-      getD-set-same' : (l : List ℕ) (i : ℕ) → i < length l → getD (set l i 0) i 0 ≡ 0
-      getD-set-same' [] i h = absurd (let z : ⊥ = omega arith in z)
-      getD-set-same' (x ∷ l) zero h = refl
-      getD-set-same' (x ∷ l) (suc i) h = getD-set-same' l i (let z : i < length l = omega arith in z)
+  without-here sw sc =
+      let n : ℕ = headAt (without b i) i in
+      ap (λ (k : ℕ). terms (part n k sw) (part n k sc)) (getD-set-same b (6 + i) 0 0 (omega (arith, laid .twelve)))

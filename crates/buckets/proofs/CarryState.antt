@@ -6,24 +6,23 @@ use Prim.Native.Nat.{ℕ, zero, suc, _+_, _-_, _*_, _<_, _≤_, Ordering}
 use native.Mathlib.Decide.{decLe}
 use native.Mathlib.Omega.{arith}
 use lib.ListN.{length, take, drop, set, getD, length-set}
-use lib.Seq.{getD-set-other, length-sets}
+use lib.Seq.{length-sets}
 use Rattle.residue.specs.Modular.{Modulus}
 use Rattle.monomial.specs.TotalOrder.{TotalOrder}
 use Rattle.polynomial.specs.Terms.{Term, terms, words, coefs, Canonical}
 use Rattle.polynomial.specs.Merge.{merge, compared, mergeCount}
-use Rattle.polynomial.proofs.MergeLaws.{merge-size}
+use Rattle.polynomial.proofs.MergeLaws.{merge-size, merge-nil, count-right}
 use Rattle.polynomial.proofs.TermLists.{length-terms}
 use Rattle.merge.specs.Lent.{Poly, part, Apart}
 use Rattle.merge.specs.Merging.{Made, Within}
 use Rattle.merge.proofs.Lists.{length-part}
 use Rattle.geobucket.specs.Buckets.{held, Good}
-use Rattle.space.specs.Space.{capacity, start, listFrom, rowAt, bucketAt, bucketsIn, Laid, Stands}
-use Rattle.space.specs.declared.state.Buckets.{Buckets}
+use Rattle.space.specs.Space.{Buckets, headAt, lenAt, capacity, start, listFrom, rowAt, bucketAt, bucketsIn, Laid, Stands}
 use Rattle.buckets.specs.declared.level.Level.{Level}
 use Rattle.buckets.specs.declared.add.Carried.{Carried}
 use Rattle.buckets.specs.Levels.{levelAt}
 use Rattle.buckets.specs.Adding.{landed, landedCompared, Carry, CarryDone}
-use Rattle.space.proofs.SpaceLaws.{good-at, row-end, row-long, bucket-long, bucket-poly}
+use Rattle.space.proofs.SpaceLaws.{good-at, bucket-none, row-end, row-long, bucket-long, bucket-poly}
 use Rattle.buckets.proofs.LevelLaws.{cap-is}
 use Rattle.buckets.proofs.WorkLaws.{InHalf, in-work, terms-long, half-within, other-half, other-terms}
 use Rattle.buckets.proofs.CarryLaws.{Carrying, up, same-carrying, pair-room, pair-count, carry-on, carry-ends, carry-count, without, without-laid, without-other, without-here}
@@ -49,15 +48,27 @@ module _ {cmp : ℕ → ℕ → Ordering} {p : ℕ} {G : List (List (Term ℕ))}
     pub next-six : k .bucket < 6
     next-six = omega (arith, next-bucket, up (v .state) over-long)
 
-    -- the next bucket's length, read after this one was emptied
-    pub next-len : getD (set (b .len) (l .bucket) 0) (k .bucket) 0 ≡ getD (b .len) (k .bucket) 0
-    next-len = getD-set-other (b .len) (l .bucket) (k .bucket) 0 0 (λ e. let z : ⊥ = omega (arith, next-bucket) in z)
-
-    pub next-end : getD (b .head) (k .bucket) 0 + getD (set (b .len) (l .bucket) 0) (k .bucket) 0 ≤ 5460
-    next-end = omega (arith, next-len, row-end b (v .laid) (k .bucket) next-six)
+    pub next-end : headAt b (k .bucket) + lenAt b (k .bucket) ≤ 5460
+    next-end = row-end b (v .laid) (k .bucket) next-six
 
     next-room : len + length (bucketAt b sw sc (k .bucket)) ≤ 4096
     next-room = omega (arith, pair-room (v .state) over-long, terms-long (v .work), ap (λ (x : ℕ). length (bucketAt b sw sc x)) next-bucket)
+
+    -- an empty bucket is not merged
+    pub again-empty : lenAt b (k .bucket) ≡ 0 → Carries cmp p G N sw sc (without b (l .bucket)) k ww wc from len n
+    again-empty e =
+        let m = terms (part from len ww) (part from len wc) in
+        let none : bucketAt b sw sc (suc (l .bucket)) ≡ [] = ap (bucketAt b sw sc) (sym next-bucket) ∙ bucket-none b (k .bucket) (v .laid) next-six sw sc e in
+        let on = carry-on (v .state) over-long O (omega (arith, v .modulus .two)) (bucketAt (without b (l .bucket)) sw sc) (without-here b (l .bucket) (v .laid) (v .state .in-six) sw sc) (without-other b (l .bucket) (v .laid) (v .state .in-six) sw sc) in
+        record {
+          modulus = v .modulus;
+          words-long = v .words-long;
+          coefs-long = v .coefs-long;
+          laid = without-laid b (l .bucket) (v .laid) (v .state .in-six);
+          level-is = ek ∙ ap levelAt (sym next-bucket);
+          work = v .work;
+          state = same-carrying on next-bucket (sym (ap (merge cmp p m) none ∙ merge-nil cmp p m)) (omega (arith, ap (mergeCount cmp m) none, count-right cmp m));
+        }
 
     module _ (bw bc : List ℕ) (ew : bw ≡ rowAt b sw (k .bucket)) (ec : bc ≡ rowAt b sc (k .bucket)) where
       next-long : len + length bw ≤ 4096
@@ -125,7 +136,7 @@ module _ {cmp : ℕ → ℕ → Ordering} {p : ℕ} {b : Buckets} {l : Level} {s
     };
   }
 
-  pub carries-end : {b' : Buckets} {l' : Level} {ww' wc' : List ℕ} {from' len' n' : ℕ} → Carries cmp p whole cost sw sc b' l' ww' wc' from' len' n' → len' ≤ l' .cap → CarryDone cmp p b l sw sc ww wc len n ww' wc' (record { buckets = b'; level = l'; from = from'; len = len'; comparisons = n' })
+  pub carries-end : {b' : Buckets} {l' : Level} {ww' wc' : List ℕ} {from' len' n' : ℕ} → Carries cmp p whole cost sw sc b' l' ww' wc' from' len' n' → len' ≤ l' .cap → CarryDone cmp p b l sw sc ww wc len n b' ww' wc' (record { level = l'; from = from'; len = len'; comparisons = n' })
   carries-end {b'} {l'} {ww'} {wc'} {from'} {len'} v h =
       let fits : length (terms (part from' len' ww') (part from' len' wc')) ≤ capacity (l' .bucket) = omega (arith, h, cap-is l' (v .level-is), terms-long (v .work)) in
       record {

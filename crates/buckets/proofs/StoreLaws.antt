@@ -3,12 +3,11 @@ use mathlib.Core.Path.{_≡_, refl, sym, ap, ap₂, _∙_}
 use mathlib.Core.List.{List}
 use Prim.Native.Nat.{ℕ, suc, _+_, _<_, _≤_}
 use native.Mathlib.Omega.{arith}
-use lib.ListN.{length, getD}
+use lib.ListN.{length}
 use lib.Seq.{sets, length-sets}
 use Rattle.polynomial.specs.Terms.{terms}
 use Rattle.merge.specs.Lent.{part}
-use Rattle.space.specs.Space.{capacity, start, bucketAt, Laid, moved}
-use Rattle.space.specs.declared.state.Buckets.{Buckets}
+use Rattle.space.specs.Space.{Buckets, capacity, start, bucketAt, Laid, moved}
 use Rattle.buckets.specs.declared.level.Level.{Level}
 use Rattle.buckets.specs.Adding.{Store, Stored}
 use Rattle.space.proofs.Starts.{next-start, start-end}

@@ -5,7 +5,7 @@ use mathlib.Core.Logic.{_⊎_, inl, inr, ⊎-elim}
 use Prim.Native.Nat.{ℕ, zero, suc, _+_, _-_, _*_, _<_, _≤_, Ordering}
 use native.Mathlib.Numerals.{add-one}
 use native.Mathlib.Omega.{arith}
-use lib.ListN.{length, getD, length-append}
+use lib.ListN.{length, length-append}
 use lib.Seq.{length-sets}
 use Rattle.residue.specs.Modular.{Modulus}
 use Rattle.monomial.specs.TotalOrder.{TotalOrder}
@@ -17,8 +17,7 @@ use Rattle.merge.specs.Lent.{Poly, part}
 use Rattle.merge.specs.Merging.{Made, Within}
 use Rattle.merge.proofs.Lists.{length-part}
 use Rattle.geobucket.specs.Buckets.{empty, held, Good, sumFrom, sumCompared, fullSum, emptied}
-use Rattle.space.specs.Space.{capacity, listFrom, rowAt, bucketAt, bucketsIn, Laid, Stands, noBuckets}
-use Rattle.space.specs.declared.state.Buckets.{Buckets}
+use Rattle.space.specs.Space.{Buckets, headAt, lenAt, capacity, listFrom, rowAt, bucketAt, bucketsIn, Laid, Stands, noBuckets}
 use Rattle.space.proofs.SpaceLaws.{from-next, from-none, good-at, row-end, row-long, bucket-long, bucket-poly, bucket-none, held-cons, lists-none, stands-none}
 use Rattle.buckets.specs.declared.sum.Summed.{Summed}
 use Rattle.buckets.specs.Summing.{Summation, SumDone}
@@ -109,10 +108,10 @@ sums-start {cmp} {p} {b} {sw} {sc} s = record {
 
 module _ {cmp : ℕ → ℕ → Ordering} {p : ℕ} {sw sc : List ℕ} {b : Buckets} {ww wc : List ℕ} {from len n i : ℕ} (v : Sums cmp p sw sc b ww wc from len n i) where
   module _ (h : i < 6) where
-    pub sum-end : getD (b .head) i 0 + getD (b .len) i 0 ≤ 5460
+    pub sum-end : headAt b i + lenAt b i ≤ 5460
     sum-end = row-end b (v .stands .laid) i h
 
-    pub sum-none : getD (b .len) i 0 ≡ 0 → Sums cmp p sw sc b ww wc from len n (i + 1)
+    pub sum-none : lenAt b i ≡ 0 → Sums cmp p sw sc b ww wc from len n (i + 1)
     sum-none e = record {
       stands = v .stands;
       work = v .work;
@@ -159,7 +158,7 @@ emptied-six : (g : ℕ → List (Term ℕ)) → emptied (listFrom g 0 6) ≡ emp
 unfolding listFrom emptied
 emptied-six g = refl
 
-pub sums-end : {cmp : ℕ → ℕ → Ordering} {p : ℕ} {sw sc : List ℕ} {b : Buckets} {ww wc : List ℕ} {from len n i : ℕ} → Sums cmp p sw sc b ww wc from len n i → 6 ≤ i → {b' : Buckets} → b' ≡ noBuckets → SumDone cmp p b sw sc ww wc (record { buckets = b'; from = from; len = len; comparisons = n })
+pub sums-end : {cmp : ℕ → ℕ → Ordering} {p : ℕ} {sw sc : List ℕ} {b : Buckets} {ww wc : List ℕ} {from len n i : ℕ} → Sums cmp p sw sc b ww wc from len n i → 6 ≤ i → {b' : Buckets} → b' ≡ noBuckets → SumDone cmp p b sw sc b' ww wc (record { from = from; len = len; comparisons = n })
 sums-end {cmp} {p} {sw} {sc} {b} {ww} {wc} {from} {len} v h {b'} e =
     let lists : bucketsIn b' sw sc ≡ emptied (bucketsIn b sw sc) = ap (λ (x : Buckets). bucketsIn x sw sc) e ∙ (lists-none sw sc ∙ sym (emptied-six (bucketAt b sw sc))) in
     record {

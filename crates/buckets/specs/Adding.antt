@@ -8,8 +8,7 @@ use lib.ListN.{length}
 use Rattle.polynomial.specs.Terms.{Term, terms, Canonical}
 use Rattle.merge.specs.Lent.{part}
 use Rattle.geobucket.specs.Buckets.{held, carry, carryCompared, add, addCompared}
-use Rattle.space.specs.Space.{capacity, start, listFrom, bucketAt, bucketsIn, Laid, Stands}
-use Rattle.space.specs.declared.state.Buckets.{Buckets}
+use Rattle.space.specs.Space.{Buckets, capacity, start, listFrom, bucketAt, bucketsIn, Laid, Stands}
 use Rattle.buckets.specs.declared.level.Level.{Level}
 use Rattle.buckets.specs.declared.add.Carried.{Carried}
 use Rattle.buckets.specs.Levels.{levelAt}
@@ -50,15 +49,15 @@ pub record Carry (cmp : ℕ → ℕ → Ordering) (p : ℕ) (b : Buckets) (l : L
   pub few : comparisons ≤ 4096
 
 -- the result m lies in the work space, and fits into the bucket that it goes to: with m in it, the buckets are those of the published carry
-pub record CarryDone (cmp : ℕ → ℕ → Ordering) (p : ℕ) (b : Buckets) (l : Level) (sw sc ww wc : List ℕ) (len comparisons : ℕ) (ww' wc' : List ℕ) (r : Carried) : Type 0 where
-  pub laid : Laid (r .buckets)
+pub record CarryDone (cmp : ℕ → ℕ → Ordering) (p : ℕ) (b : Buckets) (l : Level) (sw sc ww wc : List ℕ) (len comparisons : ℕ) (b' : Buckets) (ww' wc' : List ℕ) (r : Carried) : Type 0 where
+  pub laid : Laid b'
   pub level-is : r .level ≡ levelAt (r .level .bucket)
   pub within : r .level .bucket < 6
   pub fits : r .len ≤ capacity (r .level .bucket)
   pub in-work : r .from + r .len ≤ 8192
   pub few : r .comparisons ≤ 50000
   pub lists-are :
-      listFrom (bucketAt (r .buckets) sw sc) 0 (r .level .bucket) ++ (terms (part (r .from) (r .len) ww') (part (r .from) (r .len) wc') ∷ listFrom (bucketAt (r .buckets) sw sc) (suc (r .level .bucket)) (5 - r .level .bucket))
+      listFrom (bucketAt b' sw sc) 0 (r .level .bucket) ++ (terms (part (r .from) (r .len) ww') (part (r .from) (r .len) wc') ∷ listFrom (bucketAt b' sw sc) (suc (r .level .bucket)) (5 - r .level .bucket))
       ≡ listFrom (bucketAt b sw sc) 0 (l .bucket) ++ landed cmp p (capacity (l .bucket)) (terms (part 0 len ww) (part 0 len wc)) (listFrom (bucketAt b sw sc) (suc (l .bucket)) (5 - l .bucket))
   pub count-is : r .comparisons ≡ comparisons + length (landedCompared cmp p (capacity (l .bucket)) (terms (part 0 len ww) (part 0 len wc)) (listFrom (bucketAt b sw sc) (suc (l .bucket)) (5 - l .bucket)))
 

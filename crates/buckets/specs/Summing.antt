@@ -6,8 +6,7 @@ use lib.ListN.{length}
 use Rattle.polynomial.specs.Terms.{terms}
 use Rattle.merge.specs.Lent.{part}
 use Rattle.geobucket.specs.Buckets.{held, fullSum, sumCompared, emptied}
-use Rattle.space.specs.Space.{bucketsIn, Stands}
-use Rattle.space.specs.declared.state.Buckets.{Buckets}
+use Rattle.space.specs.Space.{Buckets, bucketsIn, Stands}
 use Rattle.buckets.specs.declared.sum.Summed.{Summed}
 
 pub record Summation (cmp : ℕ → ℕ → Ordering) (p : ℕ) (b : Buckets) (sw sc ww wc : List ℕ) : Type 0 where
@@ -17,11 +16,11 @@ pub record Summation (cmp : ℕ → ℕ → Ordering) (p : ℕ) (b : Buckets) (s
   pub work-coefs : length wc ≡ 8192
 
 -- the sum in the work space is the published one, with its comparisons, and the buckets are empty
-pub record SumDone (cmp : ℕ → ℕ → Ordering) (p : ℕ) (b : Buckets) (sw sc ww wc : List ℕ) (r : Summed) : Type 0 where
+pub record SumDone (cmp : ℕ → ℕ → Ordering) (p : ℕ) (b : Buckets) (sw sc : List ℕ) (b' : Buckets) (ww wc : List ℕ) (r : Summed) : Type 0 where
   pub in-work : r .from + r .len ≤ 8192
   pub sum-is : terms (part (r .from) (r .len) ww) (part (r .from) (r .len) wc) ≡ fullSum cmp p (bucketsIn b sw sc)
   pub len-is : r .len ≡ length (fullSum cmp p (bucketsIn b sw sc))
   pub count-is : r .comparisons ≡ length (sumCompared cmp p [] (bucketsIn b sw sc))
   pub few : r .comparisons ≤ 50000
-  pub lists-are : bucketsIn (r .buckets) sw sc ≡ emptied (bucketsIn b sw sc)
-  pub stands : Stands cmp p (r .buckets) sw sc
+  pub lists-are : bucketsIn b' sw sc ≡ emptied (bucketsIn b sw sc)
+  pub stands : Stands cmp p b' sw sc

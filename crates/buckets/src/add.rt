@@ -6,62 +6,54 @@ use merge::copy::put_words;
 use merge::merging::merge;
 use merge::within::merge_within;
 use monomial::order::Order;
-use space::state::Buckets;
 ghost use Rattle.monomial.specs.Words.{compareWords};
 ghost use Rattle.polynomial.specs.Terms.{terms};
 ghost use Rattle.merge.specs.Lent.{part};
 ghost use Rattle.buckets.specs.Adding.{Addition, AddDone, Carry, CarryDone, Store, Stored};
 
-// What an addition leaves: the buckets, and the comparisons that it made.
-pub struct Added {
-    pub buckets: Buckets,
-    pub comparisons: u64,
-}
-
-// What a carry leaves: the buckets below, emptied, and where the result lies in the work space and
-// goes to.
+// What a carry leaves: where the result lies in the work space and goes to. The buckets below are
+// emptied.
 pub struct Carried {
-    pub buckets: Buckets,
     pub level: Level,
     pub from: usize,
     pub len: usize,
     pub comparisons: u64,
 }
 
-// Adds the polynomial f. A zero f changes nothing and costs nothing.
+// Adds the polynomial f, and gives the comparisons. A zero f changes nothing and costs nothing, and
+// an empty bucket takes f as it is.
 pub fn add<'a>(
     order: Order,
     p: u32,
-    b: Buckets,
+    b: &mut [usize],
     fw: &'a [u64],
     fc: &'a [u32],
     sw: &mut [u64],
     sc: &mut [u32],
     ww: &mut [u64],
     wc: &mut [u32],
-) -> Added
-    requires { ⌜ Addition (compareWords order) p b (now fw) (now fc) (now sw) (now sc) (now ww) (now wc) ⌝ }
-    ensures { λ r. ⌜ AddDone (compareWords order) p b (terms (now (fw .entry)) (now (fc .entry))) (now (sw .entry)) (now (sc .entry)) (now (sw .exit)) (now (sc .exit)) (r .buckets) (r .comparisons) ⌝ }
+) -> u64
+    requires { ⌜ Addition (compareWords order) p (now b) (now fw) (now fc) (now sw) (now sc) (now ww) (now wc) ⌝ }
+    ensures { λ r. ⌜ AddDone (compareWords order) p (now (b .entry)) (terms (now (fw .entry)) (now (fc .entry))) (now (sw .entry)) (now (sc .entry)) (now (sw .exit)) (now (sc .exit)) (now (b .exit)) r ⌝ }
 {
     if fw.len() == 0 {
-        return Added {
-            buckets: b,
-            comparisons: 0,
-        };
+        return 0;
     }
     let l = level_for(fw.len());
     let i = l.bucket;
-    let h = b.head[i];
-    let e = h + b.len[i];
+    let h = b[i];
+    let n = b[6 + i];
+    if n == 0 {
+        store(b, l, fw, fc, sw, sc);
+        return 0;
+    }
+    let e = h + n;
     let m = merge(order, p, fw, fc, &sw[h..e], &sc[h..e], ww, wc);
     let r = carry(order, p, b, l, sw, sc, ww, wc, m.len, m.comparisons);
     let from = r.from;
     let end = from + r.len;
-    let buckets = store(r.buckets, r.level, &ww[from..end], &wc[from..end], sw, sc);
-    Added {
-        buckets,
-        comparisons: r.comparisons,
-    }
+    store(b, r.level, &ww[from..end], &wc[from..end], sw, sc);
+    r.comparisons
 }
 
 // The merge with bucket l lies at the front of the work space. While it is larger than the bucket,
@@ -69,7 +61,7 @@ pub fn add<'a>(
 fn carry(
     order: Order,
     p: u32,
-    buckets: Buckets,
+    b: &mut [usize],
     first: Level,
     sw: &[u64],
     sc: &[u32],
@@ -78,29 +70,30 @@ fn carry(
     terms: usize,
     comparisons: u64,
 ) -> Carried
-    requires { ⌜ Carry (compareWords order) p buckets first (now sw) (now sc) (now ww) (now wc) terms comparisons ⌝ }
-    ensures { λ r. ⌜ CarryDone (compareWords order) p buckets first (now (sw .entry)) (now (sc .entry)) (now (ww .entry)) (now (wc .entry)) terms comparisons (now (ww .exit)) (now (wc .exit)) r ⌝ }
+    requires { ⌜ Carry (compareWords order) p (now b) first (now sw) (now sc) (now ww) (now wc) terms comparisons ⌝ }
+    ensures { λ r. ⌜ CarryDone (compareWords order) p (now (b .entry)) first (now (sw .entry)) (now (sc .entry)) (now (ww .entry)) (now (wc .entry)) terms comparisons (now (b .exit)) (now (ww .exit)) (now (wc .exit)) r ⌝ }
 {
-    let mut b = buckets;
     let mut l = first;
     let mut from = 0;
     let mut len = terms;
     let mut n = comparisons;
     while l.cap < len {
         let full = l.bucket;
-        b.len[full] = 0;
         l = l.next();
         let i = l.bucket;
-        let h = b.head[i];
-        let e = h + b.len[i];
-        let to = 4096 - from;
-        let m = merge_within(order, p, ww, wc, from, len, to, &sw[h..e], &sc[h..e]);
-        from = to;
-        len = m.len;
-        n += m.comparisons;
+        let h = b[i];
+        let held = b[6 + i];
+        b[6 + full] = 0;
+        if held != 0 {
+            let e = h + held;
+            let to = 4096 - from;
+            let m = merge_within(order, p, ww, wc, from, len, to, &sw[h..e], &sc[h..e]);
+            from = to;
+            len = m.len;
+            n += m.comparisons;
+        }
     }
     Carried {
-        buckets: b,
         level: l,
         from,
         len,
@@ -109,22 +102,13 @@ fn carry(
 }
 
 // Puts the terms into a bucket in place of what it held.
-fn store(
-    buckets: Buckets,
-    l: Level,
-    tw: &[u64],
-    tc: &[u32],
-    sw: &mut [u64],
-    sc: &mut [u32],
-) -> Buckets
-    requires { ⌜ Store buckets l (now tw) (now tc) (now sw) (now sc) ⌝ }
-    ensures { λ r. ⌜ Stored buckets l (terms (now (tw .entry)) (now (tc .entry))) (now (sw .entry)) (now (sc .entry)) (now (sw .exit)) (now (sc .exit)) r ⌝ }
+fn store(b: &mut [usize], l: Level, tw: &[u64], tc: &[u32], sw: &mut [u64], sc: &mut [u32])
+    requires { ⌜ Store (now b) l (now tw) (now tc) (now sw) (now sc) ⌝ }
+    ensures { λ _. ⌜ Stored (now (b .entry)) l (terms (now (tw .entry)) (now (tc .entry))) (now (sw .entry)) (now (sc .entry)) (now (sw .exit)) (now (sc .exit)) (now (b .exit)) ⌝ }
 {
     put_words(tw, sw, l.start);
     put_coefs(tc, sc, l.start);
     let i = l.bucket;
-    let mut b = buckets;
-    b.head[i] = l.start;
-    b.len[i] = tw.len();
-    b
+    b[i] = l.start;
+    b[6 + i] = tw.len();
 }

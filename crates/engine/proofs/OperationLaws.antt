@@ -20,8 +20,7 @@ use Rattle.geobucket.proofs.AddLaws.{adds}
 use Rattle.geobucket.proofs.EventLaws.{room-six}
 use Rattle.geobucket.proofs.SearchLaws.{Fewer, Leads, finds}
 use Rattle.geobucket.proofs.SumLaws.{sum-size, emptied-held}
-use Rattle.space.specs.Space.{bucketsIn, bucketAt, Stands, heldIn}
-use Rattle.space.specs.declared.state.Buckets.{Buckets}
+use Rattle.space.specs.Space.{Buckets, bucketsIn, bucketAt, Stands, heldIn}
 use Rattle.space.proofs.SpaceLaws.{from-long, held-lens, part-to}
 use Rattle.search.specs.declared.candidate.Candidate.{Candidate}
 use Rattle.search.specs.Candidates.{candidateOf}
@@ -37,17 +36,17 @@ use Rattle.engine.specs.States.{halted, standsFor, Counting, Output, Wor
 use Rattle.engine.proofs.OutputLaws.{terms-append, written-long, grown, grown-output, words-past, coefs-past}
 
 -- ---- a refused operation
-module _ {cmp : ℕ → ℕ → Ordering} {p : ℕ} {s : State} {bw bc : List ℕ} (c : Counting cmp p s bw bc) where
-  halted-counting : (r : ℕ) → Counting cmp p (halted s r) bw bc
+module _ {cmp : ℕ → ℕ → Ordering} {p : ℕ} {s : State} {b : Buckets} {bw bc : List ℕ} (c : Counting cmp p s b bw bc) where
+  halted-counting : (r : ℕ) → Counting cmp p (halted s r) b bw bc
   halted-counting r = record { stands = c .stands; room = c .room; most = c .most; few = c .few; some-brought = c .some-brought; some-given = c .some-given }
 
-  pub halted-done : {ow oc : List ℕ} (o : Operation) (r : ℕ) → Output (s .places) ow oc → operate cmp p (length ow) o (standsFor s bw bc ow oc) ≡ stopped r (standsFor s bw bc ow oc) → Operated cmp p o s bw bc ow oc (halted s r) bw bc ow oc
+  pub halted-done : {ow oc : List ℕ} (o : Operation) (r : ℕ) → Output (s .places) ow oc → operate cmp p (length ow) o (standsFor s b bw bc ow oc) ≡ stopped r (standsFor s b bw bc ow oc) → Operated cmp p o s b bw bc ow oc (halted s r) b bw bc ow oc
   halted-done o r out e = record { counting = halted-counting r; output = out; is = sym e; longer = omega arith; words-past = refl; coefs-past = refl }
 
-  pub held-is : held (bucketsIn (s .buckets) bw bc) ≡ heldIn (s .buckets .len)
-  held-is = let t = c .stands in held-lens (s .buckets) (t .laid) bw bc (t .words-long) (t .coefs-long)
+  pub held-is : held (bucketsIn b bw bc) ≡ heldIn b
+  held-is = let t = c .stands in held-lens b (t .laid) bw bc (t .words-long) (t .coefs-long)
 
-  pub held-small : heldIn (s .buckets .len) ≤ 4096
+  pub held-small : heldIn b ≤ 4096
   held-small = omega (arith, c .room, held-is)
 
   -- ---- an addition
@@ -55,29 +54,29 @@ module _ {cmp : ℕ → ℕ → Ordering} {p : ℕ} {s : State} {bw bc : List �
     f-long : length (terms fw fc) ≡ length fw
     f-long = length-terms fw fc (a .long)
 
-    pub add-refused : 4096 < heldIn (s .buckets .len) + length fw → AddOperated cmp p (terms fw fc) s bw bc (halted s 11) bw bc
+    pub add-refused : 4096 < heldIn b + length fw → AddOperated cmp p (terms fw fc) s b bw bc (halted s 11) b bw bc
     unfolding operate
     add-refused h = record {
       done = λ ow oc out.
           halted-done (R.adds (terms fw fc)) 11 out
-          (ap (λ (b : Bool). addedBy cmp p b (terms fw fc) (standsFor s bw bc ow oc)) (lt-leb (held (bucketsIn (s .buckets) bw bc) + length (terms fw fc)) 4096 (omega (arith, h, held-is, f-long))));
+          (ap (λ (x : Bool). addedBy cmp p x (terms fw fc) (standsFor s b bw bc ow oc)) (lt-leb (held (bucketsIn b bw bc) + length (terms fw fc)) 4096 (omega (arith, h, held-is, f-long))));
     }
 
-    module _ {ww wc : List ℕ} (w : Work ww wc) (h : heldIn (s .buckets .len) + length fw ≤ 4096) where
-      pub add-asks : Addition cmp p (s .buckets) fw fc bw bc ww wc
+    module _ {ww wc : List ℕ} (w : Work ww wc) (h : heldIn b + length fw ≤ 4096) where
+      pub add-asks : Addition cmp p b fw fc bw bc ww wc
       add-asks = record { stands = c .stands; long = a .long; canonical = a .canonical; room = omega (arith, h, held-is); work-words = w .words-long; work-coefs = w .coefs-long }
 
-      pub add-operated : TotalOrder ℕ cmp → s .finished < 16777216 → {bw' bc' : List ℕ} {b' : Buckets} {n : ℕ} → AddDone cmp p (s .buckets) (terms fw fc) bw bc bw' bc' b' n
-          → AddOperated cmp p (terms fw fc) s bw bc (record { buckets = b'; comparisons = s .comparisons + n; brought = s .brought + length fw; given = s .given; places = s .places; finished = s .finished + 1; stop = 0 }) bw' bc'
+      pub add-operated : TotalOrder ℕ cmp → s .finished < 16777216 → {bw' bc' : List ℕ} {b' : Buckets} {n : ℕ} → AddDone cmp p b (terms fw fc) bw bc bw' bc' b' n
+          → AddOperated cmp p (terms fw fc) s b bw bc (record { comparisons = s .comparisons + n; brought = s .brought + length fw; given = s .given; places = s .places; finished = s .finished + 1; stop = 0 }) b' bw' bc'
       unfolding operate
       add-operated O more {bw'} {bc'} {b'} {n} d =
           let f = terms fw fc in
-          let bs = bucketsIn (s .buckets) bw bc in
+          let bs = bucketsIn b bw bc in
           let small : length fw ≤ 4096 = omega arith in
-          let size = adds cmp p O (omega (arith, c .stands .modulus .two)) f bs (omega (arith, h, held-is, f-long, room-six bs (from-long (bucketAt (s .buckets) bw bc) 0 6))) (a .canonical) (c .stands .good) .size in
+          let size = adds cmp p O (omega (arith, c .stands .modulus .two)) f bs (omega (arith, h, held-is, f-long, room-six bs (from-long (bucketAt b bw bc) 0 6))) (a .canonical) (c .stands .good) .size in
           record {
             done = λ ow oc out.
-                let t = standsFor s bw bc ow oc in
+                let t = standsFor s b bw bc ow oc in
                 let eb : bucketsIn b' bw' bc' ≡ add cmp p f bs = d .lists-are in
                 let ec : s .comparisons + n ≡ s .comparisons + length (addCompared cmp p f bs) = ap (λ (m : ℕ). s .comparisons + m) (d .count-is) in
                 let er : s .brought + length fw ≡ s .brought + length f = ap (λ (m : ℕ). s .brought + m) (sym f-long) in
@@ -92,7 +91,7 @@ module _ {cmp : ℕ → ℕ → Ordering} {p : ℕ} {s : State} {bw bc : List �
                     some-given = omega (arith, c .some-given);
                   };
                   output = out;
-                  is = same ∙ sym (ap (λ (b : Bool). addedBy cmp p b f t) (le-leb (held bs + length f) 4096 (omega (arith, h, held-is, f-long))));
+                  is = same ∙ sym (ap (λ (x : Bool). addedBy cmp p x f t) (le-leb (held bs + length f) 4096 (omega (arith, h, held-is, f-long))));
                   longer = omega arith;
                   words-past = refl;
                   coefs-past = refl;
@@ -101,13 +100,13 @@ module _ {cmp : ℕ → ℕ → Ordering} {p : ℕ} {s : State} {bw bc : List �
 
   -- ---- a lead
   module _ {ow oc : List ℕ} (out : Output (s .places) ow oc) where
-    pub lead-refused : length ow ≤ s .places → Operated cmp p R.leads s bw bc ow oc (halted s 10) bw bc ow oc
+    pub lead-refused : length ow ≤ s .places → Operated cmp p R.leads s b bw bc ow oc (halted s 10) b bw bc ow oc
     unfolding operate
-    lead-refused h = halted-done R.leads 10 out (ap (λ (b : Bool). takenBy cmp p b (standsFor s bw bc ow oc)) (lt-leb (length (terms (part 0 (s .places) ow) (part 0 (s .places) oc)) + 1) (length ow) (omega (arith, h, written-long out))))
+    lead-refused h = halted-done R.leads 10 out (ap (λ (x : Bool). takenBy cmp p x (standsFor s b bw bc ow oc)) (lt-leb (length (terms (part 0 (s .places) ow) (part 0 (s .places) oc)) + 1) (length ow) (omega (arith, h, written-long out))))
 
-    module _ (h : s .places < length ow) (O : TotalOrder ℕ cmp) {b' : Buckets} {bc' : List ℕ} {k : Candidate} (d : TakeDone cmp p (bucketsIn (s .buckets) bw bc) b' bw bc' k) where
+    module _ (h : s .places < length ow) (O : TotalOrder ℕ cmp) {b' : Buckets} {bc' : List ℕ} {k : Candidate} (d : TakeDone cmp p (bucketsIn b bw bc) b' bw bc' k) where
       abbrev bs : List (List (Term ℕ))
-      bs = bucketsIn (s .buckets) bw bc
+      bs = bucketsIn b bw bc
 
       pos : 0 < p
       pos = omega (arith, c .stands .modulus .two)
@@ -137,10 +136,10 @@ module _ {cmp : ℕ → ℕ → Ordering} {p : ℕ} {s : State} {bw bc : List �
           by (lead at t) l = omega (arith, l)
 
       pub lead-operated : s .finished < 16777216 → {z : ℕ} → z ≡ flag (not (eqb (k .coef) 0)) → z ≤ 1
-          → Operated cmp p R.leads s bw bc ow oc (record { buckets = b'; comparisons = s .comparisons + k .count; brought = s .brought; given = s .given + z; places = s .places + 1; finished = s .finished + 1; stop = 0 }) bw bc' (set ow (s .places) (k .word)) (set oc (s .places) (k .coef))
+          → Operated cmp p R.leads s b bw bc ow oc (record { comparisons = s .comparisons + k .count; brought = s .brought; given = s .given + z; places = s .places + 1; finished = s .finished + 1; stop = 0 }) b' bw bc' (set ow (s .places) (k .word)) (set oc (s .places) (k .coef))
       unfolding operate
       lead-operated more {z} ez small =
-          let t = standsFor s bw bc ow oc in
+          let t = standsFor s b bw bc ow oc in
           let w = k .word ∷ [] in
           let v = k .coef ∷ [] in
           let fit : s .places + length w ≤ length ow = omega (arith, h) in
@@ -160,7 +159,7 @@ module _ {cmp : ℕ → ℕ → Ordering} {p : ℕ} {s : State} {bw bc : List �
               some-given = omega (arith, c .some-given, small);
             };
             output = grown-output out w v refl fit;
-            is = same ∙ sym (ap (λ (b : Bool). takenBy cmp p b t) (le-leb (length (t .output) + 1) (length ow) (omega (arith, h, written-long out))));
+            is = same ∙ sym (ap (λ (x : Bool). takenBy cmp p x t) (le-leb (length (t .output) + 1) (length ow) (omega (arith, h, written-long out))));
             longer = omega arith;
             words-past = words-past out w v refl fit;
             coefs-past = coefs-past out w v refl fit;
@@ -171,16 +170,16 @@ module _ {cmp : ℕ → ℕ → Ordering} {p : ℕ} {s : State} {bw bc : List �
           count-by (lead at t) n = refl
 
     -- ---- a full sum
-    pub sum-refused : length ow - s .places < heldIn (s .buckets .len) + 1 → Operated cmp p R.sums s bw bc ow oc (halted s 10) bw bc ow oc
+    pub sum-refused : length ow - s .places < heldIn b + 1 → Operated cmp p R.sums s b bw bc ow oc (halted s 10) b bw bc ow oc
     unfolding operate
-    sum-refused h = halted-done R.sums 10 out (ap (λ (b : Bool). summedBy cmp p b (standsFor s bw bc ow oc)) (lt-leb (length (terms (part 0 (s .places) ow) (part 0 (s .places) oc)) + (held (bucketsIn (s .buckets) bw bc) + 1)) (length ow) (omega (arith, h, written-long out, held-is, out .fits))))
+    sum-refused h = halted-done R.sums 10 out (ap (λ (x : Bool). summedBy cmp p x (standsFor s b bw bc ow oc)) (lt-leb (length (terms (part 0 (s .places) ow) (part 0 (s .places) oc)) + (held (bucketsIn b bw bc) + 1)) (length ow) (omega (arith, h, written-long out, held-is, out .fits))))
 
-    pub sum-asks : {ww wc : List ℕ} → Work ww wc → Summation cmp p (s .buckets) bw bc ww wc
+    pub sum-asks : {ww wc : List ℕ} → Work ww wc → Summation cmp p b bw bc ww wc
     sum-asks w = record { stands = c .stands; room = c .room; work-words = w .words-long; work-coefs = w .coefs-long }
 
-    module _ (h : heldIn (s .buckets .len) + 1 ≤ length ow - s .places) {ww wc : List ℕ} {r : Summed} (d : SumDone cmp p (s .buckets) bw bc ww wc r) (lw : length ww ≡ 8192) (lc : length wc ≡ 8192) where
+    module _ (h : heldIn b + 1 ≤ length ow - s .places) {b' : Buckets} {ww wc : List ℕ} {r : Summed} (d : SumDone cmp p b bw bc b' ww wc r) (lw : length ww ≡ 8192) (lc : length wc ≡ 8192) where
       abbrev all : List (List (Term ℕ))
-      all = bucketsIn (s .buckets) bw bc
+      all = bucketsIn b bw bc
 
       abbrev W : List ℕ
       W = part (r .from) (r .len) ww
@@ -194,7 +193,7 @@ module _ {cmp : ℕ → ℕ → Ordering} {p : ℕ} {s : State} {bw bc : List �
       C-long : length C ≡ r .len
       C-long = length-part (r .from) (r .len) wc (omega (arith, d .in-work, lc))
 
-      pub sum-short : r .len ≤ heldIn (s .buckets .len)
+      pub sum-short : r .len ≤ heldIn b
       sum-short = omega (arith, d .len-is, sum-size cmp p [] all, held-is)
 
       pub sum-fits : s .places + r .len < length ow
@@ -212,10 +211,10 @@ module _ {cmp : ℕ → ℕ → Ordering} {p : ℕ} {s : State} {bw bc : List �
       VC-long : length VC ≡ r .len + 1
       VC-long = length-append C (0 ∷ []) ∙ ap (λ (n : ℕ). n + 1) C-long
 
-      pub sum-operated : s .finished < 16777216 → Operated cmp p R.sums s bw bc ow oc (record { buckets = r .buckets; comparisons = s .comparisons + r .comparisons; brought = s .brought; given = s .given + r .len; places = s .places + r .len + 1; finished = s .finished + 1; stop = 0 }) bw bc (set (sets ow (s .places) W) (s .places + r .len) 0) (set (sets oc (s .places) C) (s .places + r .len) 0)
+      pub sum-operated : s .finished < 16777216 → Operated cmp p R.sums s b bw bc ow oc (record { comparisons = s .comparisons + r .comparisons; brought = s .brought; given = s .given + r .len; places = s .places + r .len + 1; finished = s .finished + 1; stop = 0 }) b' bw bc (set (sets ow (s .places) W) (s .places + r .len) 0) (set (sets oc (s .places) C) (s .places + r .len) 0)
       unfolding operate
       sum-operated more =
-          let t = standsFor s bw bc ow oc in
+          let t = standsFor s b bw bc ow oc in
           let at = s .places in
           let same-len : length VC ≡ length VW = VC-long ∙ sym VW-long in
           let fit : at + length VW ≤ length ow = omega (arith, sum-fits, VW-long) in
@@ -223,12 +222,12 @@ module _ {cmp : ℕ → ℕ → Ordering} {p : ℕ} {s : State} {bw bc : List �
           let ev : set (sets oc at C) (at + r .len) 0 ≡ sets oc at VC = ap (λ (n : ℕ). set (sets oc at C) (at + n) 0) (sym C-long) ∙ sym (sets-snoc oc at C 0) in
           let ep : at + r .len + 1 ≡ at + length VW = omega (arith, VW-long) in
           let out' = terms (part 0 (at + length VW) (sets ow at VW)) (part 0 (at + length VW) (sets oc at VC)) in
-          let eb : bucketsIn (r .buckets) bw bc ≡ emptied all = d .lists-are in
+          let eb : bucketsIn b' bw bc ≡ emptied all = d .lists-are in
           let ec : s .comparisons + r .comparisons ≡ s .comparisons + length (sumCompared cmp p [] all) = ap (λ (m : ℕ). s .comparisons + m) (d .count-is) in
           let eg : s .given + r .len ≡ s .given + length (fullSum cmp p all) = ap (λ (m : ℕ). s .given + m) (d .len-is) in
           let eo : out' ≡ t .output ++ (fullSum cmp p all ++ (term 0 0 ∷ [])) = grown out VW VC same-len fit ∙ ap (λ (x : List (Term ℕ)). t .output ++ x) (terms-append W C (0 ∷ []) (0 ∷ []) (C-long ∙ sym W-long) ∙ ap (λ (x : List (Term ℕ)). x ++ (term 0 0 ∷ [])) (d .sum-is)) in
-          let same : _≡_ {A = Running} (record { buckets = bucketsIn (r .buckets) bw bc; comparisons = s .comparisons + r .comparisons; brought = s .brought; given = s .given + r .len; output = out'; finished = s .finished + 1; stop = 0 }) (record { buckets = emptied all; comparisons = s .comparisons + length (sumCompared cmp p [] all); brought = s .brought; given = s .given + length (fullSum cmp p all); output = t .output ++ (fullSum cmp p all ++ (term 0 0 ∷ [])); finished = s .finished + 1; stop = 0 }) = cc in
-          let done : Operated cmp p R.sums s bw bc ow oc (record { buckets = r .buckets; comparisons = s .comparisons + r .comparisons; brought = s .brought; given = s .given + r .len; places = at + length VW; finished = s .finished + 1; stop = 0 }) bw bc (sets ow at VW) (sets oc at VC) =
+          let same : _≡_ {A = Running} (record { buckets = bucketsIn b' bw bc; comparisons = s .comparisons + r .comparisons; brought = s .brought; given = s .given + r .len; output = out'; finished = s .finished + 1; stop = 0 }) (record { buckets = emptied all; comparisons = s .comparisons + length (sumCompared cmp p [] all); brought = s .brought; given = s .given + length (fullSum cmp p all); output = t .output ++ (fullSum cmp p all ++ (term 0 0 ∷ [])); finished = s .finished + 1; stop = 0 }) = cc in
+          let done : Operated cmp p R.sums s b bw bc ow oc (record { comparisons = s .comparisons + r .comparisons; brought = s .brought; given = s .given + r .len; places = at + length VW; finished = s .finished + 1; stop = 0 }) b' bw bc (sets ow at VW) (sets oc at VC) =
           record {
             counting = record {
               stands = d .stands;
@@ -239,7 +238,7 @@ module _ {cmp : ℕ → ℕ → Ordering} {p : ℕ} {s : State} {bw bc : List �
               some-given = omega (arith, c .some-given, sum-short, held-small);
             };
             output = grown-output out VW VC same-len fit;
-            is = same ∙ sym (ap (λ (b : Bool). summedBy cmp p b t) (le-leb (length (t .output) + (held all + 1)) (length ow) (omega (arith, h, written-long out, held-is, out .fits))));
+            is = same ∙ sym (ap (λ (x : Bool). summedBy cmp p x t) (le-leb (length (t .output) + (held all + 1)) (length ow) (omega (arith, h, written-long out, held-is, out .fits))));
             longer = omega arith;
             words-past = words-past out VW VC same-len fit;
             coefs-past = coefs-past out VW VC same-len fit;
@@ -250,8 +249,8 @@ module _ {cmp : ℕ → ℕ → Ordering} {p : ℕ} {s : State} {bw bc : List �
 pub part-len : (from n : ℕ) (l : List ℕ) → from + n ≤ length l → length (take (from + n - from) (drop from l)) ≡ n
 part-len from n l h = ap length (part-to from n l) ∙ length-part from n l h
 
-pub rw-done : {cmp : ℕ → ℕ → Ordering} {p : ℕ} {s s' : State} {bw bc ow oc ow' oc' : List ℕ} (at k from n : ℕ) (ww wc : List ℕ) → ow' ≡ sets ow at (take (from + n - from) (drop from ww)) → oc' ≡ sets oc at (take (from + n - from) (drop from wc)) → Operated cmp p R.sums s bw bc ow oc s' bw bc (set (sets ow at (part from n ww)) k 0) (set (sets oc at (part from n wc)) k 0) → Operated cmp p R.sums s bw bc ow oc s' bw bc (set ow' k 0) (set oc' k 0)
-rw-done {cmp} {p} {s} {s'} {bw} {bc} {ow} {oc} {ow'} {oc'} at k from n ww wc ew ec d =
+pub rw-done : {cmp : ℕ → ℕ → Ordering} {p : ℕ} {s s' : State} {b b' : Buckets} {bw bc ow oc ow' oc' : List ℕ} (at k from n : ℕ) (ww wc : List ℕ) → ow' ≡ sets ow at (take (from + n - from) (drop from ww)) → oc' ≡ sets oc at (take (from + n - from) (drop from wc)) → Operated cmp p R.sums s b bw bc ow oc s' b' bw bc (set (sets ow at (part from n ww)) k 0) (set (sets oc at (part from n wc)) k 0) → Operated cmp p R.sums s b bw bc ow oc s' b' bw bc (set ow' k 0) (set oc' k 0)
+rw-done {cmp} {p} {s} {s'} {b} {b'} {bw} {bc} {ow} {oc} {ow'} {oc'} at k from n ww wc ew ec d =
     let w : ow' ≡ sets ow at (part from n ww) = ew ∙ ap (sets ow at) (part-to from n ww) in
     let v : oc' ≡ sets oc at (part from n wc) = ec ∙ ap (sets oc at) (part-to from n wc) in
     rw (w, v) d

@@ -16,7 +16,7 @@ use Rattle.polynomial.specs.Terms.{Term, terms, Canonical}
 use Rattle.polynomial.specs.Opening.{partOf, Within}
 use Rattle.merge.specs.Lent.{part}
 use Rattle.geobucket.specs.Buckets.{empty, held}
-use Rattle.space.specs.Space.{bucketsIn, Stands, noBuckets}
+use Rattle.space.specs.Space.{Buckets, bucketsIn, Stands, noBuckets}
 use Rattle.space.proofs.SpaceLaws.{lists-none, stands-none}
 use Rattle.engine.specs.declared.state.State.{State}
 use Rattle.engine.specs.Runs.{Operation, adds, leads, sums, Running, begun, operate, operateAll, operationBy, polynomial, operationOf, operationsOf, addedBy, takenBy, summedBy}
@@ -26,7 +26,7 @@ use Rattle.engine.specs.States.{standsFor, Counting, Output, Work, Adden
 part-long : (starts : List ℕ) (k : ℕ) (l : List ℕ) → Within starts k (length l) → length (partOf starts k l) ≡ getD starts (k + 1) 0 - getD starts k 0
 part-long starts k l w = length-take-le (getD starts (k + 1) 0 - getD starts k 0) (drop (getD starts k 0) l) (let e = w .ends in omega (arith, w .rise, length-drop (getD starts k 0) l))
 
-module _ {cmp : ℕ → ℕ → Ordering} {p : ℕ} {words coefs starts : List ℕ} {code k : ℕ} {s : State} {bw bc ww wc ow oc : List ℕ} (a : Operable cmp p words coefs starts code k s bw bc ww wc ow oc) where
+module _ {cmp : ℕ → ℕ → Ordering} {p : ℕ} {words coefs starts : List ℕ} {code k : ℕ} {s : State} {b : Buckets} {bw bc ww wc ow oc : List ℕ} (a : Operable cmp p words coefs starts code k s b bw bc ww wc ow oc) where
   module _ (one : code ≡ 1) where
     pub words-there : Within starts k (length words)
     words-there = a .there one .0
@@ -41,21 +41,21 @@ module _ {cmp : ℕ → ℕ → Ordering} {p : ℕ} {words coefs starts : List �
         canonical = rw (ew, ec) (a .there one .1);
       }
 
-      pub one-operated : {s' : State} {bw' bc' : List ℕ} → AddOperated cmp p (terms fw fc) s bw bc s' bw' bc' → Operated cmp p (operationOf words coefs starts code k) s bw bc ow oc s' bw' bc' ow oc
-      one-operated {s'} {bw'} {bc'} d =
-          let e : adds (terms fw fc) ≡ operationOf words coefs starts code k = ap₂ (λ (x y : List ℕ). adds (terms x y)) ew ec ∙ sym (ap (λ (b : Bool). operationBy b (eqb code 2) (polynomial words coefs starts k)) (eq-eqb code 1 one)) in
-          subst (λ (o : Operation). Operated cmp p o s bw bc ow oc s' bw' bc' ow oc) e (d .done ow oc (a .output))
+      pub one-operated : {s' : State} {b' : Buckets} {bw' bc' : List ℕ} → AddOperated cmp p (terms fw fc) s b bw bc s' b' bw' bc' → Operated cmp p (operationOf words coefs starts code k) s b bw bc ow oc s' b' bw' bc' ow oc
+      one-operated {s'} {b'} {bw'} {bc'} d =
+          let e : adds (terms fw fc) ≡ operationOf words coefs starts code k = ap₂ (λ (x y : List ℕ). adds (terms x y)) ew ec ∙ sym (ap (λ (x : Bool). operationBy x (eqb code 2) (polynomial words coefs starts k)) (eq-eqb code 1 one)) in
+          subst (λ (o : Operation). Operated cmp p o s b bw bc ow oc s' b' bw' bc' ow oc) e (d .done ow oc (a .output))
 
   module _ (not-one : code ≡ 1 → ⊥) where
-    pub two-operated : code ≡ 2 → {s' : State} {bw' bc' ow' oc' : List ℕ} → Operated cmp p leads s bw bc ow oc s' bw' bc' ow' oc' → Operated cmp p (operationOf words coefs starts code k) s bw bc ow oc s' bw' bc' ow' oc'
-    two-operated two {s'} {bw'} {bc'} {ow'} {oc'} d =
+    pub two-operated : code ≡ 2 → {s' : State} {b' : Buckets} {bw' bc' ow' oc' : List ℕ} → Operated cmp p leads s b bw bc ow oc s' b' bw' bc' ow' oc' → Operated cmp p (operationOf words coefs starts code k) s b bw bc ow oc s' b' bw' bc' ow' oc'
+    two-operated two {s'} {b'} {bw'} {bc'} {ow'} {oc'} d =
         let e : leads ≡ operationOf words coefs starts code k = sym (ap₂ (λ (x y : Bool). operationBy x y (polynomial words coefs starts k)) (ne-eqb code 1 not-one) (eq-eqb code 2 two)) in
-        subst (λ (o : Operation). Operated cmp p o s bw bc ow oc s' bw' bc' ow' oc') e d
+        subst (λ (o : Operation). Operated cmp p o s b bw bc ow oc s' b' bw' bc' ow' oc') e d
 
-    pub three-operated : (code ≡ 2 → ⊥) → {s' : State} {bw' bc' ow' oc' : List ℕ} → Operated cmp p sums s bw bc ow oc s' bw' bc' ow' oc' → Operated cmp p (operationOf words coefs starts code k) s bw bc ow oc s' bw' bc' ow' oc'
-    three-operated not-two {s'} {bw'} {bc'} {ow'} {oc'} d =
+    pub three-operated : (code ≡ 2 → ⊥) → {s' : State} {b' : Buckets} {bw' bc' ow' oc' : List ℕ} → Operated cmp p sums s b bw bc ow oc s' b' bw' bc' ow' oc' → Operated cmp p (operationOf words coefs starts code k) s b bw bc ow oc s' b' bw' bc' ow' oc'
+    three-operated not-two {s'} {b'} {bw'} {bc'} {ow'} {oc'} d =
         let e : sums ≡ operationOf words coefs starts code k = sym (ap₂ (λ (x y : Bool). operationBy x y (polynomial words coefs starts k)) (ne-eqb code 1 not-one) (ne-eqb code 2 not-two)) in
-        subst (λ (o : Operation). Operated cmp p o s bw bc ow oc s' bw' bc' ow' oc') e d
+        subst (λ (o : Operation). Operated cmp p o s b bw bc ow oc s' b' bw' bc' ow' oc') e d
 
 -- ---- the rest of a list, from a state that may be stopped
 module _ (cmp : ℕ → ℕ → Ordering) (p places : ℕ) where
@@ -109,8 +109,8 @@ unfolding operationsOf
 no-ops words coefs starts = refl
 
 -- ---- the loop: the next operation is pair j, at place i
-pub record Going (cmp : ℕ → ℕ → Ordering) (p : ℕ) (words coefs starts ops ow₀ oc₀ : List ℕ) (bw bc ww wc ow oc : List ℕ) (s : State) (i : ℕ) : Type 0 where
-  pub counting : Counting cmp p s bw bc
+pub record Going (cmp : ℕ → ℕ → Ordering) (p : ℕ) (words coefs starts ops ow₀ oc₀ : List ℕ) (b : Buckets) (bw bc ww wc ow oc : List ℕ) (s : State) (i : ℕ) : Type 0 where
+  pub counting : Counting cmp p s b bw bc
   pub work : Work ww wc
   pub output : Output (s .places) ow oc
   pub out-long : length ow ≡ length ow₀
@@ -118,14 +118,15 @@ pub record Going (cmp : ℕ → ℕ → Ordering) (p : ℕ) (words coefs starts 
   pub pair : ℕ
   pub at : i ≡ 2 * pair
   pub few : s .finished ≤ pair
-  pub left : resume cmp p (length ow₀) (operationsOf words coefs starts (drop i ops)) (standsFor s bw bc ow oc) ≡ operateAll cmp p (length ow₀) (operationsOf words coefs starts ops) begun
+  pub left : resume cmp p (length ow₀) (operationsOf words coefs starts (drop i ops)) (standsFor s b bw bc ow oc) ≡ operateAll cmp p (length ow₀) (operationsOf words coefs starts ops) begun
   pub words-past : drop (s .places) ow ≡ drop (s .places) ow₀
   pub coefs-past : drop (s .places) oc ≡ drop (s .places) oc₀
 
 module _ {cmp : ℕ → ℕ → Ordering} {p : ℕ} {words coefs starts ops : List ℕ} (l : Loaded cmp p words coefs starts ops) where
-  pub going-start : {bw bc ww wc ow oc : List ℕ} → Lent bw bc ww wc ow oc → {s : State} → s ≡ initial → Going cmp p words coefs starts ops ow oc bw bc ww wc ow oc s 0
-  going-start {bw} {bc} {ww} {wc} {ow} {oc} e {s} es =
-      subst (λ (x : State). Going cmp p words coefs starts ops ow oc bw bc ww wc ow oc x 0) (sym es)
+  pub going-start : {b : Buckets} {bw bc ww wc ow oc : List ℕ} → Lent b bw bc ww wc ow oc → {s : State} → s ≡ initial → Going cmp p words coefs starts ops ow oc b bw bc ww wc ow oc s 0
+  going-start {b} {bw} {bc} {ww} {wc} {ow} {oc} e {s} es =
+      subst (λ (x : State). Going cmp p words coefs starts ops ow oc b bw bc ww wc ow oc x 0) (sym es)
+      (subst (λ (x : Buckets). Going cmp p words coefs starts ops ow oc x bw bc ww wc ow oc initial 0) (sym (e .none))
       (record {
         counting = record {
           stands = stands-none cmp p bw bc (l .modulus) (e .words-long) (e .coefs-long);
@@ -145,12 +146,12 @@ module _ {cmp : ℕ → ℕ → Ordering} {p : ℕ} {words coefs starts ops : Li
         left = ap (resume cmp p (length ow) (operationsOf words coefs starts ops)) stands-begun ∙ resume-begun cmp p (length ow) (operationsOf words coefs starts ops);
         words-past = refl;
         coefs-past = refl;
-      })
+      }))
     where
-      stands-begun : standsFor initial bw bc ow oc ≡ begun
+      stands-begun : standsFor initial noBuckets bw bc ow oc ≡ begun
       stands-begun = ap (λ (b : List (List (Term ℕ))). record { buckets = b; comparisons = 0; brought = 0; given = 0; output = []; finished = 0; stop = 0 }) (lists-none bw bc)
 
-  module _ {ow₀ oc₀ bw bc ww wc ow oc : List ℕ} {s : State} {i : ℕ} (g : Going cmp p words coefs starts ops ow₀ oc₀ bw bc ww wc ow oc s i) where
+  module _ {ow₀ oc₀ : List ℕ} {b : Buckets} {bw bc ww wc ow oc : List ℕ} {s : State} {i : ℕ} (g : Going cmp p words coefs starts ops ow₀ oc₀ b bw bc ww wc ow oc s i) where
     module _ (h : i < length ops) (go : s .stop ≡ 0) where
       pub in-pairs : g .pair < l .pairs
       in-pairs = omega (arith, h, g .at, l .whole)
@@ -158,7 +159,7 @@ module _ {cmp : ℕ → ℕ → Ordering} {p : ℕ} {words coefs starts ops : Li
       pub second : i + 1 < length ops
       second = omega (arith, in-pairs, g .at, l .whole)
 
-      pub operable : Operable cmp p words coefs starts (getD ops i 0) (getD ops (i + 1) 0) s bw bc ww wc ow oc
+      pub operable : Operable cmp p words coefs starts (getD ops i 0) (getD ops (i + 1) 0) s b bw bc ww wc ow oc
       operable = record {
         counting = g .counting;
         work = g .work;
@@ -182,12 +183,12 @@ module _ {cmp : ℕ → ℕ → Ordering} {p : ℕ} {words coefs starts ops : Li
           let z : a + (b - a) ≡ b = omega arith in
           ap (λ (n : ℕ). drop n x) (sym z) ∙ (sym (drop-drop (b - a) a x) ∙ (ap (drop (b - a)) e ∙ (drop-drop (b - a) a y ∙ ap (λ (n : ℕ). drop n y) z)))
 
-      pub going-on : {s' : State} {bw' bc' ww' wc' ow' oc' : List ℕ} → Operated cmp p (operationOf words coefs starts (getD ops i 0) (getD ops (i + 1) 0)) s bw bc ow oc s' bw' bc' ow' oc' → length ww' ≡ length ww → length wc' ≡ length wc → length ow' ≡ length ow → length oc' ≡ length oc
-          → Going cmp p words coefs starts ops ow₀ oc₀ bw' bc' ww' wc' ow' oc' s' (i + 2)
-      going-on {s'} {bw'} {bc'} {ww'} {wc'} {ow'} {oc'} d lw lc low loc =
+      pub going-on : {s' : State} {b' : Buckets} {bw' bc' ww' wc' ow' oc' : List ℕ} → Operated cmp p (operationOf words coefs starts (getD ops i 0) (getD ops (i + 1) 0)) s b bw bc ow oc s' b' bw' bc' ow' oc' → length ww' ≡ length ww → length wc' ≡ length wc → length ow' ≡ length ow → length oc' ≡ length oc
+          → Going cmp p words coefs starts ops ow₀ oc₀ b' bw' bc' ww' wc' ow' oc' s' (i + 2)
+      going-on {s'} {b'} {bw'} {bc'} {ww'} {wc'} {ow'} {oc'} d lw lc low loc =
           let o = operationOf words coefs starts (getD ops i 0) (getD ops (i + 1) 0) in
-          let t = standsFor s bw bc ow oc in
-          let is : standsFor s' bw' bc' ow' oc' ≡ operate cmp p (length ow₀) o t = d .is ∙ ap (λ (n : ℕ). operate cmp p n o t) (g .out-long) in
+          let t = standsFor s b bw bc ow oc in
+          let is : standsFor s' b' bw' bc' ow' oc' ≡ operate cmp p (length ow₀) o t = d .is ∙ ap (λ (n : ℕ). operate cmp p n o t) (g .out-long) in
           let rest = operationsOf words coefs starts (drop (i + 2) ops) in
           record {
             counting = d .counting;
@@ -203,16 +204,16 @@ module _ {cmp : ℕ → ℕ → Ordering} {p : ℕ} {words coefs starts ops : Li
             coefs-past = d .coefs-past ∙ past oc oc₀ (d .longer) (g .coefs-past);
           }
 
-    pub going-end : (length ops ≤ i) ⊎ (s .stop ≡ 0 → ⊥) → RanAll cmp p words coefs starts ops ow₀ oc₀ s bw bc ow oc
+    pub going-end : (length ops ≤ i) ⊎ (s .stop ≡ 0 → ⊥) → RanAll cmp p words coefs starts ops ow₀ oc₀ s b bw bc ow oc
     going-end e = record {
       counting = g .counting;
       output = g .output;
       is = sym (⊎-elim
-          (λ h. ap (λ (x : List ℕ). resume cmp p (length ow₀) (operationsOf words coefs starts x) (standsFor s bw bc ow oc)) (drop-of-length-le ops {i = i} h) ∙ none-left)
-          (λ ne. resume-stopped cmp p (length ow₀) (operationsOf words coefs starts (drop i ops)) (standsFor s bw bc ow oc) ne) e) ∙ g .left;
+          (λ h. ap (λ (x : List ℕ). resume cmp p (length ow₀) (operationsOf words coefs starts x) (standsFor s b bw bc ow oc)) (drop-of-length-le ops {i = i} h) ∙ none-left)
+          (λ ne. resume-stopped cmp p (length ow₀) (operationsOf words coefs starts (drop i ops)) (standsFor s b bw bc ow oc) ne) e) ∙ g .left;
       words-past = g .words-past;
       coefs-past = g .coefs-past;
     }
       where
-        none-left : resume cmp p (length ow₀) (operationsOf words coefs starts []) (standsFor s bw bc ow oc) ≡ standsFor s bw bc ow oc
-        none-left = ap (λ (x : List Operation). resume cmp p (length ow₀) x (standsFor s bw bc ow oc)) (no-ops words coefs starts) ∙ resume-none cmp p (length ow₀) (standsFor s bw bc ow oc)
+        none-left : resume cmp p (length ow₀) (operationsOf words coefs starts []) (standsFor s b bw bc ow oc) ≡ standsFor s b bw bc ow oc
+        none-left = ap (λ (x : List Operation). resume cmp p (length ow₀) x (standsFor s b bw bc ow oc)) (no-ops words coefs starts) ∙ resume-none cmp p (length ow₀) (standsFor s b bw bc ow oc)

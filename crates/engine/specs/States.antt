@@ -8,17 +8,17 @@ use Rattle.polynomial.specs.Terms.{Term, terms, Canonical}
 use Rattle.polynomial.specs.Opening.{Within}
 use Rattle.merge.specs.Lent.{part}
 use Rattle.geobucket.specs.Buckets.{held}
-use Rattle.space.specs.Space.{bucketsIn, Stands, noBuckets}
+use Rattle.space.specs.Space.{Buckets, bucketsIn, Stands, noBuckets}
 use Rattle.engine.specs.declared.state.State.{State}
 use Rattle.engine.specs.Runs.{Operation, adds, Running, begun, operate, operateAll, polynomial, operationOf, operationsOf}
 
 abbrev pub halted : State → ℕ → State
-halted s refusal = record { buckets = s .buckets; comparisons = s .comparisons; brought = s .brought; given = s .given; places = s .places; finished = s .finished; stop = refusal }
+halted s refusal = record { comparisons = s .comparisons; brought = s .brought; given = s .given; places = s .places; finished = s .finished; stop = refusal }
 
--- what the state and the slices stand for
-abbrev pub standsFor : State → (bw bc ow oc : List ℕ) → Running
-standsFor s bw bc ow oc = record {
-  buckets = bucketsIn (s .buckets) bw bc;
+-- what the state, the buckets and the slices stand for
+abbrev pub standsFor : State → Buckets → (bw bc ow oc : List ℕ) → Running
+standsFor s b bw bc ow oc = record {
+  buckets = bucketsIn b bw bc;
   comparisons = s .comparisons;
   brought = s .brought;
   given = s .given;
@@ -28,9 +28,9 @@ standsFor s bw bc ow oc = record {
 }
 
 -- a run that goes on: its buckets and its counts, which are far from 64 bits
-pub record Counting (cmp : ℕ → ℕ → Ordering) (p : ℕ) (s : State) (bw bc : List ℕ) : Type 0 where
-  pub stands : Stands cmp p (s .buckets) bw bc
-  pub room : held (bucketsIn (s .buckets) bw bc) ≤ 4096
+pub record Counting (cmp : ℕ → ℕ → Ordering) (p : ℕ) (s : State) (b : Buckets) (bw bc : List ℕ) : Type 0 where
+  pub stands : Stands cmp p b bw bc
+  pub room : held (bucketsIn b bw bc) ≤ 4096
   pub most : s .finished ≤ 16777216
   pub few : s .comparisons ≤ 100000 * s .finished
   pub some-brought : s .brought ≤ 100000 * s .finished
@@ -51,21 +51,21 @@ pub record Addend (cmp : ℕ → ℕ → Ordering) (p : ℕ) (fw fc : List ℕ) 
   pub canonical : Canonical cmp p (terms fw fc)
 
 -- the operation was done as defined, or was refused; output past the last place written is untouched
-pub record Operated (cmp : ℕ → ℕ → Ordering) (p : ℕ) (o : Operation) (s : State) (bw bc ow oc : List ℕ) (s' : State) (bw' bc' ow' oc' : List ℕ) : Type 0 where
-  pub counting : Counting cmp p s' bw' bc'
+pub record Operated (cmp : ℕ → ℕ → Ordering) (p : ℕ) (o : Operation) (s : State) (b : Buckets) (bw bc ow oc : List ℕ) (s' : State) (b' : Buckets) (bw' bc' ow' oc' : List ℕ) : Type 0 where
+  pub counting : Counting cmp p s' b' bw' bc'
   pub output : Output (s' .places) ow' oc'
-  pub is : standsFor s' bw' bc' ow' oc' ≡ operate cmp p (length ow) o (standsFor s bw bc ow oc)
+  pub is : standsFor s' b' bw' bc' ow' oc' ≡ operate cmp p (length ow) o (standsFor s b bw bc ow oc)
   pub longer : s .places ≤ s' .places
   pub words-past : drop (s' .places) ow' ≡ drop (s' .places) ow
   pub coefs-past : drop (s' .places) oc' ≡ drop (s' .places) oc
 
 -- an addition has nothing to do with the output
-pub record AddOperated (cmp : ℕ → ℕ → Ordering) (p : ℕ) (f : List (Term ℕ)) (s : State) (bw bc : List ℕ) (s' : State) (bw' bc' : List ℕ) : Type 0 where
-  pub done : (ow oc : List ℕ) → Output (s .places) ow oc → Operated cmp p (adds f) s bw bc ow oc s' bw' bc' ow oc
+pub record AddOperated (cmp : ℕ → ℕ → Ordering) (p : ℕ) (f : List (Term ℕ)) (s : State) (b : Buckets) (bw bc : List ℕ) (s' : State) (b' : Buckets) (bw' bc' : List ℕ) : Type 0 where
+  pub done : (ow oc : List ℕ) → Output (s .places) ow oc → Operated cmp p (adds f) s b bw bc ow oc s' b' bw' bc' ow oc
 
 -- an operation whose polynomial, if it adds one, is there
-pub record Operable (cmp : ℕ → ℕ → Ordering) (p : ℕ) (words coefs starts : List ℕ) (code k : ℕ) (s : State) (bw bc ww wc ow oc : List ℕ) : Type 0 where
-  pub counting : Counting cmp p s bw bc
+pub record Operable (cmp : ℕ → ℕ → Ordering) (p : ℕ) (words coefs starts : List ℕ) (code k : ℕ) (s : State) (b : Buckets) (bw bc ww wc ow oc : List ℕ) : Type 0 where
+  pub counting : Counting cmp p s b bw bc
   pub work : Work ww wc
   pub output : Output (s .places) ow oc
   pub more : s .finished < 16777216
@@ -83,20 +83,21 @@ pub record Loaded (cmp : ℕ → ℕ → Ordering) (p : ℕ) (words coefs starts
   pub most : pairs ≤ 16777216
   pub there : (j : ℕ) → j < pairs → getD ops (2 * j) 0 ≡ 1 → getD ops (2 * j + 1) 0 + 1 < length starts
 
--- spaces of the right sizes, with anything in them
-pub record Lent (bw bc ww wc ow oc : List ℕ) : Type 0 where
+-- empty buckets, and spaces of the right sizes, with anything in them
+pub record Lent (b : Buckets) (bw bc ww wc ow oc : List ℕ) : Type 0 where
+  pub none : b ≡ noBuckets
   pub words-long : length bw ≡ 5460
   pub coefs-long : length bc ≡ 5460
   pub work : Work ww wc
   pub same-long : length oc ≡ length ow
 
 abbrev pub initial : State
-initial = record { buckets = noBuckets; comparisons = 0; brought = 0; given = 0; places = 0; finished = 0; stop = 0 }
+initial = record { comparisons = 0; brought = 0; given = 0; places = 0; finished = 0; stop = 0 }
 
 -- all operations were done as defined, up to one that is refused
-pub record RanAll (cmp : ℕ → ℕ → Ordering) (p : ℕ) (words coefs starts ops : List ℕ) (ow oc : List ℕ) (s : State) (bw' bc' ow' oc' : List ℕ) : Type 0 where
-  pub counting : Counting cmp p s bw' bc'
+pub record RanAll (cmp : ℕ → ℕ → Ordering) (p : ℕ) (words coefs starts ops : List ℕ) (ow oc : List ℕ) (s : State) (b' : Buckets) (bw' bc' ow' oc' : List ℕ) : Type 0 where
+  pub counting : Counting cmp p s b' bw' bc'
   pub output : Output (s .places) ow' oc'
-  pub is : standsFor s bw' bc' ow' oc' ≡ operateAll cmp p (length ow) (operationsOf words coefs starts ops) begun
+  pub is : standsFor s b' bw' bc' ow' oc' ≡ operateAll cmp p (length ow) (operationsOf words coefs starts ops) begun
   pub words-past : drop (s .places) ow' ≡ drop (s .places) ow
   pub coefs-past : drop (s .places) oc' ≡ drop (s .places) oc

@@ -19,6 +19,7 @@ pub fn add_operation<'a>(
     order: Order,
     p: u32,
     s: State,
+    b: &mut [usize],
     fw: &'a [u64],
     fc: &'a [u32],
     bw: &mut [u64],
@@ -26,17 +27,15 @@ pub fn add_operation<'a>(
     ww: &mut [u64],
     wc: &mut [u32],
 ) -> State
-    requires { ⌜ Counting (compareWords order) p s (now bw) (now bc) × Addend (compareWords order) p (now fw) (now fc) × Work (now ww) (now wc) × (s .finished < 16777216) ⌝ }
-    ensures { λ r. ⌜ AddOperated (compareWords order) p (terms (now (fw .entry)) (now (fc .entry))) s (now (bw .entry)) (now (bc .entry)) r (now (bw .exit)) (now (bc .exit)) ⌝ }
+    requires { ⌜ Counting (compareWords order) p s (now b) (now bw) (now bc) × Addend (compareWords order) p (now fw) (now fc) × Work (now ww) (now wc) × (s .finished < 16777216) ⌝ }
+    ensures { λ r. ⌜ AddOperated (compareWords order) p (terms (now (fw .entry)) (now (fc .entry))) s (now (b .entry)) (now (bw .entry)) (now (bc .entry)) r (now (b .exit)) (now (bw .exit)) (now (bc .exit)) ⌝ }
 {
-    if held(s.buckets) + fw.len() > 4096 {
+    if held(b) + fw.len() > 4096 {
         return s.halt(11);
     }
-    let r = add(order, p, s.buckets, fw, fc, bw, bc, ww, wc);
-    let buckets = r.buckets;
+    let r = add(order, p, b, fw, fc, bw, bc, ww, wc);
     State {
-        buckets,
-        comparisons: s.comparisons + r.comparisons,
+        comparisons: s.comparisons + r,
         brought: s.brought + fw.len() as u64,
         given: s.given,
         places: s.places,
@@ -51,25 +50,23 @@ pub fn lead_operation(
     order: Order,
     p: u32,
     s: State,
+    b: &mut [usize],
     bw: &[u64],
     bc: &mut [u32],
     ow: &mut [u64],
     oc: &mut [u32],
 ) -> State
-    requires { ⌜ Counting (compareWords order) p s (now bw) (now bc) × Output (s .places) (now ow) (now oc) × (s .finished < 16777216) ⌝ }
-    ensures { λ r. ⌜ Operated (compareWords order) p leads s (now (bw .entry)) (now (bc .entry)) (now (ow .entry)) (now (oc .entry)) r (now (bw .entry)) (now (bc .exit)) (now (ow .exit)) (now (oc .exit)) ⌝ }
+    requires { ⌜ Counting (compareWords order) p s (now b) (now bw) (now bc) × Output (s .places) (now ow) (now oc) × (s .finished < 16777216) ⌝ }
+    ensures { λ r. ⌜ Operated (compareWords order) p leads s (now (b .entry)) (now (bw .entry)) (now (bc .entry)) (now (ow .entry)) (now (oc .entry)) r (now (b .exit)) (now (bw .entry)) (now (bc .exit)) (now (ow .exit)) (now (oc .exit)) ⌝ }
 {
     let at = s.places;
     if at >= ow.len() {
         return s.halt(10);
     }
-    let f = take_lead(order, p, s.buckets, bw, bc);
-    let c = f.candidate;
+    let c = take_lead(order, p, b, bw, bc);
     ow[at] = c.word;
     oc[at] = c.coef;
-    let buckets = f.buckets;
     State {
-        buckets,
         comparisons: s.comparisons + c.count,
         brought: s.brought,
         given: s.given + not_zero(c.coef) as u64,
@@ -85,6 +82,7 @@ pub fn sum_operation(
     order: Order,
     p: u32,
     s: State,
+    b: &mut [usize],
     bw: &[u64],
     bc: &[u32],
     ww: &mut [u64],
@@ -92,14 +90,14 @@ pub fn sum_operation(
     ow: &mut [u64],
     oc: &mut [u32],
 ) -> State
-    requires { ⌜ Counting (compareWords order) p s (now bw) (now bc) × Work (now ww) (now wc) × Output (s .places) (now ow) (now oc) × (s .finished < 16777216) ⌝ }
-    ensures { λ r. ⌜ Operated (compareWords order) p sums s (now (bw .entry)) (now (bc .entry)) (now (ow .entry)) (now (oc .entry)) r (now (bw .entry)) (now (bc .entry)) (now (ow .exit)) (now (oc .exit)) ⌝ }
+    requires { ⌜ Counting (compareWords order) p s (now b) (now bw) (now bc) × Work (now ww) (now wc) × Output (s .places) (now ow) (now oc) × (s .finished < 16777216) ⌝ }
+    ensures { λ r. ⌜ Operated (compareWords order) p sums s (now (b .entry)) (now (bw .entry)) (now (bc .entry)) (now (ow .entry)) (now (oc .entry)) r (now (b .exit)) (now (bw .entry)) (now (bc .entry)) (now (ow .exit)) (now (oc .exit)) ⌝ }
 {
     let at = s.places;
-    if ow.len() - at < held(s.buckets) + 1 {
+    if ow.len() - at < held(b) + 1 {
         return s.halt(10);
     }
-    let r = full_sum(order, p, s.buckets, bw, bc, ww, wc);
+    let r = full_sum(order, p, b, bw, bc, ww, wc);
     let from = r.from;
     let past = from + r.len;
     put_words(&ww[from..past], ow, at);
@@ -107,9 +105,7 @@ pub fn sum_operation(
     let end = at + r.len;
     ow[end] = 0;
     oc[end] = 0;
-    let buckets = r.buckets;
     State {
-        buckets,
         comparisons: s.comparisons + r.comparisons,
         brought: s.brought,
         given: s.given + r.len as u64,

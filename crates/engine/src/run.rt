@@ -25,6 +25,7 @@ pub fn operate<'a>(
     code: usize,
     k: usize,
     s: State,
+    b: &mut [usize],
     bw: &mut [u64],
     bc: &mut [u32],
     ww: &mut [u64],
@@ -32,18 +33,18 @@ pub fn operate<'a>(
     ow: &mut [u64],
     oc: &mut [u32],
 ) -> State
-    requires { ⌜ Operable (compareWords order) p (now words) (now coefs) (now starts) code k s (now bw) (now bc) (now ww) (now wc) (now ow) (now oc) ⌝ }
-    ensures { λ r. ⌜ Operated (compareWords order) p (operationOf (now (words .entry)) (now (coefs .entry)) (now (starts .entry)) code k) s (now (bw .entry)) (now (bc .entry)) (now (ow .entry)) (now (oc .entry)) r (now (bw .exit)) (now (bc .exit)) (now (ow .exit)) (now (oc .exit)) ⌝ }
+    requires { ⌜ Operable (compareWords order) p (now words) (now coefs) (now starts) code k s (now b) (now bw) (now bc) (now ww) (now wc) (now ow) (now oc) ⌝ }
+    ensures { λ r. ⌜ Operated (compareWords order) p (operationOf (now (words .entry)) (now (coefs .entry)) (now (starts .entry)) code k) s (now (b .entry)) (now (bw .entry)) (now (bc .entry)) (now (ow .entry)) (now (oc .entry)) r (now (b .exit)) (now (bw .exit)) (now (bc .exit)) (now (ow .exit)) (now (oc .exit)) ⌝ }
 {
     if code == 1 {
         let fw = words_of(words, starts, k);
         let fc = coefs_of(coefs, starts, k);
-        return add_operation(order, p, s, fw, fc, bw, bc, ww, wc);
+        return add_operation(order, p, s, b, fw, fc, bw, bc, ww, wc);
     }
     if code == 2 {
-        return lead_operation(order, p, s, bw, bc, ow, oc);
+        return lead_operation(order, p, s, b, bw, bc, ow, oc);
     }
-    sum_operation(order, p, s, bw, bc, ww, wc, ow, oc)
+    sum_operation(order, p, s, b, bw, bc, ww, wc, ow, oc)
 }
 
 // The operations of a list that passed the opening checks, up to one that is refused.
@@ -54,6 +55,7 @@ pub fn operate_all<'a>(
     coefs: &'a [u32],
     starts: &[usize],
     ops: &[usize],
+    b: &mut [usize],
     bw: &mut [u64],
     bc: &mut [u32],
     ww: &mut [u64],
@@ -61,8 +63,8 @@ pub fn operate_all<'a>(
     ow: &mut [u64],
     oc: &mut [u32],
 ) -> State
-    requires { ⌜ Loaded (compareWords order) p (now words) (now coefs) (now starts) (now ops) × Lent (now bw) (now bc) (now ww) (now wc) (now ow) (now oc) ⌝ }
-    ensures { λ r. ⌜ RanAll (compareWords order) p (now (words .entry)) (now (coefs .entry)) (now (starts .entry)) (now (ops .entry)) (now (ow .entry)) (now (oc .entry)) r (now (bw .exit)) (now (bc .exit)) (now (ow .exit)) (now (oc .exit)) ⌝ }
+    requires { ⌜ Loaded (compareWords order) p (now words) (now coefs) (now starts) (now ops) × Lent (now b) (now bw) (now bc) (now ww) (now wc) (now ow) (now oc) ⌝ }
+    ensures { λ r. ⌜ RanAll (compareWords order) p (now (words .entry)) (now (coefs .entry)) (now (starts .entry)) (now (ops .entry)) (now (ow .entry)) (now (oc .entry)) r (now (b .exit)) (now (bw .exit)) (now (bc .exit)) (now (ow .exit)) (now (oc .exit)) ⌝ }
 {
     let mut s = initial();
     let mut i = 0;
@@ -78,6 +80,7 @@ pub fn operate_all<'a>(
             code,
             k,
             s,
+            b,
             bw,
             bc,
             ww,

@@ -1,14 +1,11 @@
-// What a run keeps between its operations.
-use space::state::Buckets;
-use space::state::empty;
+// What a run keeps between its operations, beside the buckets.
 ghost use mathlib.Core.Path.{_≡_};
 ghost use Rattle.engine.specs.States as states;
 ghost use Rattle.engine.specs.States.{halted};
 
-// The buckets, the counts of the tally but for the terms held, the output places written, the
-// operations finished, and the refusal that stopped the run, 0 for none.
+// The counts of the tally but for the terms held, the output places written, the operations
+// finished, and the refusal that stopped the run, 0 for none.
 pub struct State {
-    pub buckets: Buckets,
     pub comparisons: u64,
     pub brought: u64,
     pub given: u64,
@@ -22,9 +19,7 @@ impl State {
     pub fn halt(self, refusal: u32) -> Self
         ensures { λ r. ⌜ r ≡ halted self refusal ⌝ }
     {
-        let buckets = self.buckets;
         State {
-            buckets,
             comparisons: self.comparisons,
             brought: self.brought,
             given: self.given,
@@ -35,12 +30,11 @@ impl State {
     }
 }
 
-// The state at the beginning: empty buckets, whatever the spaces hold.
+// The state at the beginning.
 pub fn initial() -> State
     ensures { λ r. ⌜ r ≡ states.initial ⌝ }
 {
     State {
-        buckets: empty(),
         comparisons: 0,
         brought: 0,
         given: 0,

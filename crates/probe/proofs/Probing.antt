@@ -5,7 +5,7 @@ use Prim.Native.Nat.{ℕ, Ordering}
 use lib.ListN.{length}
 use Rattle.polynomial.specs.Terms.{Term}
 use Rattle.geobucket.specs.Search.{Lead, none, lead, search}
-use Rattle.space.specs.declared.state.Buckets.{Buckets}
+use Rattle.space.specs.Space.{Buckets}
 use Rattle.search.specs.declared.candidate.Candidate.{Candidate}
 use Rattle.search.specs.Candidates.{candidateOf}
 use Rattle.search.specs.Searching.{FindDone, TakeDone}

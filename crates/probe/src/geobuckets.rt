@@ -8,8 +8,7 @@ use search::lead::find_lead;
 use search::lead::remove_lead;
 use search::lead::take_lead;
 use space::settle::settle;
-use space::state::Buckets;
-use space::state::empty;
+use space::state::clear;
 ghost use mathlib.Core.Path.{_≡_};
 ghost use Prim.Native.Nat.{_<_};
 ghost use lib.ListN.{length};
@@ -19,32 +18,11 @@ ghost use mathlib.Core.List.{[]};
 ghost use Rattle.polynomial.specs.Terms.{terms};
 ghost use Rattle.geobucket.specs.Buckets.{addCompared, sumCompared};
 ghost use Rattle.geobucket.specs.Search.{search};
-ghost use Rattle.space.specs.Space.{Laid, Stands, AtReturn, bucketsIn};
+ghost use Rattle.space.specs.Space.{Stands, AtReturn, bucketsIn};
 ghost use Rattle.buckets.specs.Adding.{Addition};
 ghost use Rattle.buckets.specs.Summing.{Summation};
 ghost use Rattle.search.specs.Searching.{Removal};
-ghost use Rattle.probe.specs.States.{loaded, Settlement};
-
-fn load(s: &[usize]) -> Buckets
-    requires { ⌜ length (now s) ≡ 12 ⌝ }
-    ensures { λ r. ⌜ r ≡ loaded (now (s .entry)) ⌝ }
-{
-    Buckets {
-        head: [s[0], s[1], s[2], s[3], s[4], s[5]],
-        len: [s[6], s[7], s[8], s[9], s[10], s[11]],
-    }
-}
-
-fn save(b: Buckets, s: &mut [usize])
-    requires { ⌜ length (now s) ≡ 12 ⌝ }
-{
-    let mut i = 0;
-    while i < 6 {
-        put_place(s, i, b.head[i]);
-        put_place(s, 6 + i, b.len[i]);
-        i += 1;
-    }
-}
+ghost use Rattle.probe.specs.States.{Settlement};
 
 fn put_place(s: &mut [usize], i: usize, n: usize)
     requires { ⌜ i < length (now s) ⌝ }
@@ -62,7 +40,7 @@ fn put_number(s: &mut [u64], i: usize, n: u64)
 pub extern "C" fn probe_buckets_empty(state: &mut [usize])
     requires { ⌜ length (now state) ≡ 12 ⌝ }
 {
-    save(empty(), state);
+    clear(state);
 }
 
 // Gives the comparisons.
@@ -78,12 +56,10 @@ pub extern "C" fn probe_buckets_add<'a>(
     ww: &mut [u64],
     wc: &mut [u32],
 ) -> u64
-    requires { ⌜ (length (now state) ≡ 12) × Addition (compareWords (orderOf order)) p (loaded (now state)) (now fw) (now fc) (now sw) (now sc) (now ww) (now wc) ⌝ }
-    ensures { λ r. ⌜ r ≡ length (addCompared (compareWords (orderOf order)) p (terms (now (fw .entry)) (now (fc .entry))) (bucketsIn (loaded (now (state .entry))) (now (sw .entry)) (now (sc .entry)))) ⌝ }
+    requires { ⌜ Addition (compareWords (orderOf order)) p (now state) (now fw) (now fc) (now sw) (now sc) (now ww) (now wc) ⌝ }
+    ensures { λ r. ⌜ r ≡ length (addCompared (compareWords (orderOf order)) p (terms (now (fw .entry)) (now (fc .entry))) (bucketsIn (now (state .entry)) (now (sw .entry)) (now (sc .entry)))) ⌝ }
 {
-    let r = add(order_of(order), p, load(state), fw, fc, sw, sc, ww, wc);
-    save(r.buckets, state);
-    r.comparisons
+    add(order_of(order), p, state, fw, fc, sw, sc, ww, wc)
 }
 
 // Finds the lead and leaves it: its bucket (6 for zero), word and coefficient. Gives the comparisons.
@@ -96,12 +72,10 @@ pub extern "C" fn probe_buckets_lead(
     sc: &mut [u32],
     lead: &mut [u64],
 ) -> u64
-    requires { ⌜ (length (now state) ≡ 12) × Stands (compareWords (orderOf order)) p (loaded (now state)) (now sw) (now sc) × (length (now lead) ≡ 3) ⌝ }
-    ensures { λ r. ⌜ r ≡ length (search (compareWords (orderOf order)) p (bucketsIn (loaded (now (state .entry))) (now (sw .entry)) (now (sc .entry))) .pairs) ⌝ }
+    requires { ⌜ Stands (compareWords (orderOf order)) p (now state) (now sw) (now sc) × (length (now lead) ≡ 3) ⌝ }
+    ensures { λ r. ⌜ r ≡ length (search (compareWords (orderOf order)) p (bucketsIn (now (state .entry)) (now (sw .entry)) (now (sc .entry))) .pairs) ⌝ }
 {
-    let f = find_lead(order_of(order), p, load(state), sw, sc);
-    save(f.buckets, state);
-    let c = f.candidate;
+    let c = find_lead(order_of(order), p, state, sw, sc);
     put_number(lead, 0, c.bucket as u64);
     put_number(lead, 1, c.word);
     put_number(lead, 2, c.coef as u64);
@@ -118,12 +92,10 @@ pub extern "C" fn probe_buckets_take_lead(
     sc: &mut [u32],
     lead: &mut [u64],
 ) -> u64
-    requires { ⌜ (length (now state) ≡ 12) × Stands (compareWords (orderOf order)) p (loaded (now state)) (now sw) (now sc) × (length (now lead) ≡ 3) ⌝ }
-    ensures { λ r. ⌜ r ≡ length (search (compareWords (orderOf order)) p (bucketsIn (loaded (now (state .entry))) (now (sw .entry)) (now (sc .entry))) .pairs) ⌝ }
+    requires { ⌜ Stands (compareWords (orderOf order)) p (now state) (now sw) (now sc) × (length (now lead) ≡ 3) ⌝ }
+    ensures { λ r. ⌜ r ≡ length (search (compareWords (orderOf order)) p (bucketsIn (now (state .entry)) (now (sw .entry)) (now (sc .entry))) .pairs) ⌝ }
 {
-    let f = take_lead(order_of(order), p, load(state), sw, sc);
-    save(f.buckets, state);
-    let c = f.candidate;
+    let c = take_lead(order_of(order), p, state, sw, sc);
     put_number(lead, 0, c.bucket as u64);
     put_number(lead, 1, c.word);
     put_number(lead, 2, c.coef as u64);
@@ -133,10 +105,9 @@ pub extern "C" fn probe_buckets_take_lead(
 // Removes the lead of a bucket that is not empty.
 #[no_mangle]
 pub extern "C" fn probe_buckets_take(state: &mut [usize], bucket: usize)
-    requires { ⌜ (length (now state) ≡ 12) × Removal (loaded (now state)) bucket ⌝ }
+    requires { ⌜ Removal (now state) bucket ⌝ }
 {
-    let b = remove_lead(load(state), bucket);
-    save(b, state);
+    remove_lead(state, bucket);
 }
 
 // Where the full sum lies in the work space, and its terms. Gives the comparisons.
@@ -151,11 +122,10 @@ pub extern "C" fn probe_buckets_sum(
     wc: &mut [u32],
     at: &mut [usize],
 ) -> u64
-    requires { ⌜ (length (now state) ≡ 12) × Summation (compareWords (orderOf order)) p (loaded (now state)) (now sw) (now sc) (now ww) (now wc) × (length (now at) ≡ 2) ⌝ }
-    ensures { λ r. ⌜ r ≡ length (sumCompared (compareWords (orderOf order)) p [] (bucketsIn (loaded (now (state .entry))) (now (sw .entry)) (now (sc .entry)))) ⌝ }
+    requires { ⌜ Summation (compareWords (orderOf order)) p (now state) (now sw) (now sc) (now ww) (now wc) × (length (now at) ≡ 2) ⌝ }
+    ensures { λ r. ⌜ r ≡ length (sumCompared (compareWords (orderOf order)) p [] (bucketsIn (now (state .entry)) (now (sw .entry)) (now (sc .entry)))) ⌝ }
 {
-    let r = full_sum(order_of(order), p, load(state), sw, sc, ww, wc);
-    save(r.buckets, state);
+    let r = full_sum(order_of(order), p, state, sw, sc, ww, wc);
     put_place(at, 0, r.from);
     put_place(at, 1, r.len);
     r.comparisons
@@ -169,8 +139,8 @@ pub extern "C" fn probe_buckets_settle(
     ww: &mut [u64],
     wc: &mut [u32],
 )
-    requires { ⌜ (length (now state) ≡ 12) × Settlement (loaded (now state)) (length (now sw)) (length (now sc)) (length (now ww)) (length (now wc)) ⌝ }
-    ensures { λ _. ⌜ AtReturn (bucketsIn (loaded (now (state .entry))) (now (sw .entry)) (now (sc .entry))) (now (sw .exit)) (now (sc .exit)) (now (ww .exit)) (now (wc .exit)) ⌝ }
+    requires { ⌜ Settlement (now state) (length (now sw)) (length (now sc)) (length (now ww)) (length (now wc)) ⌝ }
+    ensures { λ _. ⌜ AtReturn (bucketsIn (now (state .entry)) (now (sw .entry)) (now (sc .entry))) (now (sw .exit)) (now (sc .exit)) (now (ww .exit)) (now (wc .exit)) ⌝ }
 {
-    settle(load(state), sw, sc, ww, wc);
+    settle(state, sw, sc, ww, wc);
 }

@@ -8,8 +8,7 @@ use lib.ListN.{length}
 use Rattle.polynomial.specs.Terms.{terms}
 use Rattle.polynomial.proofs.TermLists.{length-terms}
 use Rattle.geobucket.specs.Buckets.{empty, held}
-use Rattle.space.specs.Space.{bucketsIn, noBuckets}
-use Rattle.space.specs.declared.state.Buckets.{Buckets}
+use Rattle.space.specs.Space.{Buckets, bucketsIn, noBuckets}
 use Rattle.space.proofs.SpaceLaws.{lists-none, stands-none}
 use Rattle.buckets.specs.Adding.{Addition, AddDone}
 use Rattle.engine.specs.States.{Addend}
@@ -24,12 +23,12 @@ module _ {cmp : ℕ → ℕ → Ordering} {p : ℕ} {fw fc : List ℕ} (a : Adde
   long : length (terms fw fc) ≡ length fw
   long = length-terms fw fc (a .long)
 
-module _ {cmp : ℕ → ℕ → Ordering} {p : ℕ} {fw fc : List ℕ} (a : Addend cmp p fw fc) {bw bc : List ℕ} {b : Buckets} (none : b ≡ noBuckets) where
-  pub begin-refused : 4096 < length fw → Begun cmp p (terms fw fc) bw bc (record { buckets = b; comparisons = 0; brought = 0; leads = 0; terms = 0; more = false; stop = 11 }) bw bc
-  begin-refused h = refused (let z : 4096 < length (terms fw fc) = omega (arith, long a) in z) (ap (λ (x : Buckets). record { buckets = x; comparisons = 0; brought = 0; leads = 0; terms = 0; more = false; stop = 11 }) none) refl refl
+module _ {cmp : ℕ → ℕ → Ordering} {p : ℕ} {fw fc : List ℕ} (a : Addend cmp p fw fc) {b : Buckets} {bw bc : List ℕ} (none : b ≡ noBuckets) where
+  pub begin-refused : 4096 < length fw → Begun cmp p (terms fw fc) bw bc (record { comparisons = 0; brought = 0; leads = 0; terms = 0; more = false; stop = 11 }) b bw bc
+  begin-refused h = refused (let z : 4096 < length (terms fw fc) = omega (arith, long a) in z) refl none refl refl
 
   module _ (h : length fw ≤ 4096) where
-    pub begin-asks : {ww wc : List ℕ} → Beginning p bw bc ww wc → Addition cmp p b fw fc bw bc ww wc
+    pub begin-asks : {ww wc : List ℕ} → Beginning p b bw bc ww wc → Addition cmp p b fw fc bw bc ww wc
     begin-asks {ww} {wc} e =
         subst (λ (x : Buckets). Addition cmp p x fw fc bw bc ww wc) (sym none)
         (record {
@@ -41,8 +40,8 @@ module _ {cmp : ℕ → ℕ → Ordering} {p : ℕ} {fw fc : List ℕ} (a : Adde
           work-coefs = e .work .coefs-long;
         })
 
-    pub begin-done : {bw' bc' : List ℕ} {b' : Buckets} {n : ℕ} → AddDone cmp p b (terms fw fc) bw bc bw' bc' b' n → Begun cmp p (terms fw fc) bw bc (record { buckets = b'; comparisons = n; brought = length fw; leads = 0; terms = 0; more = true; stop = 0 }) bw' bc'
+    pub begin-done : {bw' bc' : List ℕ} {b' : Buckets} {n : ℕ} → AddDone cmp p b (terms fw fc) bw bc bw' bc' b' n → Begun cmp p (terms fw fc) bw bc (record { comparisons = n; brought = length fw; leads = 0; terms = 0; more = true; stop = 0 }) b' bw' bc'
     begin-done {bw'} {bc'} {b'} {n} d =
         begun (let z : length (terms fw fc) ≤ 4096 = omega (arith, long a) in z) n
         (subst (λ (x : Buckets). AddDone cmp p x (terms fw fc) bw bc bw' bc' b' n) none d)
-        (ap (λ (m : ℕ). record { buckets = b'; comparisons = n; brought = m; leads = 0; terms = 0; more = true; stop = 0 }) (sym (long a)))
+        (ap (λ (m : ℕ). record { comparisons = n; brought = m; leads = 0; terms = 0; more = true; stop = 0 }) (sym (long a)))

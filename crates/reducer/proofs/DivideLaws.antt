@@ -19,9 +19,8 @@ use Rattle.polynomial.specs.Multiple.{multiple}
 use Rattle.polynomial.specs.Opening.{partOf, Within}
 use Rattle.merge.specs.Multiplying.{AllPacked, anyOver}
 use Rattle.geobucket.specs.Buckets.{held}
-use Rattle.space.specs.Space.{bucketsIn, heldIn, dropped}
+use Rattle.space.specs.Space.{Buckets, bucketsIn, heldIn, dropped}
 use Rattle.space.proofs.SpaceLaws.{held-lens}
-use Rattle.space.specs.declared.state.Buckets.{Buckets}
 use Rattle.search.specs.declared.candidate.Candidate.{Candidate}
 use Rattle.buckets.specs.Adding.{AddDone}
 use Rattle.division.specs.Division.{tailMultiple}
@@ -65,7 +64,7 @@ part-cons starts k l w rises = by (getD starts (k + 1) 0 - getD starts k 0) (let
 pub from-one : (l : List ℕ) → 1 ≤ length l → take (length l - 1) (drop 1 l) ≡ drop 1 l
 from-one l h = take-all (length l - 1) (drop 1 l) (omega (arith, length-drop 1 l))
 
-module _ {o : Order} {p : ℕ} {words coefs starts : List ℕ} {k : ℕ} {s : State} {lead : Candidate} {inverses bw bc ww wc mw mc : List ℕ} (a : Dividing o p words coefs starts k s lead inverses bw bc ww wc mw mc) where
+module _ {o : Order} {p : ℕ} {words coefs starts : List ℕ} {k : ℕ} {s : State} {lead : Candidate} {inverses : List ℕ} {b : Buckets} {bw bc ww wc mw mc : List ℕ} (a : Dividing o p words coefs starts k s lead inverses b bw bc ww wc mw mc) where
   -- ---- the divisor
   pub words-part : Within starts k (length words)
   words-part = a .checked .parts k (a .high)
@@ -130,24 +129,25 @@ module _ {o : Order} {p : ℕ} {words coefs starts : List ℕ} {k : ℕ} {s : St
   multiplier-small = multiplier-good p (lead .coef) (leadCoef coefs starts k) (a .checked .prime) (a .coef-pos) (a .coef-small) (valid .canonical .reduced .0 .0) (valid .canonical .reduced .0 .1) .1
 
   -- ---- the terms held, less the lead
-  pub held-is : held (bucketsIn (s .buckets) bw bc) ≡ heldIn (s .buckets .len)
-  held-is = held-lens (s .buckets) (a .stands .laid) bw bc (a .stands .words-long) (a .stands .coefs-long)
+  pub held-is : held (bucketsIn b bw bc) ≡ heldIn b
+  held-is = held-lens b (a .stands .laid) bw bc (a .stands .words-long) (a .stands .coefs-long)
 
   -- ---- the multiple of the tail is added
-  module _ (none : anyOver q (tailOf starts k words) ≡ false) (few : held (bucketsIn (dropped (s .buckets) (lead .bucket)) bw bc) + length (tailOf starts k words) ≤ 4096) where
+  module _ (none : anyOver q (tailOf starts k words) ≡ false) (few : held (bucketsIn (dropped b (lead .bucket)) bw bc) + length (tailOf starts k words) ≤ 4096) where
     none-large : anyTooLarge overWord q tail ≡ false
     none-large = over-terms q (tailOf starts k words) (tailOf starts k coefs) tail-long ∙ none
 
-    pub to-add : Added (compareWords o) p (OfLayout o) (term (lead .word) (lead .coef)) (toAdd o p words coefs starts k s lead bw bc)
+    pub to-add : Added (compareWords o) p (OfLayout o) (term (lead .word) (lead .coef)) (toAdd o p words coefs starts k s lead b bw bc)
     to-add = tail-added (compareWords o) dividesWord _-_ _+_ overWord (OfLayout o) (word-operations o 6 (omega arith)) p (a .checked .prime) (term (lead .word) (lead .coef)) divisorLead tail (a .of-layout) (a .coef-pos) (a .coef-small) valid (a .fits) none-large
 
-    module _ {q' : ℕ} (eq : q' ≡ q) {tw tc : List ℕ} (etw : tw ≡ tailOf starts k words) (etc : tc ≡ tailOf starts k coefs) {v : ℕ} (ev : v ≡ multiplier) {f : Factor} (ef : FactorOf p v f) {r : State} (er : r ≡ removed s (lead .bucket)) where
-      made : multiple (λ x y. x + y) (f .prime) (f .value) q' (terms tw tc) ≡ toAdd o p words coefs starts k s lead bw bc
+    module _ {q' : ℕ} (eq : q' ≡ q) {tw tc : List ℕ} (etw : tw ≡ tailOf starts k words) (etc : tc ≡ tailOf starts k coefs) {v : ℕ} (ev : v ≡ multiplier) {f : Factor} (ef : FactorOf p v f) {r : State} (er : r ≡ removed s) {b₁ : Buckets} (eb₁ : b₁ ≡ dropped b (lead .bucket)) where
+      made : multiple (λ x y. x + y) (f .prime) (f .value) q' (terms tw tc) ≡ toAdd o p words coefs starts k s lead b bw bc
       made = rw (ef .prime-is, ef .value-is, ev, eq, etw, etc) refl
 
-      pub tail-addition : TailAddition (compareWords o) p f q' tw tc r bw bc ww wc mw mc
+      pub tail-addition : TailAddition (compareWords o) p f q' tw tc r b₁ bw bc ww wc mw mc
       tail-addition =
-          subst (λ (x : State). TailAddition (compareWords o) p f q' tw tc x bw bc ww wc mw mc) (sym er)
+          subst (λ (x : State). TailAddition (compareWords o) p f q' tw tc x b₁ bw bc ww wc mw mc) (sym er)
+          (subst (λ (x : Buckets). TailAddition (compareWords o) p f q' tw tc (removed s) x bw bc ww wc mw mc) (sym eb₁)
           (record {
             stands = a .rest;
             multiplicands = record {
@@ -168,13 +168,13 @@ module _ {o : Order} {p : ℕ} {words coefs starts : List ℕ} {k : ℕ} {s : St
             work = a .work;
             few-comparisons = a .few-comparisons;
             few-brought = a .few-brought;
-          })
+          }))
 
-      pub divided-done : {s' : State} {bw' bc' : List ℕ} → TailAdded (compareWords o) p f q' tw tc r bw bc s' bw' bc' → DividedTo o p words coefs starts k s lead bw bc s' bw' bc'
-      divided-done {s'} {bw'} {bc'} d =
+      pub divided-done : {s' : State} {b' : Buckets} {bw' bc' : List ℕ} → TailAdded (compareWords o) p f q' tw tc r b₁ bw bc s' b' bw' bc' → DividedTo o p words coefs starts k s lead b bw bc s' b' bw' bc'
+      divided-done {s'} {b'} {bw'} {bc'} d =
           divided none few (d .comparisons)
-          (subst (λ (x : List (Term ℕ)). AddDone (compareWords o) p (dropped (s .buckets) (lead .bucket)) x bw bc bw' bc' (s' .buckets) (d .comparisons)) made (subst (λ (x : State). AddDone (compareWords o) p (x .buckets) (multiple (λ x y. x + y) (f .prime) (f .value) q' (terms tw tc)) bw bc bw' bc' (s' .buckets) (d .comparisons)) er (d .done)))
-          (d .is ∙ ap₂ (λ (x : State) (n : ℕ). added x (s' .buckets) (d .comparisons) n) er (ap length etw))
+          (subst (λ (x : List (Term ℕ)). AddDone (compareWords o) p (dropped b (lead .bucket)) x bw bc bw' bc' b' (d .comparisons)) made (subst (λ (x : Buckets). AddDone (compareWords o) p x (multiple (λ x y. x + y) (f .prime) (f .value) q' (terms tw tc)) bw bc bw' bc' b' (d .comparisons)) eb₁ (d .done)))
+          (d .is ∙ ap₂ (λ (x : State) (n : ℕ). added x (d .comparisons) n) er (ap length etw))
 
 -- ---- the part that is the divisor, as it is handed on
 module _ {x : ℕ} {l gs : List ℕ} (cons : l ≡ x ∷ drop 1 l) (e : gs ≡ l) where
@@ -188,29 +188,29 @@ module _ {x : ℕ} {l gs : List ℕ} (cons : l ≡ x ∷ drop 1 l) (e : gs ≡ l
   part-tail = from-one gs part-some ∙ ap (drop 1) e
 
 -- ---- the tests, as the code makes them
-module _ {o : Order} {p : ℕ} {words coefs starts : List ℕ} {k : ℕ} {s : State} {lead : Candidate} {inverses bw bc ww wc mw mc : List ℕ} (a : Dividing o p words coefs starts k s lead inverses bw bc ww wc mw mc) where
+module _ {o : Order} {p : ℕ} {words coefs starts : List ℕ} {k : ℕ} {s : State} {lead : Candidate} {inverses : List ℕ} {b : Buckets} {bw bc ww wc mw mc : List ℕ} (a : Dividing o p words coefs starts k s lead inverses b bw bc ww wc mw mc) where
   module _ {q' : ℕ} (eq : q' ≡ lead .word - leadWord words starts k) {tw : List ℕ} (etw : tw ≡ tailOf starts k words) where
     pub any-asks : Packed q' × AllPacked tw
     any-asks = (subst Packed (sym eq) (quotient-packed a), subst AllPacked (sym etw) (tail-packed a))
 
-  module _ {b : Bool} {q' : ℕ} {tw : List ℕ} (eb : b ≡ anyOver q' tw) (eq : q' ≡ lead .word - leadWord words starts k) (etw : tw ≡ tailOf starts k words) where
-    is-over : b ≡ anyOver (lead .word - leadWord words starts k) (tailOf starts k words)
+  module _ {t : Bool} {q' : ℕ} {tw : List ℕ} (eb : t ≡ anyOver q' tw) (eq : q' ≡ lead .word - leadWord words starts k) (etw : tw ≡ tailOf starts k words) where
+    is-over : t ≡ anyOver (lead .word - leadWord words starts k) (tailOf starts k words)
     is-over = eb ∙ ap₂ anyOver eq etw
 
-    pub over-done : b ≡ true → {s' : State} → s' ≡ halted s 12 → Divided o p words coefs starts k s lead bw bc s' inverses bw bc
-    over-done h e = record { kept = a .kept; done = over (sym is-over ∙ h) e refl refl }
+    pub over-done : t ≡ true → {s' : State} → s' ≡ halted s 12 → Divided o p words coefs starts k s lead b bw bc s' inverses b bw bc
+    over-done h e = record { kept = a .kept; done = over (sym is-over ∙ h) e refl refl refl }
 
-    module _ (no : b ≡ false) {n : ℕ} (en : n ≡ heldIn (s .buckets .len)) where
+    module _ (no : t ≡ false) {n : ℕ} (en : n ≡ heldIn b) where
       pub not-over : anyOver (lead .word - leadWord words starts k) (tailOf starts k words) ≡ false
       not-over = sym is-over ∙ no
 
-      pub many-done : 4096 < n - 1 + length tw → {s' : State} → s' ≡ halted s 11 → Divided o p words coefs starts k s lead bw bc s' inverses bw bc
-      many-done h e = record { kept = a .kept; done = many not-over (let z : 4096 < held (bucketsIn (dropped (s .buckets) (lead .bucket)) bw bc) + length (tailOf starts k words) = omega (arith, a .one-less, held-is a, ap length etw) in z) e refl refl }
+      pub many-done : 4096 < n - 1 + length tw → {s' : State} → s' ≡ halted s 11 → Divided o p words coefs starts k s lead b bw bc s' inverses b bw bc
+      many-done h e = record { kept = a .kept; done = many not-over (let z : 4096 < held (bucketsIn (dropped b (lead .bucket)) bw bc) + length (tailOf starts k words) = omega (arith, a .one-less, held-is a, ap length etw) in z) e refl refl refl }
 
-      pub few-held : n - 1 + length tw ≤ 4096 → held (bucketsIn (dropped (s .buckets) (lead .bucket)) bw bc) + length (tailOf starts k words) ≤ 4096
+      pub few-held : n - 1 + length tw ≤ 4096 → held (bucketsIn (dropped b (lead .bucket)) bw bc) + length (tailOf starts k words) ≤ 4096
       few-held h = omega (arith, a .one-less, held-is a, ap length etw)
 
-  module _ {n : ℕ} (en : n ≡ heldIn (s .buckets .len)) where
+  module _ {n : ℕ} (en : n ≡ heldIn b) where
     pub held-some : 1 ≤ n
     held-some = omega (arith, a .one-less, held-is a)
 

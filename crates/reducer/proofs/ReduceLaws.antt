@@ -15,7 +15,7 @@ use Rattle.geobucket.specs.Buckets.{empty, held, Good, add, addCompared}
 use Rattle.geobucket.specs.Events as events
 use Rattle.geobucket.proofs.AddLaws.{adds}
 use Rattle.geobucket.proofs.EventLaws.{room-six}
-use Rattle.space.specs.Space.{bucketsIn, Stands, noBuckets}
+use Rattle.space.specs.Space.{Buckets, bucketsIn, Stands, noBuckets}
 use Rattle.space.proofs.SpaceLaws.{lists-none, stands-none}
 use Rattle.buckets.specs.Adding.{AddDone}
 use Rattle.division.specs.Divisors.{AllOf}
@@ -35,15 +35,15 @@ abbrev pub leftBy : Bool → ℕ → ℕ
 leftBy true n = suc n
 leftBy false n = 0
 
-pub record Turning (o : Order) (p : ℕ) (words coefs starts : List ℕ) (limit : ℕ) (ow₀ oc₀ bw bc ww wc ow oc inverses mw mc : List ℕ) (s : State) : Type 0 where
-  pub sound : Sound o p limit s bw bc ow oc
+pub record Turning (o : Order) (p : ℕ) (words coefs starts : List ℕ) (limit : ℕ) (ow₀ oc₀ : List ℕ) (b : Buckets) (bw bc ww wc ow oc inverses mw mc : List ℕ) (s : State) : Type 0 where
+  pub sound : Sound o p limit s b bw bc ow oc
   pub kept : Inverses p coefs starts inverses
   pub work : Work ww wc
   pub scratch-words : length mw ≡ 4096
   pub scratch-coefs : length mc ≡ 4096
   pub out-long : length ow ≡ length ow₀
   pub coefs-out-long : length oc ≡ length oc₀
-  pub reaches : Reaches o p (divisorsOf words coefs starts) (length ow₀) limit s bw bc ow oc (reductionOfWords o p (divisorsOf words coefs starts) (length ow₀) limit (polynomial words coefs starts 0))
+  pub reaches : Reaches o p (divisorsOf words coefs starts) (length ow₀) limit s b bw bc ow oc (reductionOfWords o p (divisorsOf words coefs starts) (length ow₀) limit (polynomial words coefs starts 0))
   pub words-past : drop (s .terms) ow ≡ drop (s .terms) ow₀
   pub coefs-past : drop (s .terms) oc ≡ drop (s .terms) oc₀
 
@@ -70,13 +70,13 @@ module _ {o : Order} {p : ℕ} {words coefs starts : List ℕ} {limit : ℕ} (a 
       canonical = rw (ew, ec) (a .checked .valid 0 (omega (arith, a .checked .some)) .canonical);
     }
 
-    module _ {bw bc ww wc ow oc : List ℕ} (l : Lent bw bc ww wc ow oc) where
-      pub beginning : Beginning p bw bc ww wc
-      beginning = record { modulus = a .checked .modulus; words-long = l .words-long; coefs-long = l .coefs-long; work = l .work }
+    module _ {b : Buckets} {bw bc ww wc ow oc : List ℕ} (l : Lent b bw bc ww wc ow oc) where
+      pub beginning : Beginning p b bw bc ww wc
+      beginning = record { none = l .none; modulus = a .checked .modulus; words-long = l .words-long; coefs-long = l .coefs-long; work = l .work }
 
       module _ {inverses mw mc ww' wc' : List ℕ} (i : Inverses p coefs starts inverses) (lmw : length mw ≡ 4096) (lmc : length mc ≡ 4096) (lw : length ww' ≡ length ww) (lc : length wc' ≡ length wc) where
-        pub turn-start : {s : State} {bw' bc' : List ℕ} → Begun (compareWords o) p (terms fw fc) bw bc s bw' bc' → Turning o p words coefs starts limit ow oc bw' bc' ww' wc' ow oc inverses mw mc s
-        turn-start {s} {bw'} {bc'} b = by b
+        pub turn-start : {s : State} {b' : Buckets} {bw' bc' : List ℕ} → Begun (compareWords o) p (terms fw fc) bw bc s b' bw' bc' → Turning o p words coefs starts limit ow oc b' bw' bc' ww' wc' ow oc inverses mw mc s
+        turn-start {s} {b'} {bw'} {bc'} d = by d
           where
             gs : List (List (Term ℕ))
             gs = divisorsOf words coefs starts
@@ -84,8 +84,8 @@ module _ {o : Order} {p : ℕ} {words coefs starts : List ℕ} {limit : ℕ} (a 
             f-is : terms fw fc ≡ polynomial words coefs starts 0
             f-is = ap₂ terms ew ec
 
-            from : (x : State) (bw' bc' : List ℕ) → Sound o p limit x bw' bc' ow oc → Reaches o p (divisorsOf words coefs starts) (length ow) limit x bw' bc' ow oc (reductionOfWords o p (divisorsOf words coefs starts) (length ow) limit (polynomial words coefs starts 0)) → Turning o p words coefs starts limit ow oc bw' bc' ww' wc' ow oc inverses mw mc x
-            from x bw' bc' s r = record {
+            from : (x : State) (b' : Buckets) (bw' bc' : List ℕ) → Sound o p limit x b' bw' bc' ow oc → Reaches o p (divisorsOf words coefs starts) (length ow) limit x b' bw' bc' ow oc (reductionOfWords o p (divisorsOf words coefs starts) (length ow) limit (polynomial words coefs starts 0)) → Turning o p words coefs starts limit ow oc b' bw' bc' ww' wc' ow oc inverses mw mc x
+            from x b' bw' bc' s r = record {
               sound = s;
               kept = i;
               work = record { words-long = lw ∙ l .work .words-long; coefs-long = lc ∙ l .work .coefs-long };
@@ -98,12 +98,12 @@ module _ {o : Order} {p : ℕ} {words coefs starts : List ℕ} {limit : ℕ} (a 
               coefs-past = refl;
             }
 
-            by : Begun (compareWords o) p (terms fw fc) bw bc s bw' bc' → Turning o p words coefs starts limit ow oc bw' bc' ww' wc' ow oc inverses mw mc s
-            by (refused h es ebw ebc) =
-                let x : State = record { buckets = noBuckets; comparisons = 0; brought = 0; leads = 0; terms = 0; more = false; stop = 11 } in
-                rw (ebw, ebc)
-                (subst (λ (y : State). Turning o p words coefs starts limit ow oc bw bc ww' wc' ow oc inverses mw mc y) (sym es)
-                (from x bw bc
+            by : Begun (compareWords o) p (terms fw fc) bw bc s b' bw' bc' → Turning o p words coefs starts limit ow oc b' bw' bc' ww' wc' ow oc inverses mw mc s
+            by (refused h es eb ebw ebc) =
+                let x : State = record { comparisons = 0; brought = 0; leads = 0; terms = 0; more = false; stop = 11 } in
+                rw (eb, ebw, ebc)
+                (subst (λ (y : State). Turning o p words coefs starts limit ow oc noBuckets bw bc ww' wc' ow oc inverses mw mc y) (sym es)
+                (from x noBuckets bw bc
                 (record {
                   stands = stands-none (compareWords o) p bw bc (a .checked .modulus) (l .words-long) (l .coefs-long);
                   room = omega (arith, ap held (lists-none bw bc), held-none);
@@ -116,17 +116,17 @@ module _ {o : Order} {p : ℕ} {words coefs starts : List ℕ} {limit : ℕ} (a 
                 (record {
                   going = λ q. absurd (false-true q);
                   ended = λ q.
-                      subst (Ended x bw bc ow oc) (sym (begins-not (compareWords o) dividesWord _-_ _+_ overWord p gs (length ow) limit (polynomial words coefs starts 0) (subst (λ (g : List (Term ℕ)). 4096 < length g) f-is h)))
+                      subst (Ended x noBuckets bw bc ow oc) (sym (begins-not (compareWords o) dividesWord _-_ _+_ overWord p gs (length ow) limit (polynomial words coefs starts 0) (subst (λ (g : List (Term ℕ)). 4096 < length g) f-is h)))
                       (record { stop-is = refl; leads-are = refl; remainder-is = refl; counts = record { buckets-are = lists-none bw bc; comparisons-are = refl; brought-are = refl } });
                 })))
             by (begun h n e es) =
                 let f = terms fw fc in
                 let valid = a .checked .valid 0 (omega (arith, a .checked .some)) in
                 let none = lists-none bw bc in
-                let lists : bucketsIn (s .buckets) bw' bc' ≡ add (compareWords o) p f empty = e .lists-are ∙ ap (add (compareWords o) p f) none in
-                let x : State = record { buckets = s .buckets; comparisons = n; brought = length f; leads = 0; terms = 0; more = true; stop = 0 } in
-                subst (λ (y : State). Turning o p words coefs starts limit ow oc bw' bc' ww' wc' ow oc inverses mw mc y) (sym es)
-                (from x bw' bc'
+                let lists : bucketsIn b' bw' bc' ≡ add (compareWords o) p f empty = e .lists-are ∙ ap (add (compareWords o) p f) none in
+                let x : State = record { comparisons = n; brought = length f; leads = 0; terms = 0; more = true; stop = 0 } in
+                subst (λ (y : State). Turning o p words coefs starts limit ow oc b' bw' bc' ww' wc' ow oc inverses mw mc y) (sym es)
+                (from x b' bw' bc'
                 (record {
                   stands = e .stands;
                   room = omega (arith, ap held lists, adds (compareWords o) p (words-order o) (omega (arith, a .checked .modulus .two)) f empty (omega (arith, room-six {A = ℕ} empty refl, held-none)) (addend .canonical) (subst (Good (compareWords o) p 4) none (stands-none (compareWords o) p bw bc (a .checked .modulus) (l .words-long) (l .coefs-long) .good)) .size, held-none);
@@ -153,9 +153,9 @@ module _ {o : Order} {p : ℕ} {words coefs starts : List ℕ} {limit : ℕ} (a 
                 }))
 
   -- ---- in a turn
-  module _ {ow₀ oc₀ bw bc ww wc ow oc inverses mw mc : List ℕ} {s : State} (v : Turning o p words coefs starts limit ow₀ oc₀ bw bc ww wc ow oc inverses mw mc s) where
+  module _ {ow₀ oc₀ : List ℕ} {b : Buckets} {bw bc ww wc ow oc inverses mw mc : List ℕ} {s : State} (v : Turning o p words coefs starts limit ow₀ oc₀ b bw bc ww wc ow oc inverses mw mc s) where
     module _ (more : s .more ≡ true) where
-      pub turn-asks : Stepping o p words coefs starts limit s inverses bw bc ww wc mw mc ow oc
+      pub turn-asks : Stepping o p words coefs starts limit s inverses b bw bc ww wc mw mc ow oc
       turn-asks = record {
         checked = a .checked;
         few-steps = a .few-steps;
@@ -167,13 +167,13 @@ module _ {o : Order} {p : ℕ} {words coefs starts : List ℕ} {limit : ℕ} (a 
         scratch-coefs = v .scratch-coefs;
       }
 
-      module _ {s' : State} {inverses' bw' bc' ow' oc' : List ℕ} (d : Stepped o p words coefs starts limit s bw bc ow oc s' inverses' bw' bc' ow' oc') where
+      module _ {s' : State} {inverses' : List ℕ} {b' : Buckets} {bw' bc' ow' oc' : List ℕ} (d : Stepped o p words coefs starts limit s b bw bc ow oc s' inverses' b' bw' bc' ow' oc') where
         past : {i j : ℕ} (x y : List ℕ) → i ≤ j → drop i x ≡ drop i y → drop j x ≡ drop j y
         past {i} {j} x y le e =
             let z : i + (j - i) ≡ j = omega arith in
             ap (λ (n : ℕ). drop n x) (sym z) ∙ (sym (drop-drop (j - i) i x) ∙ (ap (drop (j - i)) e ∙ (drop-drop (j - i) i y ∙ ap (λ (n : ℕ). drop n y) z)))
 
-        pub turn-on : {ww' wc' mw' mc' : List ℕ} → length ww' ≡ length ww → length wc' ≡ length wc → length mw' ≡ length mw → length mc' ≡ length mc → length ow' ≡ length ow → length oc' ≡ length oc → Turning o p words coefs starts limit ow₀ oc₀ bw' bc' ww' wc' ow' oc' inverses' mw' mc' s'
+        pub turn-on : {ww' wc' mw' mc' : List ℕ} → length ww' ≡ length ww → length wc' ≡ length wc → length mw' ≡ length mw → length mc' ≡ length mc → length ow' ≡ length ow → length oc' ≡ length oc → Turning o p words coefs starts limit ow₀ oc₀ b' bw' bc' ww' wc' ow' oc' inverses' mw' mc' s'
         turn-on lw lc lmw lmc low loc = record {
           sound = d .sound;
           kept = d .kept;
@@ -184,8 +184,8 @@ module _ {o : Order} {p : ℕ} {words coefs starts : List ℕ} {limit : ℕ} (a 
           coefs-out-long = loc ∙ v .coefs-out-long;
           reaches =
               let R = reductionOfWords o p (divisorsOf words coefs starts) (length ow₀) limit (polynomial words coefs starts 0) in
-              let g = subst (λ (n : ℕ). Going o p (divisorsOf words coefs starts) n limit s bw bc ow oc R) (sym (v .out-long)) (v .reaches .going more) in
-              subst (λ (n : ℕ). Reaches o p (divisorsOf words coefs starts) n limit s' bw' bc' ow' oc' R) (v .out-long) (d .reaches R g);
+              let g = subst (λ (n : ℕ). Going o p (divisorsOf words coefs starts) n limit s b bw bc ow oc R) (sym (v .out-long)) (v .reaches .going more) in
+              subst (λ (n : ℕ). Reaches o p (divisorsOf words coefs starts) n limit s' b' bw' bc' ow' oc' R) (v .out-long) (d .reaches R g);
           words-past = d .words-past ∙ past ow ow₀ (d .longer) (v .words-past);
           coefs-past = d .coefs-past ∙ past oc oc₀ (d .longer) (v .coefs-past);
         }
@@ -197,7 +197,7 @@ module _ {o : Order} {p : ℕ} {words coefs starts : List ℕ} {limit : ℕ} (a 
             by true e = let q = d .further e in omega (arith, q .0, q .1)
             by false e = omega arith
 
-    pub turn-end : s .more ≡ false → Reduced o p words coefs starts limit ow₀ oc₀ s bw bc ow oc
+    pub turn-end : s .more ≡ false → Reduced o p words coefs starts limit ow₀ oc₀ s b bw bc ow oc
     turn-end e = record {
       stands = v .sound .stands;
       output = v .sound .output;

@@ -23,8 +23,7 @@ use Rattle.geobucket.specs.Events as events
 use Rattle.geobucket.proofs.SearchLaws.{Canon, Within, Fewer, Leads as LeadOf, Finds, search-within, finds}
 use Rattle.geobucket.proofs.AddLaws.{adds}
 use Rattle.geobucket.proofs.EventLaws.{good-canon, room-six}
-use Rattle.space.specs.Space.{bucketsIn, Stands, dropped}
-use Rattle.space.specs.declared.state.Buckets.{Buckets}
+use Rattle.space.specs.Space.{Buckets, bucketsIn, Stands, dropped}
 use Rattle.space.proofs.SpaceLaws.{from-long}
 use Rattle.search.specs.declared.candidate.Candidate.{Candidate}
 use Rattle.search.specs.Candidates.{candidateOf}
@@ -65,17 +64,17 @@ of-every P [] a = tt
 of-every P (b ∷ bs) a = (a .0, of-every P bs (a .1))
 
 -- ---- the search
-pub searches : {o : Order} {p : ℕ} {words coefs starts : List ℕ} {limit : ℕ} {s : State} {inverses bw bc ww wc mw mc ow oc : List ℕ} → Stepping o p words coefs starts limit s inverses bw bc ww wc mw mc ow oc → {b : Buckets} {bc' : List ℕ} {k : Candidate} → FindDone (compareWords o) p (bucketsIn (s .buckets) bw bc) b bw bc' k → (s .comparisons < 2000000000000000000) × (k .count < 1000000)
+pub searches : {o : Order} {p : ℕ} {words coefs starts : List ℕ} {limit : ℕ} {s : State} {inverses : List ℕ} {b₀ : Buckets} {bw bc ww wc mw mc ow oc : List ℕ} → Stepping o p words coefs starts limit s inverses b₀ bw bc ww wc mw mc ow oc → {b : Buckets} {bc' : List ℕ} {k : Candidate} → FindDone (compareWords o) p (bucketsIn b₀ bw bc) b bw bc' k → (s .comparisons < 2000000000000000000) × (k .count < 1000000)
 searches a d = (omega (arith, a .sound .few-comparisons (a .more), a .sound .few-leads, a .few-steps), omega (arith, d .few))
 
 -- ---- once the lead was searched for
-module _ {o : Order} {p : ℕ} {words coefs starts : List ℕ} {limit : ℕ} {s : State} {inverses bw bc ww wc mw mc ow oc : List ℕ} (a : Stepping o p words coefs starts limit s inverses bw bc ww wc mw mc ow oc)
-    {b : Buckets} {bc' : List ℕ} {k : Candidate} (d : FindDone (compareWords o) p (bucketsIn (s .buckets) bw bc) b bw bc' k) {t : State} (et : t ≡ searched s b (k .count)) where
+module _ {o : Order} {p : ℕ} {words coefs starts : List ℕ} {limit : ℕ} {s : State} {inverses : List ℕ} {b₀ : Buckets} {bw bc ww wc mw mc ow oc : List ℕ} (a : Stepping o p words coefs starts limit s inverses b₀ bw bc ww wc mw mc ow oc)
+    {b : Buckets} {bc' : List ℕ} {k : Candidate} (d : FindDone (compareWords o) p (bucketsIn b₀ bw bc) b bw bc' k) {t : State} (et : t ≡ searched s (k .count)) where
   abbrev cmp : ℕ → ℕ → Ordering
   cmp = compareWords o
 
   abbrev bs : List (List (Term ℕ))
-  bs = bucketsIn (s .buckets) bw bc
+  bs = bucketsIn b₀ bw bc
 
   O : TotalOrder ℕ (compareWords o)
   O = words-order o
@@ -83,26 +82,26 @@ module _ {o : Order} {p : ℕ} {words coefs starts : List ℕ} {limit : ℕ} {s 
   pos : 0 < p
   pos = omega (arith, a .checked .modulus .two)
 
-  canon : Canon (compareWords o) p (bucketsIn (s .buckets) bw bc)
+  canon : Canon (compareWords o) p (bucketsIn b₀ bw bc)
   canon = good-canon cmp p 4 bs (a .sound .stands .good)
 
-  six : length (bucketsIn (s .buckets) bw bc) ≡ 6
+  six : length (bucketsIn b₀ bw bc) ≡ 6
   six = from-long _ 0 6
 
-  found : Finds (compareWords o) p (bucketsIn (s .buckets) bw bc) (search (compareWords o) p (bucketsIn (s .buckets) bw bc))
+  found : Finds (compareWords o) p (bucketsIn b₀ bw bc) (search (compareWords o) p (bucketsIn b₀ bw bc))
   found = finds cmp p O pos bs canon
 
-  every : OfLead (OfLayout o) (search (compareWords o) p (bucketsIn (s .buckets) bw bc) .answer) × Every (OfLayout o) (search (compareWords o) p (bucketsIn (s .buckets) bw bc) .buckets)
+  every : OfLead (OfLayout o) (search (compareWords o) p (bucketsIn b₀ bw bc) .answer) × Every (OfLayout o) (search (compareWords o) p (bucketsIn b₀ bw bc) .buckets)
   every = search-every (OfLayout o) cmp p bs (every-of (OfLayout o) bs (a .sound .of-layout))
 
-  left-few : held (withLead (search (compareWords o) p (bucketsIn (s .buckets) bw bc) .answer) (search (compareWords o) p (bucketsIn (s .buckets) bw bc) .buckets)) ≤ 4096
+  left-few : held (withLead (search (compareWords o) p (bucketsIn b₀ bw bc) .answer) (search (compareWords o) p (bucketsIn b₀ bw bc) .buckets)) ≤ 4096
   left-few = by (search cmp p bs .answer) refl
     where
       by : (x : Lead ℕ) → search cmp p bs .answer ≡ x → held (withLead (search cmp p bs .answer) (search cmp p bs .buckets)) ≤ 4096
       by none e = omega (arith, left-none cmp p O pos bs canon e)
       by (lead at u) e = let f : held (search cmp p bs .buckets) < held bs = subst (λ (x : Lead ℕ). Fewer cmp p x (search cmp p bs .buckets) bs) e (found .fewer) in omega (arith, left-held cmp p O pos bs canon at u e, a .sound .room)
 
-  count-is : k .count ≡ length (search (compareWords o) p (bucketsIn (s .buckets) bw bc) .pairs)
+  count-is : k .count ≡ length (search (compareWords o) p (bucketsIn b₀ bw bc) .pairs)
   count-is = ap (λ (x : Candidate). x .count) (d .candidate-is) ∙ by (search cmp p bs .answer) (length (search cmp p bs .pairs))
     where
       by : (x : Lead ℕ) (n : ℕ) → candidateOf x n .count ≡ n
@@ -110,7 +109,7 @@ module _ {o : Order} {p : ℕ} {words coefs starts : List ℕ} {limit : ℕ} {s 
       by (lead at u) n = refl
 
   -- ---- the step ends the reduction with the lead left where it is
-  halted-sound : (r : ℕ) → Sound o p limit (halted (searched s b (k .count)) r) bw bc' ow oc
+  halted-sound : (r : ℕ) → Sound o p limit (halted (searched s (k .count)) r) b bw bc' ow oc
   halted-sound r = record {
     stands = d .stands;
     room = omega (arith, ap held (d .lists-are), left-few);
@@ -121,9 +120,9 @@ module _ {o : Order} {p : ℕ} {words coefs starts : List ℕ} {limit : ℕ} {s 
     few-brought = λ e. absurd (false-true e);
   }
 
-  halted-ended : (r : ℕ) (R : Reduction ℕ) (w : events.Work ℕ) → Counts s bw bc w → stoppedBy (compareWords o) dividesWord _-_ _+_ overWord p (divisorsOf words coefs starts) (length ow) r (s .leads) (remainderIn s ow oc) w ≡ R → Ended (halted (searched s b (k .count)) r) bw bc' ow oc R
+  halted-ended : (r : ℕ) (R : Reduction ℕ) (w : events.Work ℕ) → Counts s b₀ bw bc w → stoppedBy (compareWords o) dividesWord _-_ _+_ overWord p (divisorsOf words coefs starts) (length ow) r (s .leads) (remainderIn s ow oc) w ≡ R → Ended (halted (searched s (k .count)) r) b bw bc' ow oc R
   halted-ended r R w c e =
-      subst (Ended (halted (searched s b (k .count)) r) bw bc' ow oc) e
+      subst (Ended (halted (searched s (k .count)) r) b bw bc' ow oc) e
       (record {
         stop-is = refl;
         leads-are = refl;
@@ -135,10 +134,10 @@ module _ {o : Order} {p : ℕ} {words coefs starts : List ℕ} {limit : ℕ} {s 
         };
       })
 
-  halted-step : (r : ℕ) → ((w : events.Work ℕ) → Counts s bw bc w → stepsFrom (compareWords o) dividesWord _-_ _+_ overWord p (divisorsOf words coefs starts) (length ow) (limit - s .leads) (s .leads) (remainderIn s ow oc) w ≡ stoppedBy (compareWords o) dividesWord _-_ _+_ overWord p (divisorsOf words coefs starts) (length ow) r (s .leads) (remainderIn s ow oc) w)
-      → {s' : State} → s' ≡ halted t r → {inverses' : List ℕ} → Inverses p coefs starts inverses' → Stepped o p words coefs starts limit s bw bc ow oc s' inverses' bw bc' ow oc
+  halted-step : (r : ℕ) → ((w : events.Work ℕ) → Counts s b₀ bw bc w → stepsFrom (compareWords o) dividesWord _-_ _+_ overWord p (divisorsOf words coefs starts) (length ow) (limit - s .leads) (s .leads) (remainderIn s ow oc) w ≡ stoppedBy (compareWords o) dividesWord _-_ _+_ overWord p (divisorsOf words coefs starts) (length ow) r (s .leads) (remainderIn s ow oc) w)
+      → {s' : State} → s' ≡ halted t r → {inverses' : List ℕ} → Inverses p coefs starts inverses' → Stepped o p words coefs starts limit s b₀ bw bc ow oc s' inverses' b bw bc' ow oc
   halted-step r steps {s'} es {inverses'} i =
-      subst (λ (x : State). Stepped o p words coefs starts limit s bw bc ow oc x inverses' bw bc' ow oc) (sym (es ∙ ap (λ (x : State). halted x r) et))
+      subst (λ (x : State). Stepped o p words coefs starts limit s b₀ bw bc ow oc x inverses' b bw bc' ow oc) (sym (es ∙ ap (λ (x : State). halted x r) et))
       (record {
         sound = halted-sound r;
         kept = i;
@@ -153,7 +152,7 @@ module _ {o : Order} {p : ℕ} {words coefs starts : List ℕ} {limit : ℕ} {s 
       })
 
   -- ---- zero was found
-  answer-none : k .bucket ≡ 6 → search (compareWords o) p (bucketsIn (s .buckets) bw bc) .answer ≡ none
+  answer-none : k .bucket ≡ 6 → search (compareWords o) p (bucketsIn b₀ bw bc) .answer ≡ none
   answer-none h = by (search cmp p bs .answer) refl
     where
       long : length (search cmp p bs .buckets) ≡ 6
@@ -166,7 +165,7 @@ module _ {o : Order} {p : ℕ} {words coefs starts : List ℕ} {limit : ℕ} {s 
           let q : k .bucket ≡ at = ap (λ (x : Candidate). x .bucket) (d .candidate-is ∙ ap (λ (x : Lead ℕ). candidateOf x (length (search cmp p bs .pairs))) e) in
           absurd (let z : ⊥ = omega (arith, w, long, q) in z)
 
-  pub zero-step : k .bucket ≡ 6 → {s' : State} → s' ≡ halted t 0 → Stepped o p words coefs starts limit s bw bc ow oc s' inverses bw bc' ow oc
+  pub zero-step : k .bucket ≡ 6 → {s' : State} → s' ≡ halted t 0 → Stepped o p words coefs starts limit s b₀ bw bc ow oc s' inverses b bw bc' ow oc
   zero-step h es =
       halted-step 0
       (λ w c. step-none cmp dividesWord _-_ _+_ overWord p (divisorsOf words coefs starts) (length ow) (limit - s .leads) (s .leads) (remainderIn s ow oc) w (ap (λ (x : List (List (Term ℕ))). search cmp p x .answer) (sym (c .buckets-are)) ∙ answer-none h))
@@ -174,13 +173,13 @@ module _ {o : Order} {p : ℕ} {words coefs starts : List ℕ} {limit : ℕ} {s 
 
   -- ---- a lead was found
   module _ (ne : k .bucket ≡ 6 → ⊥) where
-    L : Has (search (compareWords o) p (bucketsIn (s .buckets) bw bc) .answer)
+    L : Has (search (compareWords o) p (bucketsIn b₀ bw bc) .answer)
     L = the-lead O canon six d ne
 
-    in-work : (w : events.Work ℕ) → Counts s bw bc w → search (compareWords o) p (w .buckets) .answer ≡ lead (L .at) (L .term)
+    in-work : (w : events.Work ℕ) → Counts s b₀ bw bc w → search (compareWords o) p (w .buckets) .answer ≡ lead (L .at) (L .term)
     in-work w c = ap (λ (x : List (List (Term ℕ))). search cmp p x .answer) (sym (c .buckets-are)) ∙ L .is
 
-    candidate : k ≡ candidateOf (lead (L .at) (L .term)) (length (search (compareWords o) p (bucketsIn (s .buckets) bw bc) .pairs))
+    candidate : k ≡ candidateOf (lead (L .at) (L .term)) (length (search (compareWords o) p (bucketsIn b₀ bw bc) .pairs))
     candidate = d .candidate-is ∙ ap (λ (x : Lead ℕ). candidateOf x (length (search cmp p bs .pairs))) (L .is)
 
     word-is : k .word ≡ L .term .mono
@@ -192,20 +191,20 @@ module _ {o : Order} {p : ℕ} {words coefs starts : List ℕ} {limit : ℕ} {s 
     term-is : term (k .word) (k .coef) ≡ L .term
     term-is = ap₂ (λ (m c : ℕ). term m c) word-is coef-is
 
-    reduced : LeadOf (compareWords o) p (lead (L .at) (L .term)) (search (compareWords o) p (bucketsIn (s .buckets) bw bc) .buckets)
+    reduced : LeadOf (compareWords o) p (lead (L .at) (L .term)) (search (compareWords o) p (bucketsIn b₀ bw bc) .buckets)
     reduced = subst (λ (x : Lead ℕ). LeadOf cmp p x (search cmp p bs .buckets)) (L .is) (found .leads)
 
     word-layout : OfLayout o (k .word)
     word-layout = subst (OfLayout o) (sym word-is) (subst (OfLead (OfLayout o)) (L .is) (every .0))
 
-    fewer : held (search (compareWords o) p (bucketsIn (s .buckets) bw bc) .buckets) < held (bucketsIn (s .buckets) bw bc)
+    fewer : held (search (compareWords o) p (bucketsIn b₀ bw bc) .buckets) < held (bucketsIn b₀ bw bc)
     fewer = subst (λ (x : Lead ℕ). Fewer cmp p x (search cmp p bs .buckets) bs) (L .is) (found .fewer)
 
-    taken : TakeDone (compareWords o) p (bucketsIn (s .buckets) bw bc) (dropped b (k .bucket)) bw bc' k
+    taken : TakeDone (compareWords o) p (bucketsIn b₀ bw bc) (dropped b (k .bucket)) bw bc' k
     taken = take-lead O canon six d ne refl
 
     -- no step is left
-    pub limit-step : t .leads ≡ limit → {s' : State} → s' ≡ halted t 13 → Stepped o p words coefs starts limit s bw bc ow oc s' inverses bw bc' ow oc
+    pub limit-step : t .leads ≡ limit → {s' : State} → s' ≡ halted t 13 → Stepped o p words coefs starts limit s b₀ bw bc ow oc s' inverses b bw bc' ow oc
     limit-step h es =
         let h' : s .leads ≡ limit = ap (λ (x : State). x .leads) (sym et) ∙ h in
         let none-left : limit - s .leads ≡ 0 = omega arith in
@@ -232,9 +231,9 @@ module _ {o : Order} {p : ℕ} {words coefs starts : List ℕ} {limit : ℕ} {s 
 
       -- ---- the lead is divided by divisor i
       module _ {i : ℕ} (f : FirstFit words starts (k .word) i) where
-        pub divide-asks : i + 1 < length starts → Dividing o p words coefs starts i t k inverses bw bc' ww wc mw mc
+        pub divide-asks : i + 1 < length starts → Dividing o p words coefs starts i t k inverses b bw bc' ww wc mw mc
         divide-asks high =
-            subst (λ (x : State). Dividing o p words coefs starts i x k inverses bw bc' ww wc mw mc) (sym et)
+            subst (λ (x : State). Dividing o p words coefs starts i x k inverses b bw bc' ww wc mw mc) (sym et)
             (record {
               checked = a .checked;
               low = f .low;
@@ -257,14 +256,14 @@ module _ {o : Order} {p : ℕ} {words coefs starts : List ℕ} {limit : ℕ} {s 
               few-brought = omega (arith, few, a .few-steps, a .sound .few-brought (a .more));
             })
 
-        pub keep-asks : Keeping t k ow oc
+        pub keep-asks : Keeping t k b ow oc
         keep-asks =
-            subst (λ (x : State). Keeping x k ow oc) (sym et)
+            subst (λ (x : State). Keeping x k b ow oc) (sym et)
             (record { removal = removal-asks O canon six d ne; few-leads = omega (arith, few, a .few-steps); output = a .sound .output })
 
         -- the definition finds the same divisor
         module _ (high : i + 1 < length starts) where
-          D : Dividing o p words coefs starts i t k inverses bw bc' ww wc mw mc
+          D : Dividing o p words coefs starts i t k inverses b bw bc' ww wc mw mc
           D = divide-asks high
 
           g : Term ℕ
@@ -282,11 +281,8 @@ module _ {o : Order} {p : ℕ} {words coefs starts : List ℕ} {limit : ℕ} {s 
           large-is : anyTooLarge overWord (L .term .mono - leadWord words starts i) (terms (tailOf starts i words) (tailOf starts i coefs)) ≡ anyOver (k .word - leadWord words starts i) (tailOf starts i words)
           large-is = over-terms (L .term .mono - leadWord words starts i) (tailOf starts i words) (tailOf starts i coefs) (tail-long D) ∙ ap (λ (m : ℕ). anyOver (m - leadWord words starts i) (tailOf starts i words)) (sym word-is)
 
-          rest-is : (w : events.Work ℕ) → Counts s bw bc w → search (compareWords o) p (w .buckets) .buckets ≡ bucketsIn (dropped b (k .bucket)) bw bc'
+          rest-is : (w : events.Work ℕ) → Counts s b₀ bw bc w → search (compareWords o) p (w .buckets) .buckets ≡ bucketsIn (dropped b (k .bucket)) bw bc'
           rest-is w c = ap (λ (x : List (List (Term ℕ))). search cmp p x .buckets) (sym (c .buckets-are)) ∙ sym (taken .lists-are)
-
-          rest-of : held (bucketsIn (dropped (t .buckets) (k .bucket)) bw bc') ≡ held (bucketsIn (dropped b (k .bucket)) bw bc')
-          rest-of = ap (λ (x : State). held (bucketsIn (dropped (x .buckets) (k .bucket)) bw bc')) et
 
           -- where a step is left
           abbrev Steps : (more leads : ℕ) → List (Term ℕ) → events.Work ℕ → Reduction ℕ
@@ -299,7 +295,7 @@ module _ {o : Order} {p : ℕ} {words coefs starts : List ℕ} {limit : ℕ} {s 
               → anyOver (k .word - leadWord words starts i) (tailOf starts i words) ≡ false → held (bucketsIn (dropped b (k .bucket)) bw bc') + length (tailOf starts i words) ≤ 4096
               → AddDone (compareWords o) p (dropped b (k .bucket)) (tailMultiple _-_ _+_ p (L .term) (term (leadWord words starts i) (leadCoef coefs starts i)) (terms (tailOf starts i words) (tailOf starts i coefs))) bw bc' bw' bc'' b' m
               → Added (compareWords o) p (OfLayout o) (L .term) (tailMultiple _-_ _+_ p (L .term) (term (leadWord words starts i) (leadCoef coefs starts i)) (terms (tailOf starts i words) (tailOf starts i coefs)))
-              → Stepped o p words coefs starts limit s bw bc ow oc (added (removed (searched s b (k .count)) (k .bucket)) b' m (length (tailOf starts i words))) inverses' bw' bc'' ow oc
+              → Stepped o p words coefs starts limit s b₀ bw bc ow oc (added (removed (searched s (k .count))) m (length (tailOf starts i words))) inverses' b' bw' bc'' ow oc
           divided-to i' {bw'} {bc''} {b'} {m} no-over small e u = record {
             sound = record {
               stands = e .stands;
@@ -338,35 +334,32 @@ module _ {o : Order} {p : ℕ} {words coefs starts : List ℕ} {limit : ℕ} {s 
               h-long : length (tailMultiple _-_ _+_ p (L .term) (term (leadWord words starts i) (leadCoef coefs starts i)) (terms (tailOf starts i words) (tailOf starts i coefs))) ≡ length (tailOf starts i words)
               h-long = length-multiple _+_ p _ _ (terms (tailOf starts i words) (tailOf starts i coefs)) ∙ tail-is
 
-              counted : (w : events.Work ℕ) (c : Counts s bw bc w) → s .comparisons + k .count + m ≡ length ((w .pairs ++ search cmp p (w .buckets) .pairs) ++ addCompared cmp p h (search cmp p (w .buckets) .buckets))
+              counted : (w : events.Work ℕ) (c : Counts s b₀ bw bc w) → s .comparisons + k .count + m ≡ length ((w .pairs ++ search cmp p (w .buckets) .pairs) ++ addCompared cmp p h (search cmp p (w .buckets) .buckets))
               counted w c =
                   let x : s .comparisons ≡ length (w .pairs) = c .comparisons-are in
                   let y : k .count ≡ length (search cmp p (w .buckets) .pairs) = count-is ∙ ap (λ (x : List (List (Term ℕ))). length (search cmp p x .pairs)) (c .buckets-are) in
                   let z : m ≡ length (addCompared cmp p h (search cmp p (w .buckets) .buckets)) = e .count-is ∙ ap (λ (x : List (List (Term ℕ))). length (addCompared cmp p h x)) (sym (rest-is w c)) in
                   omega (arith, x, y, z, length-append (w .pairs) (search cmp p (w .buckets) .pairs), length-append (w .pairs ++ search cmp p (w .buckets) .pairs) (addCompared cmp p h (search cmp p (w .buckets) .buckets)))
 
-          pub divided-step : {s' : State} {inverses' bw' bc'' : List ℕ} → Divided o p words coefs starts i t k bw bc' s' inverses' bw' bc'' → Stepped o p words coefs starts limit s bw bc ow oc s' inverses' bw' bc'' ow oc
-          divided-step {s'} {inverses'} {bw'} {bc''} v = by (v .done)
+          pub divided-step : {s' : State} {inverses' : List ℕ} {b' : Buckets} {bw' bc'' : List ℕ} → Divided o p words coefs starts i t k b bw bc' s' inverses' b' bw' bc'' → Stepped o p words coefs starts limit s b₀ bw bc ow oc s' inverses' b' bw' bc'' ow oc
+          divided-step {s'} {inverses'} {b'} {bw'} {bc''} v = by (v .done)
             where
-              by : DividedTo o p words coefs starts i t k bw bc' s' bw' bc'' → Stepped o p words coefs starts limit s bw bc ow oc s' inverses' bw' bc'' ow oc
-              by (over h es ew ec) =
-                  rw (ew, ec)
+              by : DividedTo o p words coefs starts i t k b bw bc' s' b' bw' bc'' → Stepped o p words coefs starts limit s b₀ bw bc ow oc s' inverses' b' bw' bc'' ow oc
+              by (over h es eb ew ec) =
+                  rw (eb, ew, ec)
                   (halted-step 12
                   (λ w c. at-more w (step-large cmp dividesWord _-_ _+_ overWord p (divisorsOf words coefs starts) (length ow) (limit - suc (s .leads)) (s .leads) (remainderIn s ow oc) w (L .at) (L .term) (in-work w c) (term (leadWord words starts i) (leadCoef coefs starts i)) (terms (tailOf starts i words) (tailOf starts i coefs)) fit (large-is ∙ h)))
                   es (v .kept))
-              by (many h l es ew ec) =
-                  rw (ew, ec)
+              by (many h l es eb ew ec) =
+                  rw (eb, ew, ec)
                   (halted-step 11
-                  (λ w c. at-more w (step-many cmp dividesWord _-_ _+_ overWord p (divisorsOf words coefs starts) (length ow) (limit - suc (s .leads)) (s .leads) (remainderIn s ow oc) w (L .at) (L .term) (in-work w c) (term (leadWord words starts i) (leadCoef coefs starts i)) (terms (tailOf starts i words) (tailOf starts i coefs)) fit (large-is ∙ h) (omega (arith, ap held (rest-is w c), tail-is, rest-of))))
+                  (λ w c. at-more w (step-many cmp dividesWord _-_ _+_ overWord p (divisorsOf words coefs starts) (length ow) (limit - suc (s .leads)) (s .leads) (remainderIn s ow oc) w (L .at) (L .term) (in-work w c) (term (leadWord words starts i) (leadCoef coefs starts i)) (terms (tailOf starts i words) (tailOf starts i coefs)) fit (large-is ∙ h) (omega (arith, ap held (rest-is w c), tail-is))))
                   es (v .kept))
               by (divided h l m e es) =
-                  let few-terms : held (bucketsIn (dropped b (k .bucket)) bw bc') + length (tailOf starts i words) ≤ 4096 = omega (arith, rest-of) in
-                  let u = to-add D h l in
-                  let e' : AddDone cmp p (dropped b (k .bucket)) (tailMultiple _-_ _+_ p (term (k .word) (k .coef)) (term (leadWord words starts i) (leadCoef coefs starts i)) (terms (tailOf starts i words) (tailOf starts i coefs))) bw bc' bw' bc'' (s' .buckets) m = subst (λ (x : State). AddDone cmp p (dropped (x .buckets) (k .bucket)) (toAdd o p words coefs starts i x k bw bc') bw bc' bw' bc'' (s' .buckets) m) et e in
-                  subst (λ (x : State). Stepped o p words coefs starts limit s bw bc ow oc x inverses' bw' bc'' ow oc) (sym (es ∙ ap (λ (x : State). added (removed x (k .bucket)) (s' .buckets) m (length (tailOf starts i words))) et))
-                  (divided-to (v .kept) h few-terms
-                  (subst (λ (x : Term ℕ). AddDone cmp p (dropped b (k .bucket)) (tailMultiple _-_ _+_ p x (term (leadWord words starts i) (leadCoef coefs starts i)) (terms (tailOf starts i words) (tailOf starts i coefs))) bw bc' bw' bc'' (s' .buckets) m) term-is e')
-                  (subst (λ (x : Term ℕ). Added cmp p (OfLayout o) x (tailMultiple _-_ _+_ p x (term (leadWord words starts i) (leadCoef coefs starts i)) (terms (tailOf starts i words) (tailOf starts i coefs)))) term-is u))
+                  subst (λ (x : State). Stepped o p words coefs starts limit s b₀ bw bc ow oc x inverses' b' bw' bc'' ow oc) (sym (es ∙ ap (λ (x : State). added (removed x) m (length (tailOf starts i words))) et))
+                  (divided-to (v .kept) h l
+                  (subst (λ (x : Term ℕ). AddDone cmp p (dropped b (k .bucket)) (tailMultiple _-_ _+_ p x (term (leadWord words starts i) (leadCoef coefs starts i)) (terms (tailOf starts i words) (tailOf starts i coefs))) bw bc' bw' bc'' b' m) term-is e)
+                  (subst (λ (x : Term ℕ). Added cmp p (OfLayout o) x (tailMultiple _-_ _+_ p x (term (leadWord words starts i) (leadCoef coefs starts i)) (terms (tailOf starts i words) (tailOf starts i coefs)))) term-is (to-add D h l)))
 
         -- ---- the lead goes to the remainder
         module _ (low : length starts ≤ i + 1) where
@@ -376,19 +369,19 @@ module _ {o : Order} {p : ℕ} {words coefs starts : List ℕ} {limit : ℕ} {s 
           at-next : (w : events.Work ℕ) {x : Reduction ℕ} → stepsFrom (compareWords o) dividesWord _-_ _+_ overWord p (divisorsOf words coefs starts) (length ow) (suc (limit - suc (s .leads))) (s .leads) (remainderIn s ow oc) w ≡ x → stepsFrom (compareWords o) dividesWord _-_ _+_ overWord p (divisorsOf words coefs starts) (length ow) (limit - s .leads) (s .leads) (remainderIn s ow oc) w ≡ x
           at-next w e = ap (λ (m : ℕ). stepsFrom cmp dividesWord _-_ _+_ overWord p (divisorsOf words coefs starts) (length ow) m (s .leads) (remainderIn s ow oc) w) one-left ∙ e
 
-          pub kept-step : {s' : State} {ow' oc' : List ℕ} → Kept t k ow oc s' ow' oc' → Stepped o p words coefs starts limit s bw bc ow oc s' inverses bw bc' ow' oc'
-          kept-step {s'} {ow'} {oc'} v = by v
+          pub kept-step : {s' : State} {b' : Buckets} {ow' oc' : List ℕ} → Kept t k b ow oc s' b' ow' oc' → Stepped o p words coefs starts limit s b₀ bw bc ow oc s' inverses b' bw bc' ow' oc'
+          kept-step {s'} {b'} {ow'} {oc'} v = by v
             where
               terms-same : t .terms ≡ s .terms
               terms-same = ap (λ (x : State). x .terms) et
 
-              put-to : s .terms < length ow → Stepped o p words coefs starts limit s bw bc ow oc (kept (searched s b (k .count)) (k .bucket)) inverses bw bc' (set ow (s .terms) (k .word)) (set oc (s .terms) (k .coef))
+              put-to : s .terms < length ow → Stepped o p words coefs starts limit s b₀ bw bc ow oc (kept (searched s (k .count))) inverses (dropped b (k .bucket)) bw bc' (set ow (s .terms) (k .word)) (set oc (s .terms) (k .coef))
               put-to h =
                   let out = a .sound .output in
                   let x = k .word ∷ [] in
                   let y = k .coef ∷ [] in
                   let fit : s .terms + length x ≤ length ow = omega arith in
-                  let grows : remainderIn (kept (searched s b (k .count)) (k .bucket)) (set ow (s .terms) (k .word)) (set oc (s .terms) (k .coef)) ≡ remainderIn s ow oc ++ L .term ∷ [] = grown out x y refl fit ∙ ap (λ (u : Term ℕ). remainderIn s ow oc ++ (u ∷ [])) term-is in
+                  let grows : remainderIn (kept (searched s (k .count))) (set ow (s .terms) (k .word)) (set oc (s .terms) (k .coef)) ≡ remainderIn s ow oc ++ L .term ∷ [] = grown out x y refl fit ∙ ap (λ (u : Term ℕ). remainderIn s ow oc ++ (u ∷ [])) term-is in
                   record {
                     sound = record {
                       stands = taken .stands;
@@ -422,13 +415,13 @@ module _ {o : Order} {p : ℕ} {words coefs starts : List ℕ} {limit : ℕ} {s 
                       → stepsFrom (compareWords o) dividesWord _-_ _+_ overWord p (divisorsOf words coefs starts) (length ow) (limit - (s .leads + 1)) (s .leads + 1) r (events.removed (compareWords o) p w) ≡ R
                   place-at R w er e = ap₂ (λ (n : ℕ) (r : List (Term ℕ)). stepsFrom cmp dividesWord _-_ _+_ overWord p (divisorsOf words coefs starts) (length ow) (limit - n) n r (events.removed cmp p w)) (add-one (s .leads)) er ∙ e
 
-              by : Kept t k ow oc s' ow' oc' → Stepped o p words coefs starts limit s bw bc ow oc s' inverses bw bc' ow' oc'
-              by (full h es ew ec) =
-                  rw (ew, ec)
+              by : Kept t k b ow oc s' b' ow' oc' → Stepped o p words coefs starts limit s b₀ bw bc ow oc s' inverses b' bw bc' ow' oc'
+              by (full h es eb ew ec) =
+                  rw (eb, ew, ec)
                   (halted-step 10
                   (λ w c. at-next w (step-full cmp dividesWord _-_ _+_ overWord p (divisorsOf words coefs starts) (length ow) (limit - suc (s .leads)) (s .leads) (remainderIn s ow oc) w (L .at) (L .term) (in-work w c) no-fit (omega (arith, written-long (a .sound .output), terms-same))))
                   es (a .kept))
-              by (put h es ew ec) =
+              by (put h es eb ew ec) =
                   let ew' : ow' ≡ set ow (s .terms) (k .word) = ew ∙ ap (λ (n : ℕ). set ow n (k .word)) terms-same in
                   let ec' : oc' ≡ set oc (s .terms) (k .coef) = ec ∙ ap (λ (n : ℕ). set oc n (k .coef)) terms-same in
-                  rw (ew', ec') (subst (λ (x : State). Stepped o p words coefs starts limit s bw bc ow oc x inverses bw bc' (set ow (s .terms) (k .word)) (set oc (s .terms) (k .coef))) (sym (es ∙ ap (λ (x : State). kept x (k .bucket)) et)) (put-to (omega (arith, terms-same))))
+                  rw (eb, ew', ec') (subst (λ (x : State). Stepped o p words coefs starts limit s b₀ bw bc ow oc x inverses (dropped b (k .bucket)) bw bc' (set ow (s .terms) (k .word)) (set oc (s .terms) (k .coef))) (sym (es ∙ ap (λ (x : State). kept x) et)) (put-to (omega (arith, terms-same))))

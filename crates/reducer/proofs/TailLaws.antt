@@ -11,8 +11,8 @@ use Rattle.polynomial.specs.Multiple.{multiple}
 use Rattle.polynomial.proofs.TermLists.{length-terms, terms-of}
 use Rattle.merge.specs.Lent.{part}
 use Rattle.merge.specs.Multiplying.{Multiplied}
+use Rattle.space.specs.Space.{Buckets}
 use Rattle.space.proofs.SpaceLaws.{part-put}
-use Rattle.space.specs.declared.state.Buckets.{Buckets}
 use Rattle.buckets.specs.Adding.{Addition, AddDone}
 use Rattle.reducer.specs.declared.state.State.{State}
 use Rattle.reducer.specs.States.{added}
@@ -22,7 +22,7 @@ use Rattle.reducer.specs.Dividing.{TailAddition, TailAdded}
 pub front : (n : ℕ) (l : List ℕ) → take (n - 0) (drop 0 l) ≡ part 0 n l
 front n l = ap (λ (m : ℕ). take m l) (let e : n - 0 ≡ n = omega arith in e)
 
-module _ {cmp : ℕ → ℕ → Ordering} {p : ℕ} {f : Factor} {q : ℕ} {tw tc : List ℕ} {s : State} {bw bc ww wc mw mc : List ℕ} (a : TailAddition cmp p f q tw tc s bw bc ww wc mw mc) {mw' mc' : List ℕ} (d : Multiplied (f .prime) (f .value) q tw tc 0 mw mc mw' mc')
+module _ {cmp : ℕ → ℕ → Ordering} {p : ℕ} {f : Factor} {q : ℕ} {tw tc : List ℕ} {s : State} {b : Buckets} {bw bc ww wc mw mc : List ℕ} (a : TailAddition cmp p f q tw tc s b bw bc ww wc mw mc) {mw' mc' : List ℕ} (d : Multiplied (f .prime) (f .value) q tw tc 0 mw mc mw' mc')
     {fw fc : List ℕ} (ew : fw ≡ part 0 (length tw) mw') (ec : fc ≡ part 0 (length tw) mc') where
   M : List (Term ℕ)
   M = multiple (λ x y. x + y) (f .prime) (f .value) q (terms tw tc)
@@ -48,7 +48,7 @@ module _ {cmp : ℕ → ℕ → Ordering} {p : ℕ} {f : Factor} {q : ℕ} {tw t
   terms-are : terms fw fc ≡ M
   terms-are = ap₂ terms words-are coefs-are ∙ terms-of M
 
-  pub tail-asks : Addition cmp p (s .buckets) fw fc bw bc ww wc
+  pub tail-asks : Addition cmp p b fw fc bw bc ww wc
   unfolding M
   tail-asks = record {
     stands = a .stands;
@@ -59,6 +59,6 @@ module _ {cmp : ℕ → ℕ → Ordering} {p : ℕ} {f : Factor} {q : ℕ} {tw t
     work-coefs = a .work .coefs-long;
   }
 
-  pub tail-done : {bw' bc' : List ℕ} {b' : Buckets} {n : ℕ} → AddDone cmp p (s .buckets) (terms fw fc) bw bc bw' bc' b' n → TailAdded cmp p f q tw tc s bw bc (added s b' n (length tw)) bw' bc'
+  pub tail-done : {bw' bc' : List ℕ} {b' : Buckets} {n : ℕ} → AddDone cmp p b (terms fw fc) bw bc bw' bc' b' n → TailAdded cmp p f q tw tc s b bw bc (added s n (length tw)) b' bw' bc'
   unfolding M
-  tail-done {bw'} {bc'} {b'} {n} e = record { comparisons = n; done = subst (λ (x : List (Term ℕ)). AddDone cmp p (s .buckets) x bw bc bw' bc' b' n) terms-are e; is = refl }
+  tail-done {bw'} {bc'} {b'} {n} e = record { comparisons = n; done = subst (λ (x : List (Term ℕ)). AddDone cmp p b x bw bc bw' bc' b' n) terms-are e; is = refl }

@@ -12,7 +12,7 @@ use Rattle.polynomial.specs.Multiple.{multiple}
 use Rattle.polynomial.specs.Opening.{partOf}
 use Rattle.merge.specs.Multiplying.{anyOver, Multiplicands}
 use Rattle.geobucket.specs.Buckets.{held}
-use Rattle.space.specs.Space.{bucketsIn, Stands, dropped}
+use Rattle.space.specs.Space.{Buckets, bucketsIn, Stands, dropped}
 use Rattle.search.specs.declared.candidate.Candidate.{Candidate}
 use Rattle.search.specs.Searching.{Removal}
 use Rattle.buckets.specs.Adding.{AddDone}
@@ -24,19 +24,19 @@ use Rattle.reducer.specs.States.{halted, removed, added}
 
 -- ---- the multiple of a tail is added
 
-pub record TailAddition (cmp : ℕ → ℕ → Ordering) (p : ℕ) (f : Factor) (q : ℕ) (tw tc : List ℕ) (s : State) (bw bc ww wc mw mc : List ℕ) : Type 0 where
-  pub stands : Stands cmp p (s .buckets) bw bc
+pub record TailAddition (cmp : ℕ → ℕ → Ordering) (p : ℕ) (f : Factor) (q : ℕ) (tw tc : List ℕ) (s : State) (b : Buckets) (bw bc ww wc mw mc : List ℕ) : Type 0 where
+  pub stands : Stands cmp p b bw bc
   pub multiplicands : Multiplicands f q tw tc 0 mw mc
   pub canonical : Canonical cmp p (multiple (λ x y. x + y) (f .prime) (f .value) q (terms tw tc))
-  pub room : length tw + held (bucketsIn (s .buckets) bw bc) ≤ 4096
+  pub room : length tw + held (bucketsIn b bw bc) ≤ 4096
   pub work : Work ww wc
   pub few-comparisons : s .comparisons < 2000000000000000000
   pub few-brought : s .brought < 2000000000000000000
 
-pub record TailAdded (cmp : ℕ → ℕ → Ordering) (p : ℕ) (f : Factor) (q : ℕ) (tw tc : List ℕ) (s : State) (bw bc : List ℕ) (s' : State) (bw' bc' : List ℕ) : Type 0 where
+pub record TailAdded (cmp : ℕ → ℕ → Ordering) (p : ℕ) (f : Factor) (q : ℕ) (tw tc : List ℕ) (s : State) (b : Buckets) (bw bc : List ℕ) (s' : State) (b' : Buckets) (bw' bc' : List ℕ) : Type 0 where
   pub comparisons : ℕ
-  pub done : AddDone cmp p (s .buckets) (multiple (λ x y. x + y) (f .prime) (f .value) q (terms tw tc)) bw bc bw' bc' (s' .buckets) comparisons
-  pub is : s' ≡ added s (s' .buckets) comparisons (length tw)
+  pub done : AddDone cmp p b (multiple (λ x y. x + y) (f .prime) (f .value) q (terms tw tc)) bw bc bw' bc' b' comparisons
+  pub is : s' ≡ added s comparisons (length tw)
 
 -- ---- the lead is divided by divisor k
 
@@ -44,17 +44,17 @@ pub record TailAdded (cmp : ℕ → ℕ → Ordering) (p : ℕ) (f : Factor) (q 
 abbrev pub tailOf : (starts : List ℕ) → (k : ℕ) → List ℕ → List ℕ
 tailOf starts k l = drop 1 (partOf starts k l)
 
-pub record Dividing (o : Order) (p : ℕ) (words coefs starts : List ℕ) (k : ℕ) (s : State) (lead : Candidate) (inverses bw bc ww wc mw mc : List ℕ) : Type 0 where
+pub record Dividing (o : Order) (p : ℕ) (words coefs starts : List ℕ) (k : ℕ) (s : State) (lead : Candidate) (inverses : List ℕ) (b : Buckets) (bw bc ww wc mw mc : List ℕ) : Type 0 where
   pub checked : Checked o p words coefs starts
   pub low : 1 ≤ k
   pub high : k + 1 < length starts
   pub fits : dividesWord (leadWord words starts k) (lead .word) ≡ true
-  pub stands : Stands (compareWords o) p (s .buckets) bw bc
-  pub room : held (bucketsIn (s .buckets) bw bc) ≤ 4096
-  pub removal : Removal (s .buckets) (lead .bucket)
+  pub stands : Stands (compareWords o) p b bw bc
+  pub room : held (bucketsIn b bw bc) ≤ 4096
+  pub removal : Removal b (lead .bucket)
   -- the buckets without the lead
-  pub rest : Stands (compareWords o) p (dropped (s .buckets) (lead .bucket)) bw bc
-  pub one-less : held (bucketsIn (s .buckets) bw bc) ≡ held (bucketsIn (dropped (s .buckets) (lead .bucket)) bw bc) + 1
+  pub rest : Stands (compareWords o) p (dropped b (lead .bucket)) bw bc
+  pub one-less : held (bucketsIn b bw bc) ≡ held (bucketsIn (dropped b (lead .bucket)) bw bc) + 1
   pub of-layout : OfLayout o (lead .word)
   pub coef-pos : 0 < lead .coef
   pub coef-small : lead .coef < p
@@ -66,19 +66,19 @@ pub record Dividing (o : Order) (p : ℕ) (words coefs starts : List ℕ) (k : �
   pub few-comparisons : s .comparisons < 2000000000000000000
   pub few-brought : s .brought < 2000000000000000000
 
-module _ (o : Order) (p : ℕ) (words coefs starts : List ℕ) (k : ℕ) (s : State) (lead : Candidate) (bw bc : List ℕ) where
+module _ (o : Order) (p : ℕ) (words coefs starts : List ℕ) (k : ℕ) (s : State) (lead : Candidate) (b : Buckets) (bw bc : List ℕ) where
   -- the multiple of the tail, by the lead c·α that was found
   abbrev pub toAdd : List (Term ℕ)
   toAdd = tailMultiple _-_ _+_ p (term (lead .word) (lead .coef)) (term (leadWord words starts k) (leadCoef coefs starts k)) (terms (tailOf starts k words) (tailOf starts k coefs))
 
   -- "12, then 11, if a divisor fits"; else the lead is removed, and the multiple of the tail added
-  pub data DividedTo (s' : State) (bw' bc' : List ℕ) : Type 0 where
-    over : anyOver (lead .word - leadWord words starts k) (tailOf starts k words) ≡ true → s' ≡ halted s 12 → bw' ≡ bw → bc' ≡ bc → DividedTo s' bw' bc'
-    many : anyOver (lead .word - leadWord words starts k) (tailOf starts k words) ≡ false → 4096 < held (bucketsIn (dropped (s .buckets) (lead .bucket)) bw bc) + length (tailOf starts k words) → s' ≡ halted s 11 → bw' ≡ bw → bc' ≡ bc → DividedTo s' bw' bc'
-    divided : anyOver (lead .word - leadWord words starts k) (tailOf starts k words) ≡ false → held (bucketsIn (dropped (s .buckets) (lead .bucket)) bw bc) + length (tailOf starts k words) ≤ 4096
-        → (comparisons : ℕ) → AddDone (compareWords o) p (dropped (s .buckets) (lead .bucket)) toAdd bw bc bw' bc' (s' .buckets) comparisons → s' ≡ added (removed s (lead .bucket)) (s' .buckets) comparisons (length (tailOf starts k words))
-        → DividedTo s' bw' bc'
+  pub data DividedTo (s' : State) (b' : Buckets) (bw' bc' : List ℕ) : Type 0 where
+    over : anyOver (lead .word - leadWord words starts k) (tailOf starts k words) ≡ true → s' ≡ halted s 12 → b' ≡ b → bw' ≡ bw → bc' ≡ bc → DividedTo s' b' bw' bc'
+    many : anyOver (lead .word - leadWord words starts k) (tailOf starts k words) ≡ false → 4096 < held (bucketsIn (dropped b (lead .bucket)) bw bc) + length (tailOf starts k words) → s' ≡ halted s 11 → b' ≡ b → bw' ≡ bw → bc' ≡ bc → DividedTo s' b' bw' bc'
+    divided : anyOver (lead .word - leadWord words starts k) (tailOf starts k words) ≡ false → held (bucketsIn (dropped b (lead .bucket)) bw bc) + length (tailOf starts k words) ≤ 4096
+        → (comparisons : ℕ) → AddDone (compareWords o) p (dropped b (lead .bucket)) toAdd bw bc bw' bc' b' comparisons → s' ≡ added (removed s) comparisons (length (tailOf starts k words))
+        → DividedTo s' b' bw' bc'
 
-pub record Divided (o : Order) (p : ℕ) (words coefs starts : List ℕ) (k : ℕ) (s : State) (lead : Candidate) (bw bc : List ℕ) (s' : State) (inverses' bw' bc' : List ℕ) : Type 0 where
+pub record Divided (o : Order) (p : ℕ) (words coefs starts : List ℕ) (k : ℕ) (s : State) (lead : Candidate) (b : Buckets) (bw bc : List ℕ) (s' : State) (inverses' : List ℕ) (b' : Buckets) (bw' bc' : List ℕ) : Type 0 where
   pub kept : Inverses p coefs starts inverses'
-  pub done : DividedTo o p words coefs starts k s lead bw bc s' bw' bc'
+  pub done : DividedTo o p words coefs starts k s lead b bw bc s' b' bw' bc'

@@ -12,6 +12,7 @@ use residue::arithmetic::multiply;
 use residue::arithmetic::negate;
 use residue::factor::Factor;
 use search::candidate::Candidate;
+use search::lead::remove_lead;
 use space::state::held;
 ghost use Rattle.monomial.specs.Words.{compareWords};
 ghost use Rattle.reducer.specs.Dividing.{Dividing, Divided, TailAddition, TailAdded};
@@ -29,6 +30,7 @@ pub fn divide<'a>(
     s: State,
     lead: Candidate,
     inverses: &mut [u32],
+    b: &mut [usize],
     bw: &mut [u64],
     bc: &mut [u32],
     ww: &mut [u64],
@@ -36,8 +38,8 @@ pub fn divide<'a>(
     mw: &mut [u64],
     mc: &mut [u32],
 ) -> State
-    requires { ⌜ Dividing order p (now words) (now coefs) (now starts) k s lead (now inverses) (now bw) (now bc) (now ww) (now wc) (now mw) (now mc) ⌝ }
-    ensures { λ r. ⌜ Divided order p (now (words .entry)) (now (coefs .entry)) (now (starts .entry)) k s lead (now (bw .entry)) (now (bc .entry)) r (now (inverses .exit)) (now (bw .exit)) (now (bc .exit)) ⌝ }
+    requires { ⌜ Dividing order p (now words) (now coefs) (now starts) k s lead (now inverses) (now b) (now bw) (now bc) (now ww) (now wc) (now mw) (now mc) ⌝ }
+    ensures { λ r. ⌜ Divided order p (now (words .entry)) (now (coefs .entry)) (now (starts .entry)) k s lead (now (b .entry)) (now (bw .entry)) (now (bc .entry)) r (now (inverses .exit)) (now (b .exit)) (now (bw .exit)) (now (bc .exit)) ⌝ }
 {
     let gw = words_of(words, starts, k);
     let gc = coefs_of(coefs, starts, k);
@@ -47,13 +49,14 @@ pub fn divide<'a>(
     if any_over(q, tw) {
         return s.halt(12);
     }
-    if held(s.buckets) - 1 + tw.len() > 4096 {
+    if held(b) - 1 + tw.len() > 4096 {
         return s.halt(11);
     }
     let inverse = lead_inverse(p, coefs, starts, k, inverses);
     let factor = Factor::new(multiply(negate(lead.coef, p), inverse, p), p);
-    let r = s.remove(lead);
-    add_tail(order, p, factor, q, tw, tc, r, bw, bc, ww, wc, mw, mc)
+    remove_lead(b, lead.bucket);
+    let r = s.remove();
+    add_tail(order, p, factor, q, tw, tc, r, b, bw, bc, ww, wc, mw, mc)
 }
 
 // Adds the tail times factor·q, which is made in the scratch room mw, mc.
@@ -65,6 +68,7 @@ fn add_tail<'a>(
     tw: &'a [u64],
     tc: &'a [u32],
     s: State,
+    b: &mut [usize],
     bw: &mut [u64],
     bc: &mut [u32],
     ww: &mut [u64],
@@ -72,16 +76,14 @@ fn add_tail<'a>(
     mw: &mut [u64],
     mc: &mut [u32],
 ) -> State
-    requires { ⌜ TailAddition (compareWords order) p factor q (now tw) (now tc) s (now bw) (now bc) (now ww) (now wc) (now mw) (now mc) ⌝ }
-    ensures { λ r. ⌜ TailAdded (compareWords order) p factor q (now (tw .entry)) (now (tc .entry)) s (now (bw .entry)) (now (bc .entry)) r (now (bw .exit)) (now (bc .exit)) ⌝ }
+    requires { ⌜ TailAddition (compareWords order) p factor q (now tw) (now tc) s (now b) (now bw) (now bc) (now ww) (now wc) (now mw) (now mc) ⌝ }
+    ensures { λ r. ⌜ TailAdded (compareWords order) p factor q (now (tw .entry)) (now (tc .entry)) s (now (b .entry)) (now (bw .entry)) (now (bc .entry)) r (now (b .exit)) (now (bw .exit)) (now (bc .exit)) ⌝ }
 {
     put_multiple(factor, q, tw, tc, mw, mc, 0);
     let n = tw.len();
-    let r = add(order, p, s.buckets, &mw[0..n], &mc[0..n], bw, bc, ww, wc);
-    let buckets = r.buckets;
+    let r = add(order, p, b, &mw[0..n], &mc[0..n], bw, bc, ww, wc);
     State {
-        buckets,
-        comparisons: s.comparisons + r.comparisons,
+        comparisons: s.comparisons + r,
         brought: s.brought + n as u64,
         leads: s.leads,
         terms: s.terms,

@@ -1,16 +1,11 @@
-// What a reduction keeps between its steps.
-use search::candidate::Candidate;
-use search::lead::remove_lead;
-use space::state::Buckets;
+// What a reduction keeps between its steps, beside the buckets.
 ghost use mathlib.Core.Path.{_≡_};
 ghost use Prim.Native.Nat.{_<_};
-ghost use Rattle.search.specs.Searching.{Removal};
 ghost use Rattle.reducer.specs.States.{searched, halted, removed};
 
-// The buckets, the comparisons and the terms brought in, the leads removed, the terms of the
-// remainder, whether a further step follows, and the refusal that stopped the reduction, 0 for none.
+// The comparisons and the terms brought in, the leads removed, the terms of the remainder, whether a
+// further step follows, and the refusal that stopped the reduction, 0 for none.
 pub struct State {
-    pub buckets: Buckets,
     pub comparisons: u64,
     pub brought: u64,
     pub leads: u64,
@@ -21,12 +16,11 @@ pub struct State {
 
 impl State {
     // The state once a lead was searched for.
-    pub fn search(self, buckets: Buckets, comparisons: u64) -> Self
+    pub fn search(self, comparisons: u64) -> Self
         requires { ⌜ (self .comparisons < 2000000000000000000) × (comparisons < 1000000) ⌝ }
-        ensures { λ r. ⌜ r ≡ searched self buckets comparisons ⌝ }
+        ensures { λ r. ⌜ r ≡ searched self comparisons ⌝ }
     {
         State {
-            buckets,
             comparisons: self.comparisons + comparisons,
             brought: self.brought,
             leads: self.leads,
@@ -40,9 +34,7 @@ impl State {
     pub fn halt(self, refusal: u32) -> Self
         ensures { λ r. ⌜ r ≡ halted self refusal ⌝ }
     {
-        let buckets = self.buckets;
         State {
-            buckets,
             comparisons: self.comparisons,
             brought: self.brought,
             leads: self.leads,
@@ -52,13 +44,12 @@ impl State {
         }
     }
 
-    // The state without the lead that was found.
-    pub fn remove(self, lead: Candidate) -> Self
-        requires { ⌜ Removal (self .buckets) (lead .bucket) × (self .leads < 10000000000000) ⌝ }
-        ensures { λ r. ⌜ r ≡ removed self (lead .bucket) ⌝ }
+    // The state once the lead that was found is removed.
+    pub fn remove(self) -> Self
+        requires { ⌜ self .leads < 10000000000000 ⌝ }
+        ensures { λ r. ⌜ r ≡ removed self ⌝ }
     {
         State {
-            buckets: remove_lead(self.buckets, lead.bucket),
             comparisons: self.comparisons,
             brought: self.brought,
             leads: self.leads + 1,

@@ -5,6 +5,7 @@ use crate::state::State;
 use monomial::order::Order;
 use search::candidate::Candidate;
 use search::lead::find_lead;
+use search::lead::remove_lead;
 ghost use Rattle.reducer.specs.Stepping.{Keeping, Kept, Stepping, Stepped};
 
 // Finds the lead, then divides it by the first divisor whose lead monomial divides it, or puts it to
@@ -18,6 +19,7 @@ pub fn step<'a>(
     limit: u64,
     s: State,
     inverses: &mut [u32],
+    b: &mut [usize],
     bw: &mut [u64],
     bc: &mut [u32],
     ww: &mut [u64],
@@ -27,12 +29,11 @@ pub fn step<'a>(
     ow: &mut [u64],
     oc: &mut [u32],
 ) -> State
-    requires { ⌜ Stepping order p (now words) (now coefs) (now starts) limit s (now inverses) (now bw) (now bc) (now ww) (now wc) (now mw) (now mc) (now ow) (now oc) ⌝ }
-    ensures { λ r. ⌜ Stepped order p (now (words .entry)) (now (coefs .entry)) (now (starts .entry)) limit s (now (bw .entry)) (now (bc .entry)) (now (ow .entry)) (now (oc .entry)) r (now (inverses .exit)) (now (bw .exit)) (now (bc .exit)) (now (ow .exit)) (now (oc .exit)) ⌝ }
+    requires { ⌜ Stepping order p (now words) (now coefs) (now starts) limit s (now inverses) (now b) (now bw) (now bc) (now ww) (now wc) (now mw) (now mc) (now ow) (now oc) ⌝ }
+    ensures { λ r. ⌜ Stepped order p (now (words .entry)) (now (coefs .entry)) (now (starts .entry)) limit s (now (b .entry)) (now (bw .entry)) (now (bc .entry)) (now (ow .entry)) (now (oc .entry)) r (now (inverses .exit)) (now (b .exit)) (now (bw .exit)) (now (bc .exit)) (now (ow .exit)) (now (oc .exit)) ⌝ }
 {
-    let f = find_lead(order, p, s.buckets, bw, bc);
-    let lead = f.candidate;
-    let t = s.search(f.buckets, lead.count);
+    let lead = find_lead(order, p, b, bw, bc);
+    let t = s.search(lead.count);
     if lead.bucket == 6 {
         return t.halt(0);
     }
@@ -51,6 +52,7 @@ pub fn step<'a>(
             t,
             lead,
             inverses,
+            b,
             bw,
             bc,
             ww,
@@ -59,13 +61,13 @@ pub fn step<'a>(
             mc,
         );
     }
-    keep(t, lead, ow, oc)
+    keep(t, lead, b, ow, oc)
 }
 
 // Puts the lead to the remainder, or refuses with 10 where the output has no place for it.
-fn keep(s: State, lead: Candidate, ow: &mut [u64], oc: &mut [u32]) -> State
-    requires { ⌜ Keeping s lead (now ow) (now oc) ⌝ }
-    ensures { λ r. ⌜ Kept s lead (now (ow .entry)) (now (oc .entry)) r (now (ow .exit)) (now (oc .exit)) ⌝ }
+fn keep(s: State, lead: Candidate, b: &mut [usize], ow: &mut [u64], oc: &mut [u32]) -> State
+    requires { ⌜ Keeping s lead (now b) (now ow) (now oc) ⌝ }
+    ensures { λ r. ⌜ Kept s lead (now (b .entry)) (now (ow .entry)) (now (oc .entry)) r (now (b .exit)) (now (ow .exit)) (now (oc .exit)) ⌝ }
 {
     let at = s.terms;
     if at >= ow.len() {
@@ -73,10 +75,9 @@ fn keep(s: State, lead: Candidate, ow: &mut [u64], oc: &mut [u32]) -> State
     }
     ow[at] = lead.word;
     oc[at] = lead.coef;
-    let t = s.remove(lead);
-    let buckets = t.buckets;
+    remove_lead(b, lead.bucket);
+    let t = s.remove();
     State {
-        buckets,
         comparisons: t.comparisons,
         brought: t.brought,
         leads: t.leads,

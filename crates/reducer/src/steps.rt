@@ -5,7 +5,6 @@ use buckets::add::add;
 use monomial::order::Order;
 use polynomial::part::coefs_of;
 use polynomial::part::words_of;
-use space::state::empty;
 ghost use Rattle.monomial.specs.Words.{compareWords};
 ghost use Rattle.polynomial.specs.Terms.{terms};
 ghost use Rattle.engine.specs.States.{Addend, Lent};
@@ -19,6 +18,7 @@ pub fn reduce_all<'a>(
     coefs: &'a [u32],
     starts: &[usize],
     limit: u64,
+    b: &mut [usize],
     bw: &mut [u64],
     bc: &mut [u32],
     ww: &mut [u64],
@@ -26,15 +26,15 @@ pub fn reduce_all<'a>(
     ow: &mut [u64],
     oc: &mut [u32],
 ) -> State
-    requires { ⌜ Reducible order p (now words) (now coefs) (now starts) limit × Lent (now bw) (now bc) (now ww) (now wc) (now ow) (now oc) ⌝ }
-    ensures { λ r. ⌜ Reduced order p (now (words .entry)) (now (coefs .entry)) (now (starts .entry)) limit (now (ow .entry)) (now (oc .entry)) r (now (bw .exit)) (now (bc .exit)) (now (ow .exit)) (now (oc .exit)) ⌝ }
+    requires { ⌜ Reducible order p (now words) (now coefs) (now starts) limit × Lent (now b) (now bw) (now bc) (now ww) (now wc) (now ow) (now oc) ⌝ }
+    ensures { λ r. ⌜ Reduced order p (now (words .entry)) (now (coefs .entry)) (now (starts .entry)) limit (now (ow .entry)) (now (oc .entry)) r (now (b .exit)) (now (bw .exit)) (now (bc .exit)) (now (ow .exit)) (now (oc .exit)) ⌝ }
 {
     let mut inverses = [0u32; 1024];
     let mut mw = [0u64; 4096];
     let mut mc = [0u32; 4096];
     let fw = words_of(words, starts, 0);
     let fc = coefs_of(coefs, starts, 0);
-    let mut s = begin(order, p, fw, fc, bw, bc, ww, wc);
+    let mut s = begin(order, p, fw, fc, b, bw, bc, ww, wc);
     while s.more {
         s = step(
             order,
@@ -45,6 +45,7 @@ pub fn reduce_all<'a>(
             limit,
             s,
             &mut inverses,
+            b,
             bw,
             bc,
             ww,
@@ -64,17 +65,17 @@ fn begin<'a>(
     p: u32,
     fw: &'a [u64],
     fc: &'a [u32],
+    b: &mut [usize],
     bw: &mut [u64],
     bc: &mut [u32],
     ww: &mut [u64],
     wc: &mut [u32],
 ) -> State
-    requires { ⌜ Addend (compareWords order) p (now fw) (now fc) × Beginning p (now bw) (now bc) (now ww) (now wc) ⌝ }
-    ensures { λ r. ⌜ Begun (compareWords order) p (terms (now (fw .entry)) (now (fc .entry))) (now (bw .entry)) (now (bc .entry)) r (now (bw .exit)) (now (bc .exit)) ⌝ }
+    requires { ⌜ Addend (compareWords order) p (now fw) (now fc) × Beginning p (now b) (now bw) (now bc) (now ww) (now wc) ⌝ }
+    ensures { λ r. ⌜ Begun (compareWords order) p (terms (now (fw .entry)) (now (fc .entry))) (now (bw .entry)) (now (bc .entry)) r (now (b .exit)) (now (bw .exit)) (now (bc .exit)) ⌝ }
 {
     if fw.len() > 4096 {
         return State {
-            buckets: empty(),
             comparisons: 0,
             brought: 0,
             leads: 0,
@@ -83,11 +84,9 @@ fn begin<'a>(
             stop: 11,
         };
     }
-    let r = add(order, p, empty(), fw, fc, bw, bc, ww, wc);
-    let buckets = r.buckets;
+    let comparisons = add(order, p, b, fw, fc, bw, bc, ww, wc);
     State {
-        buckets,
-        comparisons: r.comparisons,
+        comparisons,
         brought: fw.len() as u64,
         leads: 0,
         terms: 0,

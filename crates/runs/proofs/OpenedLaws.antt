@@ -13,6 +13,7 @@ use Rattle.polynomial.proofs.OpeningLaws.{passes}
 use Rattle.monomial.proofs.Places.{and-both}
 use Rattle.polynomial.proofs.StartLaws.{good-within}
 use Rattle.opening.specs.Run.{Opened, pairsGood, operationBy, operationGood, operationsGood}
+use Rattle.space.specs.Space.{noBuckets}
 use Rattle.engine.specs.States.{Loaded, Lent, Work}
 
 -- 16,777,216 pairs at most, and no half one
@@ -50,5 +51,5 @@ module _ {p order n : ℕ} {words coefs ss ops : List ℕ} {lbw lbc lww lwc low 
     there = λ j h e. let k = additions-there ops (length ss - 1) (o .operations) j (omega (arith, h, pairs-whole (length ops) (o .pairs) .0)) e in omega (arith, k);
   }
 
-pub spaces : {p order n : ℕ} {words coefs ss ops : List ℕ} (bw bc ww wc ow oc : List ℕ) → Opened p order n words coefs ss ops (length bw) (length bc) (length ww) (length wc) (length ow) (length oc) → Lent bw bc ww wc ow oc
-spaces bw bc ww wc ow oc o = record { words-long = o .bucket-words; coefs-long = o .bucket-coefs; work = record { words-long = o .work-words; coefs-long = o .work-coefs }; same-long = sym (o .output) }
+pub spaces : {p order n : ℕ} {words coefs ss ops : List ℕ} (bw bc ww wc ow oc : List ℕ) → Opened p order n words coefs ss ops (length bw) (length bc) (length ww) (length wc) (length ow) (length oc) → Lent noBuckets bw bc ww wc ow oc
+spaces bw bc ww wc ow oc o = record { none = refl; words-long = o .bucket-words; coefs-long = o .bucket-coefs; work = record { words-long = o .work-words; coefs-long = o .work-coefs }; same-long = sym (o .output) }

@@ -12,7 +12,7 @@ use Rattle.polynomial.specs.Terms as T
 use Rattle.polynomial.proofs.TermLists.{words-terms, coefs-terms}
 use Rattle.merge.specs.Lent.{part}
 use Rattle.geobucket.specs.Buckets.{held}
-use Rattle.space.specs.Space.{bucketsIn, heldIn, laidOut, AtReturn}
+use Rattle.space.specs.Space.{Buckets, bucketsIn, heldIn, laidOut, AtReturn}
 use Rattle.space.proofs.SpaceLaws.{held-lens}
 use Rattle.opening.specs.Refusals.{refusalNamed}
 use Rattle.engine.specs.declared.state.State.{State}
@@ -50,14 +50,14 @@ module _ {at : ℕ} {ow oc : List ℕ} (o : Output at ow oc) where
   coefs-whole oc₀ e = sym (take-append-drop at oc) ∙ ap₂ (λ (x y : List ℕ). x ++ y) (sym (coefs-terms (take at ow) (take at oc) (lc ∙ sym lw))) (e ∙ ap (λ (n : ℕ). drop n oc₀) (sym (written-long o)))
 
 -- a run that ended or was stopped
-pub ended-as : {cmp : ℕ → ℕ → Ordering} {p : ℕ} {words coefs starts ops ow₀ oc₀ : List ℕ} {s : State} {bw bc ow oc : List ℕ} → RanAll cmp p words coefs starts ops ow₀ oc₀ s bw bc ow oc
-    → {bw' bc' ww' wc' : List ℕ} → AtReturn (bucketsIn (s .buckets) bw bc) bw' bc' ww' wc' → {q : Ran} → q ≡ ranOf s
+pub ended-as : {cmp : ℕ → ℕ → Ordering} {p : ℕ} {words coefs starts ops ow₀ oc₀ : List ℕ} {s : State} {b : Buckets} {bw bc ow oc : List ℕ} → RanAll cmp p words coefs starts ops ow₀ oc₀ s b bw bc ow oc
+    → {bw' bc' ww' wc' : List ℕ} → AtReturn (bucketsIn b bw bc) bw' bc' ww' wc' → {q : Ran} → q ≡ ranOf s b
     → _≡_ {A = RunOutcome} (record { answer = q .answer; tally = q .tally; bw = bw'; bc = bc'; ww = ww'; wc = wc'; ow = ow; oc = oc }) (ended (operateAll cmp p (length ow₀) (operationsOf words coefs starts ops) begun) ow₀ oc₀)
-ended-as {cmp} {p} {words} {coefs} {starts} {ops} {ow₀} {oc₀} {s} {bw} {bc} {ow} {oc} r {bw'} {bc'} {ww'} {wc'} a {q} e =
-    let t = standsFor s bw bc ow oc in
+ended-as {cmp} {p} {words} {coefs} {starts} {ops} {ow₀} {oc₀} {s} {b} {bw} {bc} {ow} {oc} r {bw'} {bc'} {ww'} {wc'} a {q} e =
+    let t = standsFor s b bw bc ow oc in
     let st = r .counting .stands in
     let ep : s .places ≡ length (t .output) = sym (written-long (r .output)) in
-    let eh : heldIn (s .buckets .len) ≡ held (bucketsIn (s .buckets) bw bc) = sym (held-lens (s .buckets) (st .laid) bw bc (st .words-long) (st .coefs-long)) in
+    let eh : heldIn b ≡ held (bucketsIn b bw bc) = sym (held-lens b (st .laid) bw bc (st .words-long) (st .coefs-long)) in
     let ea : q .answer ≡ answerBy (eqb (s .stop) 0) (s .stop) (s .finished) (length (t .output)) = ap (λ (x : Ran). x .answer) e ∙ ap (answerBy (eqb (s .stop) 0) (s .stop) (s .finished)) ep in
     let et : q .tally ≡ tallyOf t = ap (λ (x : Ran). x .tally) e ∙ ap (λ (n : ℕ). record { comparisons = s .comparisons; brought = s .brought; given = s .given; held = n }) eh in
     let ebw = a .words-are in
@@ -80,5 +80,5 @@ ended-as {cmp} {p} {words} {coefs} {starts} {ops} {ow₀} {oc₀} {s} {bw} {bc} 
     same ∙ ap (λ (x : Running). ended x ow₀ oc₀) (r .is)
 
 -- the order is the one of its number
-pub in-order : {o o' : Order} {p : ℕ} {words coefs starts ops ow₀ oc₀ : List ℕ} {s : State} {bw bc ow oc : List ℕ} → o ≡ o' → RanAll (compareWords o) p words coefs starts ops ow₀ oc₀ s bw bc ow oc → RanAll (compareWords o') p words coefs starts ops ow₀ oc₀ s bw bc ow oc
-in-order {p = p} {words = words} {coefs = coefs} {starts = starts} {ops = ops} {ow₀ = ow₀} {oc₀ = oc₀} {s = s} {bw = bw} {bc = bc} {ow = ow} {oc = oc} e r = subst (λ (x : Order). RanAll (compareWords x) p words coefs starts ops ow₀ oc₀ s bw bc ow oc) e r
+pub in-order : {o o' : Order} {p : ℕ} {words coefs starts ops ow₀ oc₀ : List ℕ} {s : State} {b : Buckets} {bw bc ow oc : List ℕ} → o ≡ o' → RanAll (compareWords o) p words coefs starts ops ow₀ oc₀ s b bw bc ow oc → RanAll (compareWords o') p words coefs starts ops ow₀ oc₀ s b bw bc ow oc
+in-order {p = p} {words = words} {coefs = coefs} {starts = starts} {ops = ops} {ow₀ = ow₀} {oc₀ = oc₀} {s = s} {b = b} {bw = bw} {bc = bc} {ow = ow} {oc = oc} e r = subst (λ (x : Order). RanAll (compareWords x) p words coefs starts ops ow₀ oc₀ s b bw bc ow oc) e r

@@ -9,7 +9,7 @@ use Rattle.monomial.specs.Words.{compareWords}
 use Rattle.polynomial.specs.Terms.{Term}
 use Rattle.polynomial.specs.Terms as T
 use Rattle.geobucket.specs.Buckets.{held}
-use Rattle.space.specs.Space.{heldIn, laidOut}
+use Rattle.space.specs.Space.{Buckets, heldIn, laidOut}
 use Rattle.opening.specs.Run.{runRefusal}
 use Rattle.opening.specs.Refusals.{refusalNamed}
 use Rattle.engine.specs.declared.state.State.{State}
@@ -68,8 +68,8 @@ runOutcome tally p order n words coefs starts ops bw bc ww wc ow oc =
 abbrev pub refusedWith : ℕ → Tally → Ran
 refusedWith number tally = record { answer = Refused (refusalNamed number) 0; tally = tally }
 
-abbrev pub ranOf : State → Ran
-ranOf s = record {
+abbrev pub ranOf : State → Buckets → Ran
+ranOf s b = record {
   answer = answerBy (eqb (s .stop) 0) (s .stop) (s .finished) (s .places);
-  tally = record { comparisons = s .comparisons; brought = s .brought; given = s .given; held = heldIn (s .buckets .len) };
+  tally = record { comparisons = s .comparisons; brought = s .brought; given = s .given; held = heldIn b };
 }

@@ -73,6 +73,8 @@ pub fn run<'a>(
     if number != 0 {
         return refused(number, tally);
     }
+    // Empty buckets, each at its start.
+    let mut b: [usize; 12] = [0, 4, 20, 84, 340, 1364, 0, 0, 0, 0, 0, 0];
     let s = operate_all(
         order_of(order),
         p,
@@ -80,6 +82,7 @@ pub fn run<'a>(
         coefs,
         starts,
         ops,
+        &mut b,
         bw,
         bc,
         ww,
@@ -87,8 +90,8 @@ pub fn run<'a>(
         ow,
         oc,
     );
-    settle(s.buckets, bw, bc, ww, wc);
-    ended(s)
+    settle(&b, bw, bc, ww, wc);
+    ended(s, &b)
 }
 
 // What an opening refusal gives.
@@ -102,16 +105,16 @@ fn refused(number: u32, tally: Tally) -> Ran
     Ran { answer, tally }
 }
 
-// What a run gives, from its last state.
-fn ended(s: State) -> Ran
-    requires { ⌜ Laid (s .buckets) ⌝ }
-    ensures { λ r. ⌜ r ≡ ranOf s ⌝ }
+// What a run gives, from its last state and its buckets.
+fn ended(s: State, b: &[usize]) -> Ran
+    requires { ⌜ Laid (now b) ⌝ }
+    ensures { λ r. ⌜ r ≡ ranOf s (now (b .entry)) ⌝ }
 {
     let tally = Tally {
         comparisons: s.comparisons,
         brought: s.brought,
         given: s.given,
-        held: held(s.buckets) as u64,
+        held: held(b) as u64,
     };
     if s.stop == 0 {
         let answer = Answer::Done {

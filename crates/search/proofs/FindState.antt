@@ -11,8 +11,7 @@ use Rattle.polynomial.specs.Terms.{Term, term, Canonical}
 use Rattle.geobucket.specs.Buckets.{held, Good}
 use Rattle.geobucket.specs.Search.{Pass, seek, Lead, none, lead, Searched, pass, search, putBack, withLead}
 use Rattle.geobucket.proofs.SearchLaws.{Canon}
-use Rattle.space.specs.Space.{listFrom, bucketAt, bucketsIn, Laid, Stands, dropped}
-use Rattle.space.specs.declared.state.Buckets.{Buckets}
+use Rattle.space.specs.Space.{Buckets, headAt, listFrom, bucketAt, bucketsIn, Laid, Stands, dropped}
 use Rattle.space.proofs.Starts.{cap-zero, six}
 use Rattle.space.proofs.SpaceLaws.{from-long, from-at, good-at, canon-from, canon-at, good-from, held-short, bucket-short, bucket-none, bucket-lead, head-in, dropped-laid, dropped-other, some-of, drop-here}
 use Rattle.search.specs.declared.candidate.Candidate.{Candidate}
@@ -81,11 +80,11 @@ module _ {cmp : ℕ → ℕ → Ordering} {p : ℕ} {bs : List (List (Term ℕ))
 
   -- ---- a turn
   module _ (h : i < 6) where
-    pub first-head : getD (b .head) i 0 < 5460
+    pub first-head : headAt b i < 5460
     first-head = head-in b i (v .laid) h (v .first .held h)
 
     abbrev begun : Candidate
-    begun = record { bucket = i; word = getD sw (getD (b .head) i 0) 0; coef = getD sc (getD (b .head) i 0) 0; count = n }
+    begun = record { bucket = i; word = getD sw (headAt b i) 0; coef = getD sc (headAt b i) 0; count = n }
 
     pub seek-asks : Seek cmp p b begun sw sc
     seek-asks = record {

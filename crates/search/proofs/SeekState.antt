@@ -10,7 +10,6 @@ use native.Mathlib.Omega.{arith}
 use borrow.Author.Tests.{eq-eqb, ne-eqb}
 use lib.Dec.{eqb}
 use lib.ListN.{length, getD, set, length-set}
-use lib.Seq.{getD-set-other, set-getD}
 use Rattle.residue.specs.Modular.{Modulus}
 use Rattle.monomial.specs.TotalOrder.{TotalOrder}
 use Rattle.polynomial.specs.Terms.{Term, term, Reduced, Canonical}
@@ -20,9 +19,8 @@ use Rattle.polynomial.proofs.MergeLaws.{turned-lt, turned-gt}
 use Rattle.merge.specs.Lent.{flag}
 use Rattle.merge.proofs.State.{more-by, less-by, same-by}
 use Rattle.geobucket.specs.Search.{Pass, seek, putBack}
-use Rattle.space.specs.Space.{listFrom, bucketAt, bucketsIn, Laid, moved, dropped}
-use Rattle.space.specs.declared.state.Buckets.{Buckets}
-use Rattle.space.proofs.SpaceLaws.{laid-moved, bucket-none, bucket-lead, head-in, dropped-laid, dropped-other, put-other, some-of, lead-of, drop-here, put-at}
+use Rattle.space.specs.Space.{Buckets, headAt, lenAt, listFrom, bucketAt, bucketsIn, Laid, moved, dropped}
+use Rattle.space.proofs.SpaceLaws.{laid-moved, moved-head-other, moved-same, bucket-none, bucket-lead, head-in, dropped-laid, dropped-other, put-other, some-of, lead-of, drop-here, put-at}
 use Rattle.search.specs.declared.candidate.Candidate.{Candidate}
 use Rattle.search.specs.Candidates.{passedBy, joined, replacedBy}
 use Rattle.search.specs.Searching.{Seek, SeekDone, passFrom}
@@ -73,24 +71,24 @@ module _ {cmp : ℕ → ℕ → Ordering} {p : ℕ} {G : List (List (Term ℕ))}
   pub own-six : c .bucket < 6
   own-six = omega (arith, v .state .below, v .state .most)
 
-  pub own-some : 0 < getD (b .len) (c .bucket) 0
+  pub own-some : 0 < lenAt b (c .bucket)
   own-some = some-of b (c .bucket) (v .laid) own-six sw sc (v .words-long) (v .coefs-long) (term (c .word) (c .coef)) (v .state .rest) (v .state .own)
 
-  pub own-head : getD (b .head) (c .bucket) 0 < 5460
+  pub own-head : headAt b (c .bucket) < 5460
   own-head = head-in b (c .bucket) (v .laid) own-six own-some
 
   -- the same of the candidate that a like lead has joined
   pub joined-six : {k : ℕ} → k ≡ c .bucket → k < 6
   joined-six e = omega (arith, own-six)
 
-  pub joined-head : {k : ℕ} → k ≡ c .bucket → getD (b .head) k 0 < 5460
-  joined-head e = subst (λ (x : ℕ). getD (b .head) x 0 < 5460) (sym e) own-head
+  pub joined-head : {k : ℕ} → k ≡ c .bucket → headAt b k < 5460
+  joined-head e = subst (λ (x : ℕ). headAt b x < 5460) (sym e) own-head
 
   module _ (h : i < 6) where
     not-own : i ≡ c .bucket → ⊥
     not-own e = let z : ⊥ = omega (arith, v .state .below) in z
 
-    pub on-empty : getD (b .len) i 0 ≡ 0 → Seeks cmp p G A L N sw b c sc (i + 1)
+    pub on-empty : lenAt b i ≡ 0 → Seeks cmp p G A L N sw b c sc (i + 1)
     on-empty e = record {
       modulus = v .modulus;
       words-long = v .words-long;
@@ -102,15 +100,15 @@ module _ {cmp : ℕ → ℕ → Ordering} {p : ℕ} {G : List (List (Term ℕ))}
       few = omega (arith, v .few);
     }
 
-    module _ (some : getD (b .len) i 0 ≡ 0 → ⊥) where
-      pos : 0 < getD (b .len) i 0
+    module _ (some : lenAt b i ≡ 0 → ⊥) where
+      pos : 0 < lenAt b i
       pos = omega (arith, some)
 
-      pub lead-head : getD (b .head) i 0 < 5460
+      pub lead-head : headAt b i < 5460
       lead-head = head-in b i (v .laid) h pos
 
       abbrev y : Term ℕ
-      y = term (getD sw (getD (b .head) i 0) 0) (getD sc (getD (b .head) i 0) 0)
+      y = term (getD sw (headAt b i) 0) (getD sc (headAt b i) 0)
 
       abbrev ys : List (Term ℕ)
       ys = bucketAt (dropped b i) sw sc i
@@ -118,13 +116,13 @@ module _ {cmp : ℕ → ℕ → Ordering} {p : ℕ} {G : List (List (Term ℕ))}
       lead-is : bucketAt b sw sc i ≡ y ∷ ys
       lead-is = bucket-lead b i (v .laid) h pos sw sc (v .words-long) (v .coefs-long)
 
-      pub lead-small : getD sc (getD (b .head) i 0) 0 < p
+      pub lead-small : getD sc (headAt b i) 0 < p
       lead-small = subst (λ (l : List (Term ℕ)). Reduced p l) lead-is (v .ahead i (omega arith) h) .0 .1
 
       -- the lead is smaller, and is passed by
-      pub on-past : TotalOrder ℕ cmp → (l : ℕ) → l ≡ flag (isLarger (cmp (getD sw (getD (b .head) i 0) 0) (c .word))) → (l ≡ 1 → ⊥) → (getD sw (getD (b .head) i 0) 0 ≡ c .word → ⊥) → {d : Candidate} → d ≡ passedBy c → Seeks cmp p G A L N sw b d sc (i + 1)
+      pub on-past : TotalOrder ℕ cmp → (l : ℕ) → l ≡ flag (isLarger (cmp (getD sw (headAt b i) 0) (c .word))) → (l ≡ 1 → ⊥) → (getD sw (headAt b i) 0 ≡ c .word → ⊥) → {d : Candidate} → d ≡ passedBy c → Seeks cmp p G A L N sw b d sc (i + 1)
       on-past O l el not-one ne {d} ed =
-          let o : cmp (c .word) (getD sw (getD (b .head) i 0) 0) ≡ Ordering·gt = turned-gt cmp O (getD sw (getD (b .head) i 0) 0) (c .word) (less-by cmp O (getD sw (getD (b .head) i 0) 0) (c .word) l el not-one ne) in
+          let o : cmp (c .word) (getD sw (headAt b i) 0) ≡ Ordering·gt = turned-gt cmp O (getD sw (headAt b i) 0) (c .word) (less-by cmp O (getD sw (headAt b i) 0) (c .word) l el not-one ne) in
           subst (λ (x : Candidate). Seeks cmp p G A L N sw b x sc (i + 1)) (sym ed)
           (record {
             modulus = v .modulus;
@@ -138,39 +136,39 @@ module _ {cmp : ℕ → ℕ → Ordering} {p : ℕ} {G : List (List (Term ℕ))}
           })
 
       -- the lead is like the candidate: its coefficient joins, and it is removed
-      pub on-like : TotalOrder ℕ cmp → getD sw (getD (b .head) i 0) 0 ≡ c .word → {d : Candidate} → d ≡ joined c (getD sc (getD (b .head) i 0) 0) p → Seeks cmp p G A L N sw (dropped b i) d (set sc (getD (b .head) (d .bucket) 0) (d .coef)) (i + 1)
+      pub on-like : TotalOrder ℕ cmp → getD sw (headAt b i) 0 ≡ c .word → {d : Candidate} → d ≡ joined c (getD sc (headAt b i) 0) p → Seeks cmp p G A L N sw (dropped b i) d (set sc (headAt b (d .bucket)) (d .coef)) (i + 1)
       on-like O e {d} ed =
           let own = c .bucket in
-          let sum = (c .coef + getD sc (getD (b .head) i 0) 0) % p in
+          let sum = (c .coef + getD sc (headAt b i) 0) % p in
           let b' = dropped b i in
-          let sc' = set sc (getD (b .head) own 0) sum in
+          let sc' = set sc (headAt b own) sum in
           let laid' = dropped-laid b i (v .laid) h pos in
-          let same-head : getD (b' .head) own 0 ≡ getD (b .head) own 0 = getD-set-other (b .head) i own (getD (b .head) i 0 + 1) 0 (λ q. not-own (sym q)) in
+          let same-head : headAt b' own ≡ headAt b own = moved-head-other b i (headAt b i + 1) (lenAt b i - 1) (v .laid) h own own-six (λ q. not-own (sym q)) in
           let own' : bucketAt b' sw sc own ≡ term (c .word) (c .coef) ∷ v .state .rest = dropped-other b i (v .laid) h pos sw sc (v .words-long) (v .coefs-long) own own-six (λ q. not-own (sym q)) ∙ v .state .own in
           let some' = some-of b' own laid' own-six sw sc (v .words-long) (v .coefs-long) (term (c .word) (c .coef)) (v .state .rest) own' in
           let put : (j : ℕ) → j < 6 → (j ≡ own → ⊥) → bucketAt b' sw sc' j ≡ bucketAt b' sw sc j = λ j u w. ap (λ (m : ℕ). bucketAt b' sw (set sc m sum) j) (sym same-head) ∙ put-other b' own laid' own-six some' sw sc (v .words-long) (v .coefs-long) sum j u w in
           let others : (j : ℕ) → j < 6 → (j ≡ own → ⊥) → (j ≡ i → ⊥) → bucketAt b' sw sc' j ≡ bucketAt b sw sc j = λ j u w z. put j u w ∙ dropped-other b i (v .laid) h pos sw sc (v .words-long) (v .coefs-long) j u z in
-          let go : Seeks cmp p G A L N sw b' (joined c (getD sc (getD (b .head) i 0) 0) p) sc' (i + 1) =
+          let go : Seeks cmp p G A L N sw b' (joined c (getD sc (headAt b i) 0) p) sc' (i + 1) =
           record {
             modulus = v .modulus;
             words-long = v .words-long;
-            coefs-long = length-set sc (getD (b .head) own 0) sum ∙ v .coefs-long;
+            coefs-long = length-set sc (headAt b own) sum ∙ v .coefs-long;
             laid = laid';
             state = rw (add-one i) (
-                goes-like (v .state) h y ys lead-is (same-by cmp O (c .word) (getD sw (getD (b .head) i 0) 0) (sym e)) (bucketAt b' sw sc')
+                goes-like (v .state) h y ys lead-is (same-by cmp O (c .word) (getD sw (headAt b i) 0) (sym e)) (bucketAt b' sw sc')
                 (ap (λ (m : ℕ). bucketAt b' sw (set sc m sum) own) (sym same-head) ∙ put-at b' own laid' own-six sw sc (v .words-long) (v .coefs-long) (term (c .word) (c .coef)) (v .state .rest) own' sum)
                 (put i h not-own) others
                 );
             ahead = λ j u w. subst (λ (l : List (Term ℕ)). Reduced p l) (sym (others j w (λ q. let z : ⊥ = omega (arith, v .state .below) in z) (λ q. let z : ⊥ = omega arith in z))) (v .ahead j (omega arith) w);
-            small = mod-lt (c .coef + getD sc (getD (b .head) i 0) 0) (omega (arith, v .modulus .two));
+            small = mod-lt (c .coef + getD sc (headAt b i) 0) (omega (arith, v .modulus .two));
             few = omega (arith, v .few);
           } in
-          subst (λ (x : Candidate). Seeks cmp p G A L N sw b' x (set sc (getD (b .head) (x .bucket) 0) (x .coef)) (i + 1)) (sym ed) go
+          subst (λ (x : Candidate). Seeks cmp p G A L N sw b' x (set sc (headAt b (x .bucket)) (x .coef)) (i + 1)) (sym ed) go
 
       -- the lead is larger, and replaces the candidate
       module _ (z : ℕ) (ez : z ≡ 1 - flag (not (eqb (c .coef) 0))) where
         abbrev b'' : Buckets
-        b'' = moved b (c .bucket) (getD (b .head) (c .bucket) 0 + z) (getD (b .len) (c .bucket) 0 - z)
+        b'' = moved b (c .bucket) (headAt b (c .bucket) + z) (lenAt b (c .bucket) - z)
 
         -- what is left of the candidate's bucket
         pub record Left : Type 0 where
@@ -185,7 +183,7 @@ module _ {cmp : ℕ → ℕ → Ordering} {p : ℕ} {G : List (List (Term ℕ))}
             by : (n : ℕ) → c .coef ≡ n → Left
             by zero e =
                 let z1 : z ≡ 1 = ez ∙ ap (λ (t : Bool). 1 - flag (not t)) (eq-eqb (c .coef) 0 e) in
-                let is : b'' ≡ dropped b (c .bucket) = ap (λ (m : ℕ). moved b (c .bucket) (getD (b .head) (c .bucket) 0 + m) (getD (b .len) (c .bucket) 0 - m)) z1 in
+                let is : b'' ≡ dropped b (c .bucket) = ap (λ (m : ℕ). moved b (c .bucket) (headAt b (c .bucket) + m) (lenAt b (c .bucket) - m)) z1 in
                 record {
                   left-laid = subst Laid (sym is) (dropped-laid b (c .bucket) (v .laid) own-six own-some);
                   left-own = ap (λ (x : Buckets). bucketAt x sw sc (c .bucket)) is ∙ (drop-here b (c .bucket) (v .laid) own-six sw sc (v .words-long) (v .coefs-long) (term (c .word) (c .coef)) (v .state .rest) (v .state .own) ∙ ap (λ (m : ℕ). keep (c .word) m (v .state .rest)) (sym e));
@@ -194,18 +192,18 @@ module _ {cmp : ℕ → ℕ → Ordering} {p : ℕ} {G : List (List (Term ℕ))}
             by (suc n) e =
                 let z0 : z ≡ 0 = ez ∙ ap (λ (t : Bool). 1 - flag (not t)) (ne-eqb (c .coef) 0 (λ q. let w : ⊥ = omega arith in w)) in
                 let is : b'' ≡ b =
-                ap (λ (m : ℕ). moved b (c .bucket) (getD (b .head) (c .bucket) 0 + m) (getD (b .len) (c .bucket) 0 - m)) z0
-                ∙ (ap₂ (λ (x y : ℕ). moved b (c .bucket) x y) (let w : getD (b .head) (c .bucket) 0 + 0 ≡ getD (b .head) (c .bucket) 0 = omega arith in w) (let w : getD (b .len) (c .bucket) 0 - 0 ≡ getD (b .len) (c .bucket) 0 = omega arith in w)
-                ∙ ap₂ (λ (x y : List ℕ). record { head = x; len = y }) (set-getD (b .head) (c .bucket) 0) (set-getD (b .len) (c .bucket) 0)) in
+                ap (λ (m : ℕ). moved b (c .bucket) (headAt b (c .bucket) + m) (lenAt b (c .bucket) - m)) z0
+                ∙ (ap₂ (λ (x y : ℕ). moved b (c .bucket) x y) (let w : headAt b (c .bucket) + 0 ≡ headAt b (c .bucket) = omega arith in w) (let w : lenAt b (c .bucket) - 0 ≡ lenAt b (c .bucket) = omega arith in w)
+                ∙ moved-same b (c .bucket) (v .laid) own-six) in
                 record {
                   left-laid = subst Laid (sym is) (v .laid);
                   left-own = ap (λ (x : Buckets). bucketAt x sw sc (c .bucket)) is ∙ (v .state .own ∙ (ap (λ (m : ℕ). term (c .word) m ∷ v .state .rest) e ∙ ap (λ (m : ℕ). keep (c .word) m (v .state .rest)) (sym e)));
                   left-other = λ j u w. ap (λ (x : Buckets). bucketAt x sw sc j) is;
                 }
 
-        pub on-up : TotalOrder ℕ cmp → (l : ℕ) → l ≡ flag (isLarger (cmp (getD sw (getD (b .head) i 0) 0) (c .word))) → l ≡ 1 → {d : Candidate} → d ≡ replacedBy c i (getD sw (getD (b .head) i 0) 0) (getD sc (getD (b .head) i 0) 0) → Seeks cmp p G A L N sw b'' d sc (i + 1)
+        pub on-up : TotalOrder ℕ cmp → (l : ℕ) → l ≡ flag (isLarger (cmp (getD sw (headAt b i) 0) (c .word))) → l ≡ 1 → {d : Candidate} → d ≡ replacedBy c i (getD sw (headAt b i) 0) (getD sc (headAt b i) 0) → Seeks cmp p G A L N sw b'' d sc (i + 1)
         on-up O l el one {d} ed =
-            let o : cmp (c .word) (getD sw (getD (b .head) i 0) 0) ≡ Ordering·lt = turned-lt cmp O (getD sw (getD (b .head) i 0) 0) (c .word) (more-by cmp (getD sw (getD (b .head) i 0) 0) (c .word) l el one) in
+            let o : cmp (c .word) (getD sw (headAt b i) 0) ≡ Ordering·lt = turned-lt cmp O (getD sw (headAt b i) 0) (c .word) (more-by cmp (getD sw (headAt b i) 0) (c .word) l el one) in
             subst (λ (x : Candidate). Seeks cmp p G A L N sw b'' x sc (i + 1)) (sym ed)
             (record {
               modulus = v .modulus;

@@ -4,13 +4,12 @@ use mathlib.Core.List.{List, _∷_}
 use Prim.Native.Nat.{ℕ, _<_, _≤_, Ordering}
 use native.Mathlib.Nat.{zero-add}
 use native.Mathlib.Omega.{arith}
-use lib.ListN.{length, getD}
+use lib.ListN.{length}
 use Rattle.monomial.specs.TotalOrder.{TotalOrder}
 use Rattle.polynomial.specs.Terms.{Term}
 use Rattle.geobucket.specs.Search.{Lead, none, lead, search, putBack, withLead}
 use Rattle.geobucket.proofs.SearchLaws.{Canon, Within, Finds, search-within, finds}
-use Rattle.space.specs.Space.{bucketAt, bucketsIn, Laid, Stands, dropped}
-use Rattle.space.specs.declared.state.Buckets.{Buckets}
+use Rattle.space.specs.Space.{Buckets, bucketAt, bucketsIn, Laid, Stands, dropped}
 use Rattle.space.proofs.SpaceLaws.{from-long, dropped-laid, dropped-other, some-of, drop-here}
 use Rattle.search.specs.declared.candidate.Candidate.{Candidate}
 use Rattle.search.specs.Candidates.{candidateOf}

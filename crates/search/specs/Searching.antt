@@ -6,8 +6,7 @@ use lib.ListN.{length, getD}
 use Rattle.residue.specs.Modular.{Modulus}
 use Rattle.polynomial.specs.Terms.{Term, term, Canonical}
 use Rattle.geobucket.specs.Search.{Pass, seek, search, putBack, withLead}
-use Rattle.space.specs.Space.{listFrom, bucketAt, bucketsIn, Laid, Stands, dropped}
-use Rattle.space.specs.declared.state.Buckets.{Buckets}
+use Rattle.space.specs.Space.{Buckets, headAt, lenAt, listFrom, bucketAt, bucketsIn, Laid, Stands, dropped}
 use Rattle.search.specs.declared.candidate.Candidate.{Candidate}
 use Rattle.search.specs.Candidates.{candidateOf}
 
@@ -29,12 +28,12 @@ pub record TakeDone (cmp : ℕ → ℕ → Ordering) (p : ℕ) (bs : List (List 
 pub record Removal (b : Buckets) (i : ℕ) : Type 0 where
   pub laid : Laid b
   pub within : i < 6
-  pub some : 0 < getD (b .len) i 0
+  pub some : 0 < lenAt b i
 
 pub record FirstHeld (b : Buckets) (i : ℕ) : Type 0 where
   pub most : i ≤ 6
-  pub below : (j : ℕ) → j < i → getD (b .len) j 0 ≡ 0
-  pub held : i < 6 → 0 < getD (b .len) i 0
+  pub below : (j : ℕ) → j < i → lenAt b j ≡ 0
+  pub held : i < 6 → 0 < lenAt b i
 
 -- the candidate is the lead of its bucket
 pub record Seek (cmp : ℕ → ℕ → Ordering) (p : ℕ) (b : Buckets) (c : Candidate) (sw sc : List ℕ) : Type 0 where
@@ -44,9 +43,9 @@ pub record Seek (cmp : ℕ → ℕ → Ordering) (p : ℕ) (b : Buckets) (c : Ca
   pub laid : Laid b
   pub canonical : (j : ℕ) → j < 6 → Canonical cmp p (bucketAt b sw sc j)
   pub within : c .bucket < 6
-  pub some : 0 < getD (b .len) (c .bucket) 0
-  pub word-is : c .word ≡ getD sw (getD (b .head) (c .bucket) 0) 0
-  pub coef-is : c .coef ≡ getD sc (getD (b .head) (c .bucket) 0) 0
+  pub some : 0 < lenAt b (c .bucket)
+  pub word-is : c .word ≡ getD sw (headAt b (c .bucket)) 0
+  pub coef-is : c .coef ≡ getD sc (headAt b (c .bucket)) 0
   pub few : c .count ≤ 100000
 
 -- the published pass from the candidate on, over the buckets above its own

@@ -6,13 +6,13 @@ ghost use Rattle.residue.specs.Modular.{Modulus};
 ghost use Rattle.search.specs.Candidates.{candidateOf, joined, passedBy, replacedBy};
 ghost use Rattle.geobucket.specs.Search.{none};
 
-// The largest lead so far: its bucket (6 for none), its monomial, its coefficient with those of the
-// like leads, and the comparisons made.
+// The largest lead so far: its bucket (6 for none), the comparisons made, its monomial, and its
+// coefficient with those of the like leads.
 pub struct Candidate {
     pub bucket: usize,
+    pub count: u64,
     pub word: u64,
     pub coef: u32,
-    pub count: u64,
 }
 
 impl Candidate {
@@ -22,9 +22,9 @@ impl Candidate {
     {
         Candidate {
             bucket: 6,
+            count,
             word: 0,
             coef: 0,
-            count,
         }
     }
 
@@ -35,9 +35,9 @@ impl Candidate {
     {
         Candidate {
             bucket: self.bucket,
+            count: self.count + 1,
             word: self.word,
             coef: self.coef,
-            count: self.count + 1,
         }
     }
 
@@ -48,9 +48,9 @@ impl Candidate {
     {
         Candidate {
             bucket: self.bucket,
+            count: self.count + 1,
             word: self.word,
             coef: add(self.coef, coef, p),
-            count: self.count + 1,
         }
     }
 
@@ -61,9 +61,9 @@ impl Candidate {
     {
         Candidate {
             bucket,
+            count: self.count + 1,
             word,
             coef,
-            count: self.count + 1,
         }
     }
 }

@@ -11,8 +11,7 @@ use Rattle.polynomial.specs.Terms.{Term, words, coefs}
 use Rattle.polynomial.proofs.TermLists.{words-terms, coefs-terms}
 use Rattle.merge.specs.Lent.{part}
 use Rattle.merge.proofs.Lists.{Begun, begun-more, begun-all, sets-append, getD-sets-other, length-part, getD-part}
-use Rattle.space.specs.declared.state.Buckets.{Buckets}
-use Rattle.space.specs.Space.{Laid, capacity, start, listFrom, laidOut, rowAt, bucketAt, bucketsIn, settled, AtReturn}
+use Rattle.space.specs.Space.{Buckets, headAt, lenAt, Laid, capacity, start, listFrom, laidOut, rowAt, bucketAt, bucketsIn, settled, AtReturn}
 use Rattle.space.proofs.SpaceLaws.{part-frame}
 use Rattle.space.proofs.Starts.{next-start, next-capacity, ends-within, six}
 
@@ -55,9 +54,9 @@ settling-none b s = record { few = omega arith; starts = refl; holds = refl; lon
 
 -- bucket i lies between the place where it is settled and the end of the space
 pub record Fits (b : Buckets) (s : List ℕ) (i at cap : ℕ) : Type 0 where
-  pub low : at ≤ getD (b .head) i 0
-  pub room : getD (b .len) i 0 ≤ cap
-  pub within : getD (b .head) i 0 + getD (b .len) i 0 ≤ length s
+  pub low : at ≤ headAt b i
+  pub room : lenAt b i ≤ cap
+  pub within : headAt b i + lenAt b i ≤ length s
   pub ends : at + cap ≤ length s
   pub small : at + cap ≤ 5460
 
@@ -92,16 +91,16 @@ module _ {b : Buckets} {s₀ s : List ℕ} {i at cap : ℕ} (g : Settling b s₀
       record { low = omega arith; room = omega arith; within = omega arith; ends = omega arith; small = omega arith }
 
   -- a turn: the bucket's numbers are put where it starts, and 0 past them
-  pub settling-more : Laid b → i < 6 → {s₁ s₂ : List ℕ} → s₁ ≡ sets s at (rowAt b s i) → s₂ ≡ sets s₁ (at + getD (b .len) i 0) (replicate (cap - getD (b .len) i 0) 0)
+  pub settling-more : Laid b → i < 6 → {s₁ s₂ : List ℕ} → s₁ ≡ sets s at (rowAt b s i) → s₂ ≡ sets s₁ (at + lenAt b i) (replicate (cap - lenAt b i) 0)
       → Settling b s₀ s₂ (i + 1) (at + cap) (cap * 4)
   settling-more l h {s₁} {s₂} e₁ e₂ =
       let f = fits l h in
-      let n : ℕ = getD (b .len) i 0 in
+      let n : ℕ = lenAt b i in
       let row : List ℕ = rowAt b s₀ i in
       let zeros : List ℕ = replicate (cap - n) 0 in
-      let row-long : length row ≡ n = length-part (getD (b .head) i 0) n s₀ (omega (arith, f .within, g .long)) in
+      let row-long : length row ≡ n = length-part (headAt b i) n s₀ (omega (arith, f .within, g .long)) in
       let zeros-long : length zeros ≡ cap - n = length-replicate (cap - n) 0 in
-      let same : rowAt b s i ≡ row = ap (λ (x : List ℕ). rowAt b x i) (g .is) ∙ part-frame s₀ 0 (g .done) (getD (b .head) i 0) n (inr (omega (arith, f .low, g .done-long))) in
+      let same : rowAt b s i ≡ row = ap (λ (x : List ℕ). rowAt b x i) (g .is) ∙ part-frame s₀ 0 (g .done) (headAt b i) n (inr (omega (arith, f .low, g .done-long))) in
       let next : suc i ≡ i + 1 = omega arith in
       let more : List ℕ = row ++ zeros in
       record {
@@ -138,8 +137,8 @@ map-from f g r i zero h = refl
 map-from f g r i (suc k) h = ap₂ (λ (x : List ℕ) (y : List (List ℕ)). x ∷ y) (sym (h i (omega arith))) (map-from f g r (suc i) k (λ j l. h j (omega arith)))
 
 module _ (b : Buckets) (sw sc ww wc : List ℕ) (l : Laid b) (ew : length sw ≡ 5460) (ec : length sc ≡ 5460) (lw : length ww ≡ 8192) (lc : length wc ≡ 8192) where
-  rows-long : (s : List ℕ) → length s ≡ 5460 → (i : ℕ) → i < 6 → length (rowAt b s i) ≡ getD (b .len) i 0
-  rows-long s e i h = length-part (getD (b .head) i 0) (getD (b .len) i 0) s (omega (arith, l .high i h, next-start i, ends-within i h))
+  rows-long : (s : List ℕ) → length s ≡ 5460 → (i : ℕ) → i < 6 → length (rowAt b s i) ≡ lenAt b i
+  rows-long s e i h = length-part (headAt b i) (lenAt b i) s (omega (arith, l .high i h, next-start i, ends-within i h))
 
   same-long : (i : ℕ) → i < 6 → length (rowAt b sc i) ≡ length (rowAt b sw i)
   same-long i h = rows-long sc ec i h ∙ sym (rows-long sw ew i h)

@@ -15,8 +15,7 @@ use Rattle.polynomial.proofs.TermLists.{length-terms}
 use Rattle.residue.specs.Modular.{Modulus}
 use Rattle.geobucket.specs.Buckets.{empty, held, Good}
 use Rattle.geobucket.proofs.SearchLaws.{Canon}
-use Rattle.space.specs.Space.{capacity, start, listFrom, rowAt, bucketAt, bucketsIn, Laid, Stands, moved, dropped, noBuckets, heldIn}
-use Rattle.space.specs.declared.state.Buckets.{Buckets}
+use Rattle.space.specs.Space.{Buckets, headAt, lenAt, capacity, start, listFrom, rowAt, bucketAt, bucketsIn, Laid, Stands, moved, dropped, noBuckets, heldIn}
 use Rattle.space.proofs.Starts.{next-start, next-capacity, start-up, start-end}
 
 -- ---- f of each number from i on
@@ -82,16 +81,21 @@ part-front s a vs js h =
 
 -- ---- one bucket is moved or changed
 module _ (b : Buckets) (i h n : ℕ) (laid : Laid b) (in-six : i < 6) where
-  pub moved-head : getD (moved b i h n .head) i 0 ≡ h
-  moved-head = getD-set-same (b .head) i h 0 (omega (arith, laid .six-heads))
+  pub moved-head : headAt (moved b i h n) i ≡ h
+  moved-head = getD-set-other (set b i h) (6 + i) i n 0 (λ e. let z : ⊥ = omega arith in z) ∙ getD-set-same b i h 0 (omega (arith, laid .twelve))
 
-  pub moved-len : getD (moved b i h n .len) i 0 ≡ n
-  moved-len = getD-set-same (b .len) i n 0 (omega (arith, laid .six-lens))
+  pub moved-len : lenAt (moved b i h n) i ≡ n
+  moved-len = getD-set-same (set b i h) (6 + i) n 0 (omega (arith, length-set b i h, laid .twelve))
+
+  pub moved-head-other : (j : ℕ) → j < 6 → (j ≡ i → ⊥) → headAt (moved b i h n) j ≡ headAt b j
+  moved-head-other j k ne = getD-set-other (set b i h) (6 + i) j n 0 (λ e. let z : ⊥ = omega arith in z) ∙ getD-set-other b i j h 0 ne
+
+  pub moved-len-other : (j : ℕ) → (j ≡ i → ⊥) → lenAt (moved b i h n) j ≡ lenAt b j
+  moved-len-other j ne = getD-set-other (set b i h) (6 + i) (6 + j) n 0 (λ e. ne (omega arith)) ∙ getD-set-other b i (6 + j) h 0 (λ e. let z : ⊥ = omega arith in z)
 
   pub laid-moved : start i ≤ h → h + n ≤ start (suc i) → Laid (moved b i h n)
   laid-moved lo hi = record {
-    six-heads = length-set (b .head) i h ∙ laid .six-heads;
-    six-lens = length-set (b .len) i n ∙ laid .six-lens;
+    twelve = length-set (set b i h) (6 + i) n ∙ (length-set b i h ∙ laid .twelve);
     low = λ j k. low-at j k (decEq j i);
     high = λ j k. high-at j k (decEq j i);
   }
@@ -104,21 +108,21 @@ module _ (b : Buckets) (i h n : ℕ) (laid : Laid b) (in-six : i < 6) where
           by-le (no u) v = no (λ e. let z : ⊥ = omega arith in z)
           by-le (yes u) (no v) = no (λ e. let z : ⊥ = omega arith in z)
 
-      low-at : (j : ℕ) → j < 6 → Dec (j ≡ i) → start j ≤ getD (moved b i h n .head) j 0
+      low-at : (j : ℕ) → j < 6 → Dec (j ≡ i) → start j ≤ headAt (moved b i h n) j
       low-at j k (yes e) = rw (e, moved-head) lo
-      low-at j k (no e) = rw (getD-set-other (b .head) i j h 0 e) (laid .low j k)
+      low-at j k (no e) = rw (moved-head-other j k e) (laid .low j k)
 
-      high-at : (j : ℕ) → j < 6 → Dec (j ≡ i) → getD (moved b i h n .head) j 0 + getD (moved b i h n .len) j 0 ≤ start (suc j)
+      high-at : (j : ℕ) → j < 6 → Dec (j ≡ i) → headAt (moved b i h n) j + lenAt (moved b i h n) j ≤ start (suc j)
       high-at j k (yes e) = rw (e, moved-head, moved-len) hi
-      high-at j k (no e) = rw (getD-set-other (b .head) i j h 0 e, getD-set-other (b .len) i j n 0 e) (laid .high j k)
+      high-at j k (no e) = rw (moved-head-other j k e, moved-len-other j e) (laid .high j k)
 
   -- the row of another bucket is as it was, whatever is put into this one's places
   pub row-other : (s : List ℕ) (a : ℕ) (vs : List ℕ) → start i ≤ a → a + length vs ≤ start (suc i) → (j : ℕ) → j < 6 → (j ≡ i → ⊥) → rowAt (moved b i h n) (sets s a vs) j ≡ rowAt b s j
   row-other s a vs lo hi j k ne =
-      ap₂ (λ (x y : ℕ). part x y (sets s a vs)) (getD-set-other (b .head) i j h 0 ne) (getD-set-other (b .len) i j n 0 ne)
-      ∙ part-frame s a vs (getD (b .head) j 0) (getD (b .len) j 0) (side (decLe j i))
+      ap₂ (λ (x y : ℕ). part x y (sets s a vs)) (moved-head-other j k ne) (moved-len-other j ne)
+      ∙ part-frame s a vs (headAt b j) (lenAt b j) (side (decLe j i))
     where
-      side : Dec (j ≤ i) → Apart (getD (b .head) j 0) (getD (b .len) j 0) a (length vs)
+      side : Dec (j ≤ i) → Apart (headAt b j) (lenAt b j) a (length vs)
       side (yes u) = inl (omega (arith, laid .high j k, start-up (suc j) i (let z : suc j ≤ i = lt-of-ne j i u ne in z)))
         where
           lt-of-ne : (x y : ℕ) → x ≤ y → (x ≡ y → ⊥) → suc x ≤ y
@@ -146,13 +150,13 @@ good-at cmp p g (suc k) i cap h j l u = by (decLe j i) (λ v. good-at cmp p g k 
 
 module _ (b : Buckets) (laid : Laid b) (i : ℕ) (in-six : i < 6) where
   -- bucket i lies within the bucket space
-  pub row-end : getD (b .head) i 0 + getD (b .len) i 0 ≤ 5460
+  pub row-end : headAt b i + lenAt b i ≤ 5460
   row-end = omega (arith, laid .high i in-six, start-end i in-six)
 
-  pub row-long : (s : List ℕ) → length s ≡ 5460 → length (rowAt b s i) ≡ getD (b .len) i 0
-  row-long s h = length-part (getD (b .head) i 0) (getD (b .len) i 0) s (omega (arith, row-end, h))
+  pub row-long : (s : List ℕ) → length s ≡ 5460 → length (rowAt b s i) ≡ lenAt b i
+  row-long s h = length-part (headAt b i) (lenAt b i) s (omega (arith, row-end, h))
 
-  pub bucket-long : (sw sc : List ℕ) → length sw ≡ 5460 → length sc ≡ 5460 → length (bucketAt b sw sc i) ≡ getD (b .len) i 0
+  pub bucket-long : (sw sc : List ℕ) → length sw ≡ 5460 → length sc ≡ 5460 → length (bucketAt b sw sc i) ≡ lenAt b i
   bucket-long sw sc hw hc = length-terms (rowAt b sw i) (rowAt b sc i) (row-long sc hc ∙ sym (row-long sw hw)) ∙ row-long sw hw
 
   pub bucket-poly : (p : ℕ) (cmp : ℕ → ℕ → Ordering) (sw sc : List ℕ) → length sw ≡ 5460 → length sc ≡ 5460 → Canonical cmp p (bucketAt b sw sc i) → Poly p (rowAt b sw i) (rowAt b sc i)
@@ -178,41 +182,41 @@ row-lead s h n k pos =
 
 module _ (b : Buckets) (i : ℕ) (laid : Laid b) (in-six : i < 6) where
   -- a row that is moved nowhere is where it was
-  moved-same : moved b i (getD (b .head) i 0) (getD (b .len) i 0) ≡ b
-  moved-same = ap₂ (λ (x y : List ℕ). record { head = x; len = y }) (set-getD (b .head) i 0) (set-getD (b .len) i 0)
+  pub moved-same : moved b i (headAt b i) (lenAt b i) ≡ b
+  moved-same = ap (λ (x : List ℕ). set x (6 + i) (lenAt b i)) (set-getD b i 0) ∙ set-getD b (6 + i) 0
 
-  pub bucket-none : (sw sc : List ℕ) → getD (b .len) i 0 ≡ 0 → bucketAt b sw sc i ≡ []
-  bucket-none sw sc e = ap (λ (n : ℕ). terms (part (getD (b .head) i 0) n sw) (part (getD (b .head) i 0) n sc)) e
+  pub bucket-none : (sw sc : List ℕ) → lenAt b i ≡ 0 → bucketAt b sw sc i ≡ []
+  bucket-none sw sc e = ap (λ (n : ℕ). terms (part (headAt b i) n sw) (part (headAt b i) n sc)) e
 
-  module _ (some : 0 < getD (b .len) i 0) where
-    pub head-in : getD (b .head) i 0 < 5460
+  module _ (some : 0 < lenAt b i) where
+    pub head-in : headAt b i < 5460
     head-in = omega (arith, row-end b laid i in-six)
 
     pub dropped-laid : Laid (dropped b i)
-    dropped-laid = laid-moved b i (getD (b .head) i 0 + 1) (getD (b .len) i 0 - 1) laid in-six (omega (arith, laid .low i in-six)) (omega (arith, laid .high i in-six))
+    dropped-laid = laid-moved b i (headAt b i + 1) (lenAt b i - 1) laid in-six (omega (arith, laid .low i in-six)) (omega (arith, laid .high i in-six))
 
     module _ (sw sc : List ℕ) (hw : length sw ≡ 5460) (hc : length sc ≡ 5460) where
-      pub bucket-lead : bucketAt b sw sc i ≡ term (getD sw (getD (b .head) i 0) 0) (getD sc (getD (b .head) i 0) 0) ∷ bucketAt (dropped b i) sw sc i
+      pub bucket-lead : bucketAt b sw sc i ≡ term (getD sw (headAt b i) 0) (getD sc (headAt b i) 0) ∷ bucketAt (dropped b i) sw sc i
       bucket-lead =
-          let h = getD (b .head) i 0 in
-          let n = getD (b .len) i 0 in
+          let h = headAt b i in
+          let n = lenAt b i in
           ap₂ terms (row-lead sw h n (omega (arith, head-in, hw)) some) (row-lead sc h n (omega (arith, head-in, hc)) some)
           ∙ ap₂ (λ (x y : ℕ). term (getD sw h 0) (getD sc h 0) ∷ terms (part x y sw) (part x y sc)) (sym (moved-head b i (h + 1) (n - 1) laid in-six)) (sym (moved-len b i (h + 1) (n - 1) laid in-six))
 
       pub dropped-other : (j : ℕ) → j < 6 → (j ≡ i → ⊥) → bucketAt (dropped b i) sw sc j ≡ bucketAt b sw sc j
-      dropped-other j k ne = bucket-other b i (getD (b .head) i 0 + 1) (getD (b .len) i 0 - 1) laid in-six sw sc (start i) (start i) [] [] (omega arith) (omega (arith, next-start i)) (omega arith) (omega (arith, next-start i)) j k ne
+      dropped-other j k ne = bucket-other b i (headAt b i + 1) (lenAt b i - 1) laid in-six sw sc (start i) (start i) [] [] (omega arith) (omega (arith, next-start i)) (omega arith) (omega (arith, next-start i)) j k ne
 
       -- another coefficient is put at its lead
-      pub put-other : (v j : ℕ) → j < 6 → (j ≡ i → ⊥) → bucketAt b sw (set sc (getD (b .head) i 0) v) j ≡ bucketAt b sw sc j
+      pub put-other : (v j : ℕ) → j < 6 → (j ≡ i → ⊥) → bucketAt b sw (set sc (headAt b i) v) j ≡ bucketAt b sw sc j
       put-other v j k ne =
-          let h = getD (b .head) i 0 in
+          let h = headAt b i in
           ap (λ (x : Buckets). bucketAt x sw (set sc h v) j) (sym moved-same)
-          ∙ bucket-other b i h (getD (b .len) i 0) laid in-six sw sc (start i) h [] (v ∷ []) (omega arith) (omega (arith, next-start i)) (laid .low i in-six) (omega (arith, laid .high i in-six)) j k ne
+          ∙ bucket-other b i h (lenAt b i) laid in-six sw sc (start i) h [] (v ∷ []) (omega arith) (omega (arith, next-start i)) (laid .low i in-six) (omega (arith, laid .high i in-six)) j k ne
 
-      pub put-here : (v : ℕ) → bucketAt b sw (set sc (getD (b .head) i 0) v) i ≡ term (getD sw (getD (b .head) i 0) 0) v ∷ bucketAt (dropped b i) sw sc i
+      pub put-here : (v : ℕ) → bucketAt b sw (set sc (headAt b i) v) i ≡ term (getD sw (headAt b i) 0) v ∷ bucketAt (dropped b i) sw sc i
       put-here v =
-          let h = getD (b .head) i 0 in
-          let n = getD (b .len) i 0 in
+          let h = headAt b i in
+          let n = lenAt b i in
           let hv : length (set sc h v) ≡ 5460 = length-set sc h v ∙ hc in
           ap₂ terms (row-lead sw h n (omega (arith, head-in, hw)) some) (row-lead (set sc h v) h n (omega (arith, head-in, hv)) some)
           ∙ (ap₂ (λ (x : ℕ) (y : List ℕ). term (getD sw h 0) x ∷ terms (part (h + 1) (n - 1) sw) y) (getD-set-same sc h v 0 (omega (arith, head-in, hc))) (part-frame sc h (v ∷ []) (h + 1) (n - 1) (inr (omega arith)))
@@ -226,10 +230,10 @@ cons-tail : {A : Type 0} {x y : A} {xs ys : List A} → x ∷ xs ≡ y ∷ ys �
 cons-tail {A} e = ap (λ (l : List A). drop 1 l) e
 
 module _ (b : Buckets) (i : ℕ) (laid : Laid b) (in-six : i < 6) (sw sc : List ℕ) (hw : length sw ≡ 5460) (hc : length sc ≡ 5460) (x : Term ℕ) (xs : List (Term ℕ)) (e : bucketAt b sw sc i ≡ x ∷ xs) where
-  pub some-of : 0 < getD (b .len) i 0
+  pub some-of : 0 < lenAt b i
   some-of = omega (arith, bucket-long b laid i in-six sw sc hw hc, ap length e)
 
-  pub lead-of : x ≡ term (getD sw (getD (b .head) i 0) 0) (getD sc (getD (b .head) i 0) 0)
+  pub lead-of : x ≡ term (getD sw (headAt b i) 0) (getD sc (headAt b i) 0)
   lead-of = cons-head (sym e ∙ bucket-lead b i laid in-six some-of sw sc hw hc)
 
   -- the bucket without its lead
@@ -237,7 +241,7 @@ module _ (b : Buckets) (i : ℕ) (laid : Laid b) (in-six : i < 6) (sw sc : List 
   drop-here = sym (cons-tail (sym e ∙ bucket-lead b i laid in-six some-of sw sc hw hc))
 
   -- the bucket with another coefficient at its lead
-  pub put-at : (v : ℕ) → bucketAt b sw (set sc (getD (b .head) i 0) v) i ≡ term (x .mono) v ∷ xs
+  pub put-at : (v : ℕ) → bucketAt b sw (set sc (headAt b i) v) i ≡ term (x .mono) v ∷ xs
   put-at v = put-here b i laid in-six some-of sw sc hw hc v ∙ ap₂ (λ (m : ℕ) (l : List (Term ℕ)). term m v ∷ l) (ap (λ (t : Term ℕ). t .mono) (sym lead-of)) drop-here
 
 -- ---- good buckets, by each of them
@@ -272,9 +276,9 @@ held-short g (suc k) i h = omega (arith, h i (omega arith) (omega arith), held-s
 -- ---- six empty buckets, whatever the bucket space holds
 pub laid-none : Laid noBuckets
 unfolding start capacity
-laid-none = record { six-heads = refl; six-lens = refl; low = lows; high = highs }
+laid-none = record { twelve = refl; low = lows; high = highs }
   where
-    lows : (i : ℕ) → i < 6 → start i ≤ getD (noBuckets .head) i 0
+    lows : (i : ℕ) → i < 6 → start i ≤ headAt noBuckets i
     lows zero h = omega arith
     lows (suc zero) h = omega arith
     lows (suc (suc zero)) h = omega arith
@@ -283,7 +287,7 @@ laid-none = record { six-heads = refl; six-lens = refl; low = lows; high = highs
     lows (suc (suc (suc (suc (suc zero))))) h = omega arith
     lows (suc (suc (suc (suc (suc (suc i)))))) h = absurd (let z : ⊥ = omega arith in z)
 
-    highs : (i : ℕ) → i < 6 → getD (noBuckets .head) i 0 + getD (noBuckets .len) i 0 ≤ start (suc i)
+    highs : (i : ℕ) → i < 6 → headAt noBuckets i + lenAt noBuckets i ≤ start (suc i)
     highs zero h = omega arith
     highs (suc zero) h = omega arith
     highs (suc (suc zero)) h = omega arith
@@ -291,6 +295,23 @@ laid-none = record { six-heads = refl; six-lens = refl; low = lows; high = highs
     highs (suc (suc (suc (suc zero)))) h = omega arith
     highs (suc (suc (suc (suc (suc zero))))) h = omega arith
     highs (suc (suc (suc (suc (suc (suc i)))))) h = absurd (let z : ⊥ = omega arith in z)
+
+-- twelve numbers put one by one
+pub cleared : (b : Buckets) → length b ≡ 12 → set (set (set (set (set (set (set (set (set (set (set (set b 0 0) 1 4) 2 20) 3 84) 4 340) 5 1364) 6 0) 7 0) 8 0) 9 0) 10 0) 11 0 ≡ noBuckets
+cleared (a ∷ b ∷ c ∷ d ∷ e ∷ f ∷ g ∷ h ∷ i ∷ j ∷ k ∷ l ∷ []) m = refl
+cleared (a ∷ b ∷ c ∷ d ∷ e ∷ f ∷ g ∷ h ∷ i ∷ j ∷ k ∷ l ∷ x ∷ xs) m = absurd (let z : ⊥ = omega arith in z)
+cleared (a ∷ b ∷ c ∷ d ∷ e ∷ f ∷ g ∷ h ∷ i ∷ j ∷ k ∷ []) m = absurd (let z : ⊥ = omega arith in z)
+cleared (a ∷ b ∷ c ∷ d ∷ e ∷ f ∷ g ∷ h ∷ i ∷ j ∷ []) m = absurd (let z : ⊥ = omega arith in z)
+cleared (a ∷ b ∷ c ∷ d ∷ e ∷ f ∷ g ∷ h ∷ i ∷ []) m = absurd (let z : ⊥ = omega arith in z)
+cleared (a ∷ b ∷ c ∷ d ∷ e ∷ f ∷ g ∷ h ∷ []) m = absurd (let z : ⊥ = omega arith in z)
+cleared (a ∷ b ∷ c ∷ d ∷ e ∷ f ∷ g ∷ []) m = absurd (let z : ⊥ = omega arith in z)
+cleared (a ∷ b ∷ c ∷ d ∷ e ∷ f ∷ []) m = absurd (let z : ⊥ = omega arith in z)
+cleared (a ∷ b ∷ c ∷ d ∷ e ∷ []) m = absurd (let z : ⊥ = omega arith in z)
+cleared (a ∷ b ∷ c ∷ d ∷ []) m = absurd (let z : ⊥ = omega arith in z)
+cleared (a ∷ b ∷ c ∷ []) m = absurd (let z : ⊥ = omega arith in z)
+cleared (a ∷ b ∷ []) m = absurd (let z : ⊥ = omega arith in z)
+cleared (a ∷ []) m = absurd (let z : ⊥ = omega arith in z)
+cleared [] m = absurd (let z : ⊥ = omega arith in z)
 
 pub lists-none : (sw sc : List ℕ) → bucketsIn noBuckets sw sc ≡ empty
 unfolding listFrom
@@ -307,11 +328,11 @@ pub stands-none : (cmp : ℕ → ℕ → Ordering) (p : ℕ) (sw sc : List ℕ) 
 stands-none cmp p sw sc m hw hc = record { modulus = m; words-long = hw; coefs-long = hc; laid = laid-none; good = subst (Good cmp p 4) (sym (lists-none sw sc)) (good-none cmp p) }
 
 -- ---- the terms held, by the lengths
-pub held-lens : (b : Buckets) → Laid b → (sw sc : List ℕ) → length sw ≡ 5460 → length sc ≡ 5460 → held (bucketsIn b sw sc) ≡ heldIn (b .len)
+pub held-lens : (b : Buckets) → Laid b → (sw sc : List ℕ) → length sw ≡ 5460 → length sc ≡ 5460 → held (bucketsIn b sw sc) ≡ heldIn b
 unfolding held listFrom
 held-lens b laid sw sc hw hc =
-    let at : (i : ℕ) → i < 6 → length (bucketAt b sw sc i) ≡ getD (b .len) i 0 = λ i h. bucket-long b laid i h sw sc hw hc in
+    let at : (i : ℕ) → i < 6 → length (bucketAt b sw sc i) ≡ lenAt b i = λ i h. bucket-long b laid i h sw sc hw hc in
     omega (arith, at 0 (omega arith), at 1 (omega arith), at 2 (omega arith), at 3 (omega arith), at 4 (omega arith), at 5 (omega arith))
 
-pub len-small : (b : Buckets) → Laid b → (i : ℕ) → i < 6 → getD (b .len) i 0 ≤ 5460
+pub len-small : (b : Buckets) → Laid b → (i : ℕ) → i < 6 → lenAt b i ≤ 5460
 len-small b laid i h = omega (arith, row-end b laid i h)

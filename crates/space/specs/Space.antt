@@ -7,7 +7,6 @@ use Rattle.residue.specs.Modular.{Modulus}
 use Rattle.polynomial.specs.Terms.{Term, terms, words, coefs}
 use Rattle.merge.specs.Lent.{part}
 use Rattle.geobucket.specs.Buckets.{Good}
-use Rattle.space.specs.declared.state.Buckets.{Buckets}
 
 -- "buckets 1 to 6 of capacity 4, 16, 64, 256, 1,024 and 4,096"
 unfoldable pub capacity : ℕ → ℕ
@@ -24,9 +23,19 @@ unfoldable pub listFrom : {A : Type 0} → (ℕ → A) → (i k : ℕ) → List 
 listFrom f i zero = []
 listFrom f i (suc k) = f i ∷ listFrom f (suc i) k
 
+-- where the buckets lie: twelve numbers, the place of each bucket's lead, and then each bucket's terms
+abbrev pub Buckets : Type 0
+Buckets = List ℕ
+
+abbrev pub headAt : Buckets → ℕ → ℕ
+headAt b i = getD b i 0
+
+abbrev pub lenAt : Buckets → ℕ → ℕ
+lenAt b i = getD b (6 + i) 0
+
 -- the numbers of bucket i in a slice of the bucket space
 abbrev pub rowAt : Buckets → List ℕ → ℕ → List ℕ
-rowAt b s i = part (getD (b .head) i 0) (getD (b .len) i 0) s
+rowAt b s i = part (headAt b i) (lenAt b i) s
 
 -- the terms of bucket i
 abbrev pub bucketAt : Buckets → List ℕ → List ℕ → ℕ → List (Term ℕ)
@@ -37,15 +46,14 @@ abbrev pub bucketsIn : Buckets → List ℕ → List ℕ → List (List (Term �
 bucketsIn b sw sc = listFrom (bucketAt b sw sc) 0 6
 
 -- the terms of six buckets, by their lengths (theorem `held-lens`: the terms held)
-abbrev pub heldIn : List ℕ → ℕ
-heldIn l = getD l 0 0 + getD l 1 0 + getD l 2 0 + getD l 3 0 + getD l 4 0 + getD l 5 0
+abbrev pub heldIn : Buckets → ℕ
+heldIn b = lenAt b 0 + lenAt b 1 + lenAt b 2 + lenAt b 3 + lenAt b 4 + lenAt b 5
 
 -- each bucket's terms lie between its start and the next one's
 pub record Laid (b : Buckets) : Type 0 where
-  pub six-heads : length (b .head) ≡ 6
-  pub six-lens : length (b .len) ≡ 6
-  pub low : (i : ℕ) → i < 6 → start i ≤ getD (b .head) i 0
-  pub high : (i : ℕ) → i < 6 → getD (b .head) i 0 + getD (b .len) i 0 ≤ start (suc i)
+  pub twelve : length b ≡ 12
+  pub low : (i : ℕ) → i < 6 → start i ≤ headAt b i
+  pub high : (i : ℕ) → i < 6 → headAt b i + lenAt b i ≤ start (suc i)
 
 -- good buckets lie in the bucket space
 pub record Stands (cmp : ℕ → ℕ → Ordering) (p : ℕ) (b : Buckets) (sw sc : List ℕ) : Type 0 where
@@ -57,14 +65,15 @@ pub record Stands (cmp : ℕ → ℕ → Ordering) (p : ℕ) (b : Buckets) (sw s
 
 -- bucket i has its head at h and n terms
 abbrev pub moved : Buckets → (i h n : ℕ) → Buckets
-moved b i h n = record { head = set (b .head) i h; len = set (b .len) i n }
+moved b i h n = set (set b i h) (6 + i) n
 
 -- bucket i without its lead: nothing is shifted
 abbrev pub dropped : Buckets → ℕ → Buckets
-dropped b i = moved b i (getD (b .head) i 0 + 1) (getD (b .len) i 0 - 1)
+dropped b i = moved b i (headAt b i + 1) (lenAt b i - 1)
 
+-- six empty buckets, each at its start
 abbrev pub noBuckets : Buckets
-noBuckets = record { head = 0 ∷ 4 ∷ 20 ∷ 84 ∷ 340 ∷ 1364 ∷ []; len = 0 ∷ 0 ∷ 0 ∷ 0 ∷ 0 ∷ 0 ∷ [] }
+noBuckets = 0 ∷ 4 ∷ 20 ∷ 84 ∷ 340 ∷ 1364 ∷ 0 ∷ 0 ∷ 0 ∷ 0 ∷ 0 ∷ 0 ∷ []
 
 -- each row from its start on, the first of capacity cap, and 0 past it: "Places past a bucket's terms are 0 at return."
 unfoldable pub laidOut : ℕ → List (List ℕ) → List ℕ

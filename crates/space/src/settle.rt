@@ -1,6 +1,5 @@
 // The spaces as they are at return: "Places past a bucket's terms are 0 at return. The work space is
 // all 0 at return."
-use crate::state::Buckets;
 ghost use mathlib.Core.Path.{_≡_};
 ghost use Prim.Native.Nat.{_+_, _≤_};
 ghost use lib.ListN.{length, replicate};
@@ -10,9 +9,9 @@ ghost use Rattle.space.specs.Space.{Laid, settled, bucketsIn, AtReturn};
 
 // Leaves the spaces as document 01 has them at return: each bucket's terms from its start on and 0
 // past them, the work space all 0.
-pub fn settle(b: Buckets, sw: &mut [u64], sc: &mut [u32], ww: &mut [u64], wc: &mut [u32])
-    requires { ⌜ Laid b × (length (now sw) ≡ 5460) × (length (now sc) ≡ 5460) × (length (now ww) ≡ 8192) × (length (now wc) ≡ 8192) ⌝ }
-    ensures { λ _. ⌜ AtReturn (bucketsIn b (now (sw .entry)) (now (sc .entry))) (now (sw .exit)) (now (sc .exit)) (now (ww .exit)) (now (wc .exit)) ⌝ }
+pub fn settle(b: &[usize], sw: &mut [u64], sc: &mut [u32], ww: &mut [u64], wc: &mut [u32])
+    requires { ⌜ Laid (now b) × (length (now sw) ≡ 5460) × (length (now sc) ≡ 5460) × (length (now ww) ≡ 8192) × (length (now wc) ≡ 8192) ⌝ }
+    ensures { λ _. ⌜ AtReturn (bucketsIn (now (b .entry)) (now (sw .entry)) (now (sc .entry))) (now (sw .exit)) (now (sc .exit)) (now (ww .exit)) (now (wc .exit)) ⌝ }
 {
     settle_words(b, sw);
     settle_coefs(b, sc);
@@ -21,16 +20,16 @@ pub fn settle(b: Buckets, sw: &mut [u64], sc: &mut [u32], ww: &mut [u64], wc: &m
 }
 
 // Moves each bucket's words to the bucket's start, and sets the words past them to 0.
-pub fn settle_words(b: Buckets, s: &mut [u64])
-    requires { ⌜ Laid b × (length (now s) ≡ 5460) ⌝ }
-    ensures { λ _. ⌜ now (s .exit) ≡ settled b (now (s .entry)) ⌝ }
+pub fn settle_words(b: &[usize], s: &mut [u64])
+    requires { ⌜ Laid (now b) × (length (now s) ≡ 5460) ⌝ }
+    ensures { λ _. ⌜ now (s .exit) ≡ settled (now (b .entry)) (now (s .entry)) ⌝ }
 {
     let mut i = 0;
     let mut start = 0;
     let mut cap = 4;
     while i < 6 {
-        let n = b.len[i];
-        pull_words(s, b.head[i], start, n);
+        let n = b[6 + i];
+        pull_words(s, b[i], start, n);
         clear_words(s, start + n, cap - n);
         start += cap;
         cap *= 4;
@@ -39,16 +38,16 @@ pub fn settle_words(b: Buckets, s: &mut [u64])
 }
 
 // The same for coefficients.
-pub fn settle_coefs(b: Buckets, s: &mut [u32])
-    requires { ⌜ Laid b × (length (now s) ≡ 5460) ⌝ }
-    ensures { λ _. ⌜ now (s .exit) ≡ settled b (now (s .entry)) ⌝ }
+pub fn settle_coefs(b: &[usize], s: &mut [u32])
+    requires { ⌜ Laid (now b) × (length (now s) ≡ 5460) ⌝ }
+    ensures { λ _. ⌜ now (s .exit) ≡ settled (now (b .entry)) (now (s .entry)) ⌝ }
 {
     let mut i = 0;
     let mut start = 0;
     let mut cap = 4;
     while i < 6 {
-        let n = b.len[i];
-        pull_coefs(s, b.head[i], start, n);
+        let n = b[6 + i];
+        pull_coefs(s, b[i], start, n);
         clear_coefs(s, start + n, cap - n);
         start += cap;
         cap *= 4;

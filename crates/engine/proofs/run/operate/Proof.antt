@@ -4,93 +4,80 @@ use Rattle.engine.proofs.RunLaws.{words-there, coefs-there, addend, one
 use Rattle.engine.proofs.run.operate.Statement.{statement}
 use Rattle.engine.proofs.run.operate.Tie as tie
 
--- src/run.rt:39:13
 words-of-requires : tie.Need-words-of-requires
-words-of-requires c κs = words-there (c .before .before .before .before .before .before .before .before .before .before .pre) (c .if1 .taken)
+words-of-requires c κs = words-there (c .before .before .before .before .before .before .before .before .before .before .before .pre) (c .if1 .taken)
 
--- src/run.rt:40:13
 coefs-of-requires : tie.Need-coefs-of-requires
-coefs-of-requires c κs = coefs-there (c .before .before .before .before .before .before .before .before .before .before .before .pre) (c .before .if1 .taken)
+coefs-of-requires c κs = coefs-there (c .before .before .before .before .before .before .before .before .before .before .before .before .pre) (c .before .if1 .taken)
 
--- src/run.rt:41:9
 add-operation-requires : tie.Need-add-operation-requires
-add-operation-requires c κs = (c .before .before .before .before .before .before .before .before .before .before .before .before .before .before .before .before .pre .counting, addend (c .before .before .before .before .before .before .before .before .before .before .before .before .before .before .before .before .pre) (c .before .before .before .before .before .before .if1 .taken) (c .before .before .before .before .before .words-of .ensures) (c .before .before .before .before .coefs-of .ensures), c .before .before .before .before .before .before .before .before .before .before .before .before .before .before .before .before .pre .work, c .before .before .before .before .before .before .before .before .before .before .before .before .before .before .before .before .pre .more)
+add-operation-requires c κs = (c .before .before .before .before .before .before .before .before .before .before .before .before .before .before .before .before .before .before .pre .counting, addend (c .before .before .before .before .before .before .before .before .before .before .before .before .before .before .before .before .before .before .pre) (c .before .before .before .before .before .before .before .if1 .taken) (c .before .before .before .before .before .before .words-of .ensures) (c .before .before .before .before .before .coefs-of .ensures), c .before .before .before .before .before .before .before .before .before .before .before .before .before .before .before .before .before .before .pre .work, c .before .before .before .before .before .before .before .before .before .before .before .before .before .before .before .before .before .before .pre .more)
 
--- src/run.rt:41:9
 same-length : tie.Need-same-length
 same-length c = search needs
 
--- src/run.rt:41:9
 same-length-2 : tie.Need-same-length-2
 same-length-2 c = search needs
 
--- src/run.rt:41:9
 same-length-3 : tie.Need-same-length-3
 same-length-3 c = search needs
 
--- src/run.rt:41:9
 same-length-4 : tie.Need-same-length-4
 same-length-4 c = search needs
 
--- src/run.rt:41:9
-returns : tie.Need-returns
-returns c = one-operated (c .before .before .before .before .before .before .before .before .before .before .before .before .before .before .before .before .before .before .before .before .before .before .before .before .before .pre) (c .before .before .before .before .before .before .before .before .before .before .before .before .before .before .before .if1 .taken) (c .before .before .before .before .before .before .before .before .before .before .before .before .before .before .words-of .ensures) (c .before .before .before .before .before .before .before .before .before .before .before .before .before .coefs-of .ensures) (c .before .before .before .before .before .before .before .before .add-operation .ensures)
-
--- src/run.rt:44:9
-lead-operation-requires : tie.Need-lead-operation-requires
-lead-operation-requires c κs = (c .before .before .before .before .before .before .before .before .before .before .before .before .before .before .before .pre .counting, c .before .before .before .before .before .before .before .before .before .before .before .before .before .before .before .pre .output, c .before .before .before .before .before .before .before .before .before .before .before .before .before .before .before .pre .more)
-
--- src/run.rt:44:9
 same-length-5 : tie.Need-same-length-5
 same-length-5 c = search needs
 
--- src/run.rt:44:9
+returns : tie.Need-returns
+returns c = one-operated (c .before .before .before .before .before .before .before .before .before .before .before .before .before .before .before .before .before .before .before .before .before .before .before .before .before .before .before .before .before .pre) (c .before .before .before .before .before .before .before .before .before .before .before .before .before .before .before .before .before .before .if1 .taken) (c .before .before .before .before .before .before .before .before .before .before .before .before .before .before .before .before .before .words-of .ensures) (c .before .before .before .before .before .before .before .before .before .before .before .before .before .before .before .before .coefs-of .ensures) (c .before .before .before .before .before .before .before .before .before .before .add-operation .ensures)
+
+lead-operation-requires : tie.Need-lead-operation-requires
+lead-operation-requires c κs = (c .before .before .before .before .before .before .before .before .before .before .before .before .before .before .before .before .before .pre .counting, c .before .before .before .before .before .before .before .before .before .before .before .before .before .before .before .before .before .pre .output, c .before .before .before .before .before .before .before .before .before .before .before .before .before .before .before .before .before .pre .more)
+
 same-length-6 : tie.Need-same-length-6
 same-length-6 c = search needs
 
--- src/run.rt:44:9
 same-length-7 : tie.Need-same-length-7
 same-length-7 c = search needs
 
--- src/run.rt:44:9
 same-length-8 : tie.Need-same-length-8
 same-length-8 c = search needs
 
--- src/run.rt:44:9
-returns-2 : tie.Need-returns-2
-returns-2 c = two-operated (c .before .before .before .before .before .before .before .before .before .before .before .before .before .before .before .before .before .before .before .before .before .before .pre) (c .before .before .before .before .before .before .before .before .before .before .before .before .if1 .left) (c .before .before .before .before .before .before .before .before .before .before .before .if2 .taken) (c .before .before .before .before .before .before .lead-operation .ensures)
-
--- src/run.rt:46:5
-sum-operation-requires : tie.Need-sum-operation-requires
-sum-operation-requires c κs = (c .before .before .before .before .before .before .before .before .before .before .before .before .before .before .before .before .before .pre .counting, c .before .before .before .before .before .before .before .before .before .before .before .before .before .before .before .before .before .pre .work, c .before .before .before .before .before .before .before .before .before .before .before .before .before .before .before .before .before .pre .output, c .before .before .before .before .before .before .before .before .before .before .before .before .before .before .before .before .before .pre .more)
-
--- src/run.rt:19:1
 same-length-9 : tie.Need-same-length-9
 same-length-9 c = search needs
 
--- src/run.rt:19:1
 same-length-10 : tie.Need-same-length-10
 same-length-10 c = search needs
 
--- src/run.rt:19:1
+returns-2 : tie.Need-returns-2
+returns-2 c = two-operated (c .before .before .before .before .before .before .before .before .before .before .before .before .before .before .before .before .before .before .before .before .before .before .before .before .before .before .pre) (c .before .before .before .before .before .before .before .before .before .before .before .before .before .before .before .if1 .left) (c .before .before .before .before .before .before .before .before .before .before .before .before .before .before .if2 .taken) (c .before .before .before .before .before .before .before .before .lead-operation .ensures)
+
+sum-operation-requires : tie.Need-sum-operation-requires
+sum-operation-requires c κs = (c .before .before .before .before .before .before .before .before .before .before .before .before .before .before .before .before .before .before .before .pre .counting, c .before .before .before .before .before .before .before .before .before .before .before .before .before .before .before .before .before .before .before .pre .work, c .before .before .before .before .before .before .before .before .before .before .before .before .before .before .before .before .before .before .before .pre .output, c .before .before .before .before .before .before .before .before .before .before .before .before .before .before .before .before .before .before .before .pre .more)
+
 same-length-11 : tie.Need-same-length-11
 same-length-11 c = search needs
 
--- src/run.rt:19:1
 same-length-12 : tie.Need-same-length-12
 same-length-12 c = search needs
 
--- src/run.rt:19:1
 same-length-13 : tie.Need-same-length-13
 same-length-13 c = search needs
 
--- src/run.rt:19:1
 same-length-14 : tie.Need-same-length-14
 same-length-14 c = search needs
 
--- src/run.rt:19:1
+same-length-15 : tie.Need-same-length-15
+same-length-15 c = search needs
+
+same-length-16 : tie.Need-same-length-16
+same-length-16 c = search needs
+
+same-length-17 : tie.Need-same-length-17
+same-length-17 c = search needs
+
 returns-3 : tie.Need-returns-3
-returns-3 c = three-operated (c .before .before .before .before .before .before .before .before .before .before .before .before .before .before .before .before .before .before .before .before .before .before .before .before .before .before .pre) (c .before .before .before .before .before .before .before .before .before .before .before .before .before .before .before .before .if1 .left) (c .before .before .before .before .before .before .before .before .before .before .before .before .before .before .before .if2 .left) (c .before .before .before .before .before .before .before .before .sum-operation .ensures)
+returns-3 c = three-operated (c .before .before .before .before .before .before .before .before .before .before .before .before .before .before .before .before .before .before .before .before .before .before .before .before .before .before .before .before .before .before .pre) (c .before .before .before .before .before .before .before .before .before .before .before .before .before .before .before .before .before .before .before .if1 .left) (c .before .before .before .before .before .before .before .before .before .before .before .before .before .before .before .before .before .before .if2 .left) (c .before .before .before .before .before .before .before .before .before .before .sum-operation .ensures)
 
 pub operate-spec : {M : Type 1} → statement M
 operate-spec =
@@ -103,18 +90,21 @@ operate-spec =
     same-length-2
     same-length-3
     same-length-4
+    same-length-5
     returns
     lead-operation-requires
-    same-length-5
     same-length-6
     same-length-7
     same-length-8
-    returns-2
-    sum-operation-requires
     same-length-9
     same-length-10
+    returns-2
+    sum-operation-requires
     same-length-11
     same-length-12
     same-length-13
     same-length-14
+    same-length-15
+    same-length-16
+    same-length-17
     returns-3)

@@ -1,5 +1,5 @@
 -- `engine::run::operate_all` meets its contract. Assumes nothing.
-use mathlib.Core.Path.{_≡_, sym, _∙_}
+use mathlib.Core.Path.{_≡_, sym, ap, _∙_}
 use mathlib.Core.Logic.{inl, inr}
 use Prim.Native.Nat.{ℕ, _-_}
 use native.Mathlib.Omega.{arith}
@@ -12,110 +12,91 @@ use Rattle.engine.proofs.run.operate_all.Statement.{statement}
 use Rattle.engine.proofs.run.operate_all.Tie as tie
 
 abbrev Inv-loop : tie.InvT-loop
-Inv-loop order p words coefs starts ops bw₀ bc₀ ww₀ wc₀ ow₀ oc₀ s₀ i₀ bw bc ww wc ow oc s i = Going (compareWords order) p words coefs starts ops ow₀ oc₀ bw bc ww wc ow oc s i
+Inv-loop order p words coefs starts ops b₀ bw₀ bc₀ ww₀ wc₀ ow₀ oc₀ s₀ i₀ b bw bc ww wc ow oc s i = Going (compareWords order) p words coefs starts ops ow₀ oc₀ b bw bc ww wc ow oc s i
 
 abbrev μ-loop : tie.MeasureT-loop
-μ-loop order p words coefs starts ops bw₀ bc₀ ww₀ wc₀ ow₀ oc₀ s₀ i₀ bw bc ww wc ow oc s i = length ops - i
+μ-loop order p words coefs starts ops b₀ bw₀ bc₀ ww₀ wc₀ ow₀ oc₀ s₀ i₀ b bw bc ww wc ow oc s i = length ops - i
 
--- src/run.rt:67:9
 initial-requires : tie.Need-initial-requires Inv-loop μ-loop
 initial-requires c κs = search needs
 
--- src/run.rt:69:5
 loop-holds : tie.Need-loop-holds Inv-loop μ-loop
-loop-holds c = going-start (c .before .before .before .before .before .before .before .before .before .before .before .pre .0) (c .before .before .before .before .before .before .before .before .before .before .before .pre .1) (c .initial .ensures)
+loop-holds c = going-start (c .before .before .before .before .before .before .before .before .before .before .before .before .pre .0) (c .before .before .before .before .before .before .before .before .before .before .before .before .pre .1) (c .initial .ensures)
 
--- src/run.rt:70:20
 mul-code : tie.Need-mul-code Inv-loop μ-loop
 mul-code c = search needs
 
--- src/run.rt:70:20
 shared-slice-read-code : tie.Need-shared-slice-read-code Inv-loop μ-loop
 shared-slice-read-code c = search needs
 
--- src/run.rt:71:21
 add-k : tie.Need-add-k Inv-loop μ-loop
-add-k c = omega (arith, second (c .before .before .before .before .before .before .before .before .before .before .before .before .before .before .before .before .pre .0) (c .before .before .before .before .loop .inv) (c .before .before .before .loop-test .taken) (eqb-true (c .before .before .before .before .loop .s .stop) 0 (c .before .if1 .taken)))
+add-k c = omega (arith, second (c .before .before .before .before .before .before .before .before .before .before .before .before .before .before .before .before .before .pre .0) (c .before .before .before .before .loop .inv) (c .before .before .before .loop-test .taken) (eqb-true (c .before .before .before .before .loop .s .stop) 0 (c .before .if1 .taken)))
 
--- src/run.rt:71:17
 mul-k : tie.Need-mul-k Inv-loop μ-loop
-mul-k c = omega (arith, second (c .before .before .before .before .before .before .before .before .before .before .before .before .before .before .before .before .pre .0) (c .before .before .before .before .loop .inv) (c .before .before .before .loop-test .taken) (eqb-true (c .before .before .before .before .loop .s .stop) 0 (c .before .if1 .taken)))
+mul-k c = omega (arith, second (c .before .before .before .before .before .before .before .before .before .before .before .before .before .before .before .before .before .pre .0) (c .before .before .before .before .loop .inv) (c .before .before .before .loop-test .taken) (eqb-true (c .before .before .before .before .loop .s .stop) 0 (c .before .if1 .taken)))
 
--- src/run.rt:71:17
 shared-slice-read-k : tie.Need-shared-slice-read-k Inv-loop μ-loop
-shared-slice-read-k c = omega (arith, second (c .before .before .before .before .before .before .before .before .before .before .before .before .before .before .before .before .before .pre .0) (c .before .before .before .before .before .loop .inv) (c .before .before .before .before .loop-test .taken) (eqb-true (c .before .before .before .before .before .loop .s .stop) 0 (c .before .before .if1 .taken)))
+shared-slice-read-k c = omega (arith, second (c .before .before .before .before .before .before .before .before .before .before .before .before .before .before .before .before .before .before .pre .0) (c .before .before .before .before .before .loop .inv) (c .before .before .before .before .loop-test .taken) (eqb-true (c .before .before .before .before .before .loop .s .stop) 0 (c .before .before .if1 .taken)))
 
--- src/run.rt:72:9
 operate-requires : tie.Need-operate-requires Inv-loop μ-loop
-operate-requires c κs = operable (c .before .before .before .before .before .before .before .before .before .before .before .before .before .before .before .before .before .before .before .before .before .before .before .pre .0) (c .before .before .before .before .before .before .before .before .before .before .before .loop .inv) (c .before .before .before .before .before .before .before .before .before .before .loop-test .taken) (eqb-true (c .before .before .before .before .before .before .before .before .before .before .before .loop .s .stop) 0 (c .before .before .before .before .before .before .before .before .if1 .taken))
+operate-requires c κs = operable (c .before .before .before .before .before .before .before .before .before .before .before .before .before .before .before .before .before .before .before .before .before .before .before .before .before .pre .0) (c .before .before .before .before .before .before .before .before .before .before .before .before .loop .inv) (c .before .before .before .before .before .before .before .before .before .before .before .loop-test .taken) (eqb-true (c .before .before .before .before .before .before .before .before .before .before .before .before .loop .s .stop) 0 (c .before .before .before .before .before .before .before .before .before .if1 .taken))
 
--- src/run.rt:73:9
 add-i : tie.Need-add-i Inv-loop μ-loop
-add-i c = omega (arith, second (c .before .before .before .before .before .before .before .before .before .before .before .before .before .before .before .before .before .before .before .before .before .before .before .before .before .before .before .before .before .before .before .before .before .before .before .before .pre .0) (c .before .before .before .before .before .before .before .before .before .before .before .before .before .before .before .before .before .before .before .before .before .before .before .before .loop .inv) (c .before .before .before .before .before .before .before .before .before .before .before .before .before .before .before .before .before .before .before .before .before .before .before .loop-test .taken) (eqb-true (c .before .before .before .before .before .before .before .before .before .before .before .before .before .before .before .before .before .before .before .before .before .before .before .before .loop .s .stop) 0 (c .before .before .before .before .before .before .before .before .before .before .before .before .before .before .before .before .before .before .before .before .before .if1 .taken)), c .before .before .before .before .before .before .before .before .before .before .before .before .before .before .before .before .before .before .before .before .before .before .before .before .before .before .before .before .before .before .before .before .before .before .before .before .pre .0 .whole, c .before .before .before .before .before .before .before .before .before .before .before .before .before .before .before .before .before .before .before .before .before .before .before .before .before .before .before .before .before .before .before .before .before .before .before .before .pre .0 .most)
+add-i c = omega (arith, second (c .before .before .before .before .before .before .before .before .before .before .before .before .before .before .before .before .before .before .before .before .before .before .before .before .before .before .before .before .before .before .before .before .before .before .before .before .before .before .before .before .pre .0) (c .before .before .before .before .before .before .before .before .before .before .before .before .before .before .before .before .before .before .before .before .before .before .before .before .before .before .before .loop .inv) (c .before .before .before .before .before .before .before .before .before .before .before .before .before .before .before .before .before .before .before .before .before .before .before .before .before .before .loop-test .taken) (eqb-true (c .before .before .before .before .before .before .before .before .before .before .before .before .before .before .before .before .before .before .before .before .before .before .before .before .before .before .before .loop .s .stop) 0 (c .before .before .before .before .before .before .before .before .before .before .before .before .before .before .before .before .before .before .before .before .before .before .before .before .if1 .taken)), c .before .before .before .before .before .before .before .before .before .before .before .before .before .before .before .before .before .before .before .before .before .before .before .before .before .before .before .before .before .before .before .before .before .before .before .before .before .before .before .before .pre .0 .whole, c .before .before .before .before .before .before .before .before .before .before .before .before .before .before .before .before .before .before .before .before .before .before .before .before .before .before .before .before .before .before .before .before .before .before .before .before .before .before .before .before .pre .0 .most)
 
--- src/run.rt:69:5
 loop-less : tie.Need-loop-less Inv-loop μ-loop
-loop-less c = omega (arith, second (c .before .before .before .before .before .before .before .before .before .before .before .before .before .before .before .before .before .before .before .before .before .before .before .before .before .before .before .before .before .before .before .before .before .before .before .before .pre .0) (c .before .before .before .before .before .before .before .before .before .before .before .before .before .before .before .before .before .before .before .before .before .before .before .before .loop .inv) (c .before .before .before .before .before .before .before .before .before .before .before .before .before .before .before .before .before .before .before .before .before .before .before .loop-test .taken) (eqb-true (c .before .before .before .before .before .before .before .before .before .before .before .before .before .before .before .before .before .before .before .before .before .before .before .before .loop .s .stop) 0 (c .before .before .before .before .before .before .before .before .before .before .before .before .before .before .before .before .before .before .before .before .before .if1 .taken)))
+loop-less c = omega (arith, second (c .before .before .before .before .before .before .before .before .before .before .before .before .before .before .before .before .before .before .before .before .before .before .before .before .before .before .before .before .before .before .before .before .before .before .before .before .before .before .before .before .pre .0) (c .before .before .before .before .before .before .before .before .before .before .before .before .before .before .before .before .before .before .before .before .before .before .before .before .before .before .before .loop .inv) (c .before .before .before .before .before .before .before .before .before .before .before .before .before .before .before .before .before .before .before .before .before .before .before .before .before .before .loop-test .taken) (eqb-true (c .before .before .before .before .before .before .before .before .before .before .before .before .before .before .before .before .before .before .before .before .before .before .before .before .before .before .before .loop .s .stop) 0 (c .before .before .before .before .before .before .before .before .before .before .before .before .before .before .before .before .before .before .before .before .before .before .before .before .if1 .taken)))
 
--- src/run.rt:69:5
 loop-again : tie.Need-loop-again Inv-loop μ-loop
-loop-again c = going-on (c .before .before .before .before .before .before .before .before .before .before .before .before .before .before .before .before .before .before .before .before .before .before .before .before .before .before .before .before .before .before .before .before .before .before .before .before .pre .0) (c .before .before .before .before .before .before .before .before .before .before .before .before .before .before .before .before .before .before .before .before .before .before .before .before .loop .inv) (c .before .before .before .before .before .before .before .before .before .before .before .before .before .before .before .before .before .before .before .before .before .before .before .loop-test .taken) (eqb-true (c .before .before .before .before .before .before .before .before .before .before .before .before .before .before .before .before .before .before .before .before .before .before .before .before .loop .s .stop) 0 (c .before .before .before .before .before .before .before .before .before .before .before .before .before .before .before .before .before .before .before .before .before .if1 .taken)) (c .before .before .before .before .before .before .before .before .before .before .before .before .operate .ensures) (c .before .before .before .before .before .before .before .before .before .before .before .before .operate .kept .1 .1 .1 .1 .1 .1 .1 .1 .1 .1 .0) (c .before .before .before .before .before .before .before .before .before .before .before .before .operate .kept .1 .1 .1 .1 .1 .1 .1 .1 .1 .1 .1 .0) (c .before .before .before .before .before .before .before .before .before .before .before .before .operate .kept .1 .1 .1 .1 .1 .1 .1 .1 .1 .1 .1 .1 .0) (c .before .before .before .before .before .before .before .before .before .before .before .before .operate .kept .1 .1 .1 .1 .1 .1 .1 .1 .1 .1 .1 .1 .1 .0)
+loop-again c = going-on (c .before .before .before .before .before .before .before .before .before .before .before .before .before .before .before .before .before .before .before .before .before .before .before .before .before .before .before .before .before .before .before .before .before .before .before .before .before .before .before .before .pre .0) (c .before .before .before .before .before .before .before .before .before .before .before .before .before .before .before .before .before .before .before .before .before .before .before .before .before .before .before .loop .inv) (c .before .before .before .before .before .before .before .before .before .before .before .before .before .before .before .before .before .before .before .before .before .before .before .before .before .before .loop-test .taken) (eqb-true (c .before .before .before .before .before .before .before .before .before .before .before .before .before .before .before .before .before .before .before .before .before .before .before .before .before .before .before .loop .s .stop) 0 (c .before .before .before .before .before .before .before .before .before .before .before .before .before .before .before .before .before .before .before .before .before .before .before .before .if1 .taken)) (c .before .before .before .before .before .before .before .before .before .before .before .before .before .before .operate .ensures) (c .before .before .before .before .before .before .before .before .before .before .before .before .before .before .operate .kept .1 .1 .1 .1 .1 .1 .1 .1 .1 .1 .1 .0) (c .before .before .before .before .before .before .before .before .before .before .before .before .before .before .operate .kept .1 .1 .1 .1 .1 .1 .1 .1 .1 .1 .1 .1 .0) (c .before .before .before .before .before .before .before .before .before .before .before .before .before .before .operate .kept .1 .1 .1 .1 .1 .1 .1 .1 .1 .1 .1 .1 .1 .0) (c .before .before .before .before .before .before .before .before .before .before .before .before .before .before .operate .kept .1 .1 .1 .1 .1 .1 .1 .1 .1 .1 .1 .1 .1 .1 .0)
 
--- src/run.rt:50:1
 same-length : tie.Need-same-length Inv-loop μ-loop
-same-length c = c .before .before .before .loop .inv .counting .stands .words-long ∙ sym (c .before .before .before .before .before .before .before .before .before .before .before .before .before .before .before .pre .1 .words-long)
+same-length c = c .before .before .before .loop .inv .counting .stands .laid .twelve ∙ sym (ap length (c .before .before .before .before .before .before .before .before .before .before .before .before .before .before .before .before .pre .1 .none))
 
--- src/run.rt:50:1
 same-length-2 : tie.Need-same-length-2 Inv-loop μ-loop
-same-length-2 c = c .before .before .before .loop .inv .counting .stands .coefs-long ∙ sym (c .before .before .before .before .before .before .before .before .before .before .before .before .before .before .before .pre .1 .coefs-long)
+same-length-2 c = c .before .before .before .loop .inv .counting .stands .words-long ∙ sym (c .before .before .before .before .before .before .before .before .before .before .before .before .before .before .before .before .pre .1 .words-long)
 
--- src/run.rt:50:1
 same-length-3 : tie.Need-same-length-3 Inv-loop μ-loop
-same-length-3 c = c .before .before .before .loop .inv .work .words-long ∙ sym (c .before .before .before .before .before .before .before .before .before .before .before .before .before .before .before .pre .1 .work .words-long)
+same-length-3 c = c .before .before .before .loop .inv .counting .stands .coefs-long ∙ sym (c .before .before .before .before .before .before .before .before .before .before .before .before .before .before .before .before .pre .1 .coefs-long)
 
--- src/run.rt:50:1
 same-length-4 : tie.Need-same-length-4 Inv-loop μ-loop
-same-length-4 c = c .before .before .before .loop .inv .work .coefs-long ∙ sym (c .before .before .before .before .before .before .before .before .before .before .before .before .before .before .before .pre .1 .work .coefs-long)
+same-length-4 c = c .before .before .before .loop .inv .work .words-long ∙ sym (c .before .before .before .before .before .before .before .before .before .before .before .before .before .before .before .before .pre .1 .work .words-long)
 
--- src/run.rt:50:1
 same-length-5 : tie.Need-same-length-5 Inv-loop μ-loop
-same-length-5 c = c .before .before .before .loop .inv .out-long
+same-length-5 c = c .before .before .before .loop .inv .work .coefs-long ∙ sym (c .before .before .before .before .before .before .before .before .before .before .before .before .before .before .before .before .pre .1 .work .coefs-long)
 
--- src/run.rt:50:1
 same-length-6 : tie.Need-same-length-6 Inv-loop μ-loop
-same-length-6 c = c .before .before .before .loop .inv .coefs-out-long
+same-length-6 c = c .before .before .before .loop .inv .out-long
 
--- src/run.rt:50:1
-returns : tie.Need-returns Inv-loop μ-loop
-returns c = going-end (c .before .before .before .before .before .before .before .before .before .before .before .before .before .before .before .pre .0) (c .before .before .before .loop .inv) (inr (eqb-false (c .before .before .before .loop .s .stop) 0 (c .if1 .left)))
-
--- src/run.rt:50:1
 same-length-7 : tie.Need-same-length-7 Inv-loop μ-loop
-same-length-7 c = c .before .loop .inv .counting .stands .words-long ∙ sym (c .before .before .before .before .before .before .before .before .before .before .before .before .before .pre .1 .words-long)
+same-length-7 c = c .before .before .before .loop .inv .coefs-out-long
 
--- src/run.rt:50:1
+returns : tie.Need-returns Inv-loop μ-loop
+returns c = going-end (c .before .before .before .before .before .before .before .before .before .before .before .before .before .before .before .before .pre .0) (c .before .before .before .loop .inv) (inr (eqb-false (c .before .before .before .loop .s .stop) 0 (c .if1 .left)))
+
 same-length-8 : tie.Need-same-length-8 Inv-loop μ-loop
-same-length-8 c = c .before .loop .inv .counting .stands .coefs-long ∙ sym (c .before .before .before .before .before .before .before .before .before .before .before .before .before .pre .1 .coefs-long)
+same-length-8 c = c .before .loop .inv .counting .stands .laid .twelve ∙ sym (ap length (c .before .before .before .before .before .before .before .before .before .before .before .before .before .before .pre .1 .none))
 
--- src/run.rt:50:1
 same-length-9 : tie.Need-same-length-9 Inv-loop μ-loop
-same-length-9 c = c .before .loop .inv .work .words-long ∙ sym (c .before .before .before .before .before .before .before .before .before .before .before .before .before .pre .1 .work .words-long)
+same-length-9 c = c .before .loop .inv .counting .stands .words-long ∙ sym (c .before .before .before .before .before .before .before .before .before .before .before .before .before .before .pre .1 .words-long)
 
--- src/run.rt:50:1
 same-length-10 : tie.Need-same-length-10 Inv-loop μ-loop
-same-length-10 c = c .before .loop .inv .work .coefs-long ∙ sym (c .before .before .before .before .before .before .before .before .before .before .before .before .before .pre .1 .work .coefs-long)
+same-length-10 c = c .before .loop .inv .counting .stands .coefs-long ∙ sym (c .before .before .before .before .before .before .before .before .before .before .before .before .before .before .pre .1 .coefs-long)
 
--- src/run.rt:50:1
 same-length-11 : tie.Need-same-length-11 Inv-loop μ-loop
-same-length-11 c = c .before .loop .inv .out-long
+same-length-11 c = c .before .loop .inv .work .words-long ∙ sym (c .before .before .before .before .before .before .before .before .before .before .before .before .before .before .pre .1 .work .words-long)
 
--- src/run.rt:50:1
 same-length-12 : tie.Need-same-length-12 Inv-loop μ-loop
-same-length-12 c = c .before .loop .inv .coefs-out-long
+same-length-12 c = c .before .loop .inv .work .coefs-long ∙ sym (c .before .before .before .before .before .before .before .before .before .before .before .before .before .before .pre .1 .work .coefs-long)
 
--- src/run.rt:50:1
+same-length-13 : tie.Need-same-length-13 Inv-loop μ-loop
+same-length-13 c = c .before .loop .inv .out-long
+
+same-length-14 : tie.Need-same-length-14 Inv-loop μ-loop
+same-length-14 c = c .before .loop .inv .coefs-out-long
+
 returns-2 : tie.Need-returns-2 Inv-loop μ-loop
-returns-2 c = going-end (c .before .before .before .before .before .before .before .before .before .before .before .before .before .pre .0) (c .before .loop .inv) (inl (c .loop-test .left))
+returns-2 c = going-end (c .before .before .before .before .before .before .before .before .before .before .before .before .before .before .pre .0) (c .before .loop .inv) (inl (c .loop-test .left))
 
 pub operate-all-spec : {M : Type 1} → statement M
 operate-all-spec =
@@ -140,11 +121,13 @@ operate-all-spec =
     same-length-4
     same-length-5
     same-length-6
-    returns
     same-length-7
+    returns
     same-length-8
     same-length-9
     same-length-10
     same-length-11
     same-length-12
+    same-length-13
+    same-length-14
     returns-2)

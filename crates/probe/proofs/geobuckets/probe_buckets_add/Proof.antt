@@ -3,54 +3,36 @@ use borrow.Author.Needs.{needs}
 use Rattle.probe.proofs.geobuckets.probe_buckets_add.Statement.{statement}
 use Rattle.probe.proofs.geobuckets.probe_buckets_add.Tie as tie
 
--- src/geobuckets.rt:72:17
 order-of-requires : tie.Need-order-of-requires
 order-of-requires c κs = search needs
 
--- src/geobuckets.rt:72:37
-load-requires : tie.Need-load-requires
-load-requires c κs = search needs
-
--- src/geobuckets.rt:72:9
 add-requires : tie.Need-add-requires
-add-requires c κs = rw (c .before .before .before .before .before .before .order-of .ensures, c .before .before .before .before .load .ensures) (c .before .before .before .before .before .before .before .before .before .before .before .before .before .before .pre .1)
+add-requires c κs = rw (c .before .before .before .before .before .order-of .ensures) (c .before .before .before .before .before .before .before .before .before .before .before .before .before .pre)
 
--- src/geobuckets.rt:73:5
-save-requires : tie.Need-save-requires
-save-requires c κs = search needs
-
--- src/geobuckets.rt:58:1
 same-length : tie.Need-same-length
 same-length c = search needs
 
--- src/geobuckets.rt:58:1
 same-length-2 : tie.Need-same-length-2
 same-length-2 c = search needs
 
--- src/geobuckets.rt:58:1
 same-length-3 : tie.Need-same-length-3
 same-length-3 c = search needs
 
--- src/geobuckets.rt:58:1
 same-length-4 : tie.Need-same-length-4
 same-length-4 c = search needs
 
--- src/geobuckets.rt:58:1
 same-length-5 : tie.Need-same-length-5
 same-length-5 c = search needs
 
--- src/geobuckets.rt:58:1
 returns : tie.Need-returns
-returns c = rw (← c .before .before .before .before .before .before .before .before .before .before .before .before .before .before .before .before .before .before .before .order-of .ensures, ← c .before .before .before .before .before .before .before .before .before .before .before .before .before .before .before .before .before .load .ensures) (c .before .before .before .before .before .before .before .before .before .before .before .before .add .ensures .count-is)
+returns c = rw (← c .before .before .before .before .before .before .before .before .before .before .before .before .before .before .before .before .order-of .ensures) (c .before .before .before .before .before .before .before .before .before .before .add .ensures .count-is)
 
 pub probe-buckets-add-spec : {M : Type 1} → statement M
 probe-buckets-add-spec =
     tie.close
     (tie.spec
     order-of-requires
-    load-requires
     add-requires
-    save-requires
     same-length
     same-length-2
     same-length-3

@@ -4,7 +4,7 @@ use Prim.Native.Nat.{ℕ, _<_, _≤_}
 use native.Mathlib.Omega.{arith}
 use borrow.Author.Needs.{needs}
 use denote.Ref.{now}
-use lib.ListN.{length, getD}
+use lib.ListN.{length}
 use Rattle.monomial.specs.Words.{compareWords}
 use Rattle.monomial.proofs.OrderLaws.{words-order}
 use Rattle.geobucket.specs.Buckets.{held}
@@ -14,82 +14,70 @@ use Rattle.search.proofs.lead.find_lead.Statement.{statement}
 use Rattle.search.proofs.lead.find_lead.Tie as tie
 
 abbrev Inv-loop : tie.InvT-loop
-Inv-loop order p sw sc₀ b₀ n₀ i₀ sc b n i = Finds (compareWords order) p (bucketsIn b₀ sw sc₀) sw b n sc i
+Inv-loop order p b₀ sw sc₀ n₀ i₀ b sc n i = Finds (compareWords order) p (bucketsIn b₀ sw sc₀) sw b n sc i
 
 abbrev μ-loop : tie.MeasureT-loop
-μ-loop order p sw sc₀ b₀ n₀ i₀ sc b n i = held (bucketsIn b sw sc)
+μ-loop order p b₀ sw sc₀ n₀ i₀ b sc n i = held (bucketsIn b sw sc)
 
--- src/lead.rt:26:9
 first-held-requires : tie.Need-first-held-requires Inv-loop μ-loop
-first-held-requires c κs = search needs
+first-held-requires c κs = c .before .before .before .before .pre .laid .twelve
 
--- src/lead.rt:27:5
 loop-holds : tie.Need-loop-holds Inv-loop μ-loop
-loop-holds c = finds-start (c .before .before .before .pre) (c .first-held .ensures)
+loop-holds c = finds-start (c .before .before .before .before .before .pre) (c .first-held .ensures)
 
--- src/lead.rt:28:18
 mul-at : tie.Need-mul-at Inv-loop μ-loop
 mul-at c = search needs
 
--- src/lead.rt:28:18
-element-copy-out-at : tie.Need-element-copy-out-at Inv-loop μ-loop
-element-copy-out-at c = search needs
+slice-read-at : tie.Need-slice-read-at Inv-loop μ-loop
+slice-read-at c = omega (arith, c .before .before .loop .inv .laid .twelve)
 
--- src/lead.rt:31:19
-mul-t15 : tie.Need-mul-t15 Inv-loop μ-loop
-mul-t15 c = omega (arith, first-head (c .before .before .loop .inv) (words-order (c .before .before .before .before .before .before .args .order)) (c .before .loop-test .taken))
+mul-t14 : tie.Need-mul-t14 Inv-loop μ-loop
+mul-t14 c = omega (arith, first-head (c .before .before .loop .inv) (words-order (c .before .before .before .before .before .before .before .before .args .order)) (c .before .loop-test .taken))
 
--- src/lead.rt:31:19
-shared-slice-read-t20 : tie.Need-shared-slice-read-t20 Inv-loop μ-loop
-shared-slice-read-t20 c = omega (arith, first-head (c .before .before .before .loop .inv) (words-order (c .before .before .before .before .before .before .before .args .order)) (c .before .before .loop-test .taken), c .before .before .before .loop .inv .words-long)
+shared-slice-read-t18 : tie.Need-shared-slice-read-t18 Inv-loop μ-loop
+shared-slice-read-t18 c = omega (arith, first-head (c .before .before .before .loop .inv) (words-order (c .before .before .before .before .before .before .before .before .before .args .order)) (c .before .before .loop-test .taken), c .before .before .before .loop .inv .words-long)
 
--- src/lead.rt:32:19
-mul-t18 : tie.Need-mul-t18 Inv-loop μ-loop
-mul-t18 c = omega (arith, first-head (c .before .before .before .loop .inv) (words-order (c .before .before .before .before .before .before .before .args .order)) (c .before .before .loop-test .taken))
+mul-t16 : tie.Need-mul-t16 Inv-loop μ-loop
+mul-t16 c = omega (arith, first-head (c .before .before .before .loop .inv) (words-order (c .before .before .before .before .before .before .before .before .before .args .order)) (c .before .before .loop-test .taken))
 
--- src/lead.rt:32:19
-slice-read-t22 : tie.Need-slice-read-t22 Inv-loop μ-loop
-slice-read-t22 c = omega (arith, first-head (c .before .before .before .before .loop .inv) (words-order (c .before .before .before .before .before .before .before .before .args .order)) (c .before .before .before .loop-test .taken), c .before .before .before .before .loop .inv .coefs-long)
+slice-read-t20 : tie.Need-slice-read-t20 Inv-loop μ-loop
+slice-read-t20 c = omega (arith, first-head (c .before .before .before .before .loop .inv) (words-order (c .before .before .before .before .before .before .before .before .before .before .args .order)) (c .before .before .before .loop-test .taken), c .before .before .before .before .loop .inv .coefs-long)
 
--- src/lead.rt:35:13
 seek-requires : tie.Need-seek-requires Inv-loop μ-loop
-seek-requires c κs = seek-asks (c .before .before .before .before .before .loop .inv) (words-order (c .before .before .before .before .before .before .before .before .before .args .order)) (c .before .before .before .before .loop-test .taken)
+seek-requires c κs = seek-asks (c .before .before .before .before .before .before .loop .inv) (words-order (c .before .before .before .before .before .before .before .before .before .before .before .before .args .order)) (c .before .before .before .before .before .loop-test .taken)
 
--- src/lead.rt:38:13
 same-length : tie.Need-same-length Inv-loop μ-loop
-same-length c = search needs
+same-length c = c .before .before .before .before .before .before .seek .ensures .laid .twelve ∙ sym (c .before .before .before .before .before .before .before .before .before .before .before .before .before .before .before .before .before .before .before .pre .laid .twelve)
 
--- src/lead.rt:38:13
+same-length-2 : tie.Need-same-length-2 Inv-loop μ-loop
+same-length-2 c = c .before .before .before .before .before .before .seek .ensures .coefs-long ∙ sym (c .before .before .before .before .before .before .before .before .before .before .before .before .before .before .before .before .before .before .before .pre .coefs-long)
+
 returns : tie.Need-returns Inv-loop μ-loop
-returns c = find-lead (c .before .before .before .before .before .before .before .before .before .before .before .loop .inv) (words-order (c .before .before .before .before .before .before .before .before .before .before .before .before .before .before .before .args .order)) (c .before .before .before .before .before .before .before .before .before .before .loop-test .taken) (c .before .before .before .before .before .seek .ensures) (c .if1 .taken)
+returns c = find-lead (c .before .before .before .before .before .before .before .before .before .before .before .before .before .loop .inv) (words-order (c .before .before .before .before .before .before .before .before .before .before .before .before .before .before .before .before .before .before .before .args .order)) (c .before .before .before .before .before .before .before .before .before .before .before .before .loop-test .taken) (c .before .before .before .before .before .before .seek .ensures) (c .if1 .taken)
 
--- src/lead.rt:40:13
 remove-lead-requires : tie.Need-remove-lead-requires Inv-loop μ-loop
-remove-lead-requires c κs = removal (c .before .before .before .before .before .before .before .before .before .before .before .loop .inv) (words-order (c .before .before .before .before .before .before .before .before .before .before .before .before .before .before .before .args .order)) (c .before .before .before .before .before .before .before .before .before .before .loop-test .taken) (c .before .before .before .before .before .seek .ensures)
+remove-lead-requires c κs = removal (c .before .before .before .before .before .before .before .before .before .before .before .before .before .before .loop .inv) (words-order (c .before .before .before .before .before .before .before .before .before .before .before .before .before .before .before .before .before .before .before .before .args .order)) (c .before .before .before .before .before .before .before .before .before .before .before .before .before .loop-test .taken) (c .before .before .before .before .before .before .before .seek .ensures)
 
--- src/lead.rt:42:9
 first-held-requires-2 : tie.Need-first-held-requires-2 Inv-loop μ-loop
-first-held-requires-2 c κs = search needs
+first-held-requires-2 c κs = omega (arith, c .before .before .before .remove-lead .kept .0, c .before .before .before .before .before .before .before .before .before .before .before .seek .ensures .laid .twelve)
 
--- src/lead.rt:27:5
 loop-less : tie.Need-loop-less Inv-loop μ-loop
-loop-less c = fewer-held (c .before .before .before .before .before .before .before .before .before .before .before .before .before .loop .inv) (words-order (c .before .before .before .before .before .before .before .before .before .before .before .before .before .before .before .before .before .args .order)) (c .before .before .before .before .before .before .before .before .before .before .before .before .loop-test .taken) (c .before .before .before .before .before .before .before .seek .ensures) (c .before .remove-lead .ensures)
+loop-less c = fewer-held (c .before .before .before .before .before .before .before .before .before .before .before .before .before .before .before .before .before .before .before .loop .inv) (words-order (c .before .before .before .before .before .before .before .before .before .before .before .before .before .before .before .before .before .before .before .before .before .before .before .before .before .args .order)) (c .before .before .before .before .before .before .before .before .before .before .before .before .before .before .before .before .before .before .loop-test .taken) (c .before .before .before .before .before .before .before .before .before .before .before .before .seek .ensures) (c .before .before .before .before .remove-lead .ensures)
 
--- src/lead.rt:27:5
 loop-again : tie.Need-loop-again Inv-loop μ-loop
-loop-again c = find-again (c .before .before .before .before .before .before .before .before .before .before .before .before .before .loop .inv) (words-order (c .before .before .before .before .before .before .before .before .before .before .before .before .before .before .before .before .before .args .order)) (c .before .before .before .before .before .before .before .before .before .before .before .before .loop-test .taken) (c .before .before .before .before .before .before .before .seek .ensures) (c .before .remove-lead .ensures) (c .before .before .if1 .left) (c .first-held2 .ensures)
+loop-again c = find-again (c .before .before .before .before .before .before .before .before .before .before .before .before .before .before .before .before .before .before .before .loop .inv) (words-order (c .before .before .before .before .before .before .before .before .before .before .before .before .before .before .before .before .before .before .before .before .before .before .before .before .before .args .order)) (c .before .before .before .before .before .before .before .before .before .before .before .before .before .before .before .before .before .before .loop-test .taken) (c .before .before .before .before .before .before .before .before .before .before .before .before .seek .ensures) (c .before .before .before .before .remove-lead .ensures) (c .before .before .before .before .before .before .if1 .left) (c .first-held2 .ensures)
 
--- src/lead.rt:46:20
 none-requires : tie.Need-none-requires Inv-loop μ-loop
 none-requires c κs = search needs
 
--- src/lead.rt:20:1
-same-length-2 : tie.Need-same-length-2 Inv-loop μ-loop
-same-length-2 c = search needs
+same-length-3 : tie.Need-same-length-3 Inv-loop μ-loop
+same-length-3 c = c .before .before .loop .inv .laid .twelve ∙ sym (c .before .before .before .before .before .before .before .before .pre .laid .twelve)
 
--- src/lead.rt:20:1
+same-length-4 : tie.Need-same-length-4 Inv-loop μ-loop
+same-length-4 c = c .before .before .loop .inv .coefs-long ∙ sym (c .before .before .before .before .before .before .before .before .pre .coefs-long)
+
 returns-2 : tie.Need-returns-2 Inv-loop μ-loop
-returns-2 c = find-none (c .before .before .loop .inv) (words-order (c .before .before .before .before .before .before .args .order)) (c .before .loop-test .left) (c .none .ensures)
+returns-2 c = find-none (c .before .before .loop .inv) (words-order (c .before .before .before .before .before .before .before .before .args .order)) (c .before .loop-test .left) (c .none .ensures)
 
 pub find-lead-spec : {M : Type 1} → statement M
 find-lead-spec =
@@ -100,18 +88,20 @@ find-lead-spec =
     first-held-requires
     loop-holds
     mul-at
-    element-copy-out-at
-    mul-t15
-    shared-slice-read-t20
-    mul-t18
-    slice-read-t22
+    slice-read-at
+    mul-t14
+    shared-slice-read-t18
+    mul-t16
+    slice-read-t20
     seek-requires
     same-length
+    same-length-2
     returns
     remove-lead-requires
     first-held-requires-2
     loop-less
     loop-again
     none-requires
-    same-length-2
+    same-length-3
+    same-length-4
     returns-2)

@@ -1,51 +1,50 @@
 -- `search::lead::remove_lead` meets its contract. Assumes nothing.
 use native.Mathlib.Omega.{arith}
 use Rattle.space.proofs.SpaceLaws.{head-in}
+use lib.ListN.{length-set}
 use borrow.Author.Needs.{needs}
 use Rattle.search.proofs.lead.remove_lead.Statement.{statement}
 use Rattle.search.proofs.lead.remove_lead.Tie as tie
 
--- src/lead.rt:116:16
 mul-head : tie.Need-mul-head
 mul-head c = search needs
 
--- src/lead.rt:116:16
-element-copy-out-head : tie.Need-element-copy-out-head
-element-copy-out-head c = search needs
+slice-read-head : tie.Need-slice-read-head
+slice-read-head c = omega (arith, c .before .pre .laid .twelve, c .before .pre .within)
 
--- src/lead.rt:117:15
+add-len : tie.Need-add-len
+add-len c = search needs
+
 mul-len : tie.Need-mul-len
 mul-len c = search needs
 
--- src/lead.rt:117:15
-element-copy-out-len : tie.Need-element-copy-out-len
-element-copy-out-len c = search needs
+slice-read-len : tie.Need-slice-read-len
+slice-read-len c = omega (arith, c .before .before .pre .laid .twelve, c .before .before .pre .within)
 
--- src/lead.rt:118:17
 add-b : tie.Need-add-b
 add-b c = let k = c .before .before .pre in omega (arith, head-in _ _ (k .laid) (k .within) (k .some))
 
--- src/lead.rt:118:5
 mul-b : tie.Need-mul-b
 mul-b c = search needs
 
--- src/lead.rt:118:5
-element-write-b : tie.Need-element-write-b
-element-write-b c = search needs
+slice-write-b : tie.Need-slice-write-b
+slice-write-b c = omega (arith, c .before .before .pre .laid .twelve, c .before .before .pre .within)
 
--- src/lead.rt:119:16
 sub-b : tie.Need-sub-b
 sub-b c = search needs
 
--- src/lead.rt:119:5
+add-b-2 : tie.Need-add-b-2
+add-b-2 c = search needs
+
 mul-b-2 : tie.Need-mul-b-2
 mul-b-2 c = search needs
 
--- src/lead.rt:119:5
-element-write-b-2 : tie.Need-element-write-b-2
-element-write-b-2 c = search needs
+slice-write-b-2 : tie.Need-slice-write-b-2
+slice-write-b-2 c = simp length-set (omega (arith, c .before .before .pre .laid .twelve, c .before .before .pre .within))
 
--- src/lead.rt:111:1
+same-length : tie.Need-same-length
+same-length c = search needs
+
 returns : tie.Need-returns
 returns c = search needs
 
@@ -54,13 +53,16 @@ remove-lead-spec =
     tie.close
     (tie.spec
     mul-head
-    element-copy-out-head
+    slice-read-head
+    add-len
     mul-len
-    element-copy-out-len
+    slice-read-len
     add-b
     mul-b
-    element-write-b
+    slice-write-b
     sub-b
+    add-b-2
     mul-b-2
-    element-write-b-2
+    slice-write-b-2
+    same-length
     returns)

@@ -11,29 +11,32 @@ use Rattle.space.proofs.settle.clear_coefs.Reads as clear-coefs-reads
 use Rattle.space.proofs.settle.pull_coefs.Reads as pull-coefs-reads
 
 abbrev Inv-loop : tie.InvT-loop
-Inv-loop s₀ b i₀ start₀ cap₀ s i start cap = Settling b s₀ s i start cap
+Inv-loop b s₀ i₀ start₀ cap₀ s i start cap = Settling b s₀ s i start cap
 
 abbrev μ-loop : tie.MeasureT-loop
-μ-loop s₀ b i₀ start₀ cap₀ s i start cap = 6 - i
+μ-loop b s₀ i₀ start₀ cap₀ s i start cap = 6 - i
 
 -- bucket i fits where it is settled
-room : (t : tie.In-loop Inv-loop μ-loop) → let h = t .before in let x = h .before .before .args in Fits (x .t1) (h .loop .s) (h .loop .i) (h .loop .start) (h .loop .cap)
-room t = let h = t .before in let z = h .before .before in fits (h .loop .inv) (z .pre .1) (z .pre .0) (t .loop-test .taken)
+room : (t : tie.In-loop Inv-loop μ-loop) → let h = t .before in let x = h .before .before .before .args in Fits (x .b .now) (h .loop .s) (h .loop .i) (h .loop .start) (h .loop .cap)
+room t = let h = t .before in let z = h .before .before .before in fits (h .loop .inv) (z .pre .1) (z .pre .0) (t .loop-test .taken)
 
 loop-holds : tie.Need-loop-holds Inv-loop μ-loop
 loop-holds c = settling-none _ _
 
+add-n : tie.Need-add-n Inv-loop μ-loop
+add-n c = search needs
+
 mul-n : tie.Need-mul-n Inv-loop μ-loop
 mul-n c = search needs
 
-element-copy-out-n : tie.Need-element-copy-out-n Inv-loop μ-loop
-element-copy-out-n c = search needs
+shared-slice-read-n : tie.Need-shared-slice-read-n Inv-loop μ-loop
+shared-slice-read-n c = omega (arith, c .before .before .before .before .before .pre .0 .twelve)
 
 mul-pull-coefs : tie.Need-mul-pull-coefs Inv-loop μ-loop
 mul-pull-coefs c = search needs
 
-element-copy-out-pull-coefs : tie.Need-element-copy-out-pull-coefs Inv-loop μ-loop
-element-copy-out-pull-coefs c = search needs
+shared-slice-read-pull-coefs : tie.Need-shared-slice-read-pull-coefs Inv-loop μ-loop
+shared-slice-read-pull-coefs c = omega (arith, c .before .before .before .before .before .before .before .pre .0 .twelve)
 
 pull-coefs-requires : tie.Need-pull-coefs-requires Inv-loop μ-loop
 pull-coefs-requires c κs = let r = room (c .before .before .before) in (r .within, r .low)
@@ -60,13 +63,13 @@ loop-less : tie.Need-loop-less Inv-loop μ-loop
 loop-less c = search needs
 
 loop-again : tie.Need-loop-again Inv-loop μ-loop
-loop-again c = let t = c .before .before .before .before .before .before .before .before .before .before in let h = t .before in let z = h .before .before in settling-more (h .loop .inv) (z .pre .1) (z .pre .0) (t .loop-test .taken) (c .before .before .before .before .before .before .pull-coefs .ensures) (c .before .before .clear-coefs .ensures)
+loop-again c = let t = c .before .before .before .before .before .before .before .before .before .before in let h = t .before in let z = h .before .before .before in settling-more (h .loop .inv) (z .pre .1) (z .pre .0) (t .loop-test .taken) (c .before .before .before .before .before .before .pull-coefs .ensures) (c .before .before .clear-coefs .ensures)
 
 same-length : tie.Need-same-length Inv-loop μ-loop
 same-length c = search needs
 
 returns : tie.Need-returns Inv-loop μ-loop
-returns c = let h = c .before in let z = h .before .before in settling-all (h .loop .inv) (z .pre .1) (omega arith)
+returns c = let h = c .before in let z = h .before .before .before in settling-all (h .loop .inv) (z .pre .1) (omega arith)
 
 pub settle-coefs-spec : {M : Type 1} → statement M
 settle-coefs-spec =
@@ -75,10 +78,11 @@ settle-coefs-spec =
     Inv-loop
     μ-loop
     loop-holds
+    add-n
     mul-n
-    element-copy-out-n
+    shared-slice-read-n
     mul-pull-coefs
-    element-copy-out-pull-coefs
+    shared-slice-read-pull-coefs
     pull-coefs-requires
     add-clear-coefs
     sub-clear-coefs
