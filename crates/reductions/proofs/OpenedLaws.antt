@@ -19,6 +19,7 @@ use Rattle.space.specs.Space.{listFrom}
 use Rattle.opening.specs.Reduction.{ReductionOpened}
 use Rattle.division.specs.Divisors.{Valid, AllOf}
 use Rattle.engine.specs.Runs.{polynomial}
+use Rattle.space.specs.Space.{noBuckets}
 use Rattle.engine.specs.States.{Lent}
 use Rattle.reducer.specs.Divisors.{divisorsOf}
 use Rattle.reducer.specs.Stepping.{Reducible}
@@ -65,5 +66,5 @@ module _ {p order n : ℕ} {words coefs ss : List ℕ} {steps lbw lbc lww lwc lo
     few-steps = o .few-steps;
   }
 
-pub spaces : {p order n : ℕ} {words coefs ss : List ℕ} {steps : ℕ} (bw bc ww wc ow oc : List ℕ) → ReductionOpened p order n words coefs ss steps (length bw) (length bc) (length ww) (length wc) (length ow) (length oc) → Lent bw bc ww wc ow oc
-spaces bw bc ww wc ow oc o = record { words-long = o .bucket-words; coefs-long = o .bucket-coefs; work = record { words-long = o .work-words; coefs-long = o .work-coefs }; same-long = sym (o .output) }
+pub spaces : {p order n : ℕ} {words coefs ss : List ℕ} {steps : ℕ} (bw bc ww wc ow oc : List ℕ) → ReductionOpened p order n words coefs ss steps (length bw) (length bc) (length ww) (length wc) (length ow) (length oc) → Lent noBuckets bw bc ww wc ow oc
+spaces bw bc ww wc ow oc o = record { none = refl; words-long = o .bucket-words; coefs-long = o .bucket-coefs; work = record { words-long = o .work-words; coefs-long = o .work-coefs }; same-long = sym (o .output) }

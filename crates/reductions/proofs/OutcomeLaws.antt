@@ -8,7 +8,7 @@ use Rattle.monomial.specs.declared.order.Order.{Order}
 use Rattle.polynomial.specs.Terms.{Term}
 use Rattle.polynomial.specs.Terms as T
 use Rattle.geobucket.specs.Buckets.{held}
-use Rattle.space.specs.Space.{bucketsIn, heldIn, laidOut, AtReturn}
+use Rattle.space.specs.Space.{Buckets, bucketsIn, heldIn, laidOut, AtReturn}
 use Rattle.space.proofs.SpaceLaws.{held-lens}
 use Rattle.division.specs.Steps.{Reduction, reductionOfWords}
 use Rattle.engine.specs.Runs.{polynomial}
@@ -33,10 +33,10 @@ pub decided-none : (r : ℕ) (tally : Tally) (t : Reduction ℕ) (bw bc ww wc ow
 decided-none r tally t bw bc ww wc ow oc e = ap (λ (x : ℕ). decidedBy x tally t bw bc ww wc ow oc) e
 
 -- a reduction that finished or was stopped
-pub ended-as : {o : Order} {p : ℕ} {words coefs starts : List ℕ} {limit : ℕ} {ow₀ oc₀ : List ℕ} {s : State} {bw bc ow oc : List ℕ} → S.Reduced o p words coefs starts limit ow₀ oc₀ s bw bc ow oc
-    → {bw' bc' ww' wc' : List ℕ} → AtReturn (bucketsIn (s .buckets) bw bc) bw' bc' ww' wc' → {q : Reduced} → q ≡ reducedOf s
+pub ended-as : {o : Order} {p : ℕ} {words coefs starts : List ℕ} {limit : ℕ} {ow₀ oc₀ : List ℕ} {s : State} {b : Buckets} {bw bc ow oc : List ℕ} → S.Reduced o p words coefs starts limit ow₀ oc₀ s b bw bc ow oc
+    → {bw' bc' ww' wc' : List ℕ} → AtReturn (bucketsIn b bw bc) bw' bc' ww' wc' → {q : Reduced} → q ≡ reducedOf s b
     → _≡_ {A = ReductionOutcome} (record { answer = q .answer; tally = q .tally; bw = bw'; bc = bc'; ww = ww'; wc = wc'; ow = ow; oc = oc }) (ended (reductionOfWords o p (divisorsOf words coefs starts) (length ow₀) limit (polynomial words coefs starts 0)) ow₀ oc₀)
-ended-as {o} {p} {words} {coefs} {starts} {limit} {ow₀} {oc₀} {s} {bw} {bc} {ow} {oc} r {bw'} {bc'} {ww'} {wc'} a {q} e =
+ended-as {o} {p} {words} {coefs} {starts} {limit} {ow₀} {oc₀} {s} {b} {bw} {bc} {ow} {oc} r {bw'} {bc'} {ww'} {wc'} a {q} e =
     let R = reductionOfWords o p (divisorsOf words coefs starts) (length ow₀) limit (polynomial words coefs starts 0) in
     let st = r .stands in
     let d = r .ended in
@@ -46,12 +46,12 @@ ended-as {o} {p} {words} {coefs} {starts} {limit} {ow₀} {oc₀} {s} {bw} {bc} 
     let et : s .terms ≡ length (R .remainder) = sym (written-long (r .output)) ∙ ap length er in
     let es = d .stop-is in
     let el = d .leads-are in
-    let eb : bucketsIn (s .buckets) bw bc ≡ R .work .buckets = c .buckets-are in
+    let eb : bucketsIn b bw bc ≡ R .work .buckets = c .buckets-are in
     let ec = c .comparisons-are in
     let ei = c .brought-are in
-    let eh : heldIn (s .buckets .len) ≡ held (bucketsIn (s .buckets) bw bc) = sym (held-lens (s .buckets) (st .laid) bw bc (st .words-long) (st .coefs-long)) in
+    let eh : heldIn b ≡ held (bucketsIn b bw bc) = sym (held-lens b (st .laid) bw bc (st .words-long) (st .coefs-long)) in
     let ea : q .answer ≡ answerBy (eqb (s .stop) 0) (s .stop) (s .leads) (s .terms) = ap (λ (x : Reduced). x .answer) e in
-    let ey : q .tally ≡ record { comparisons = s .comparisons; brought = s .brought; given = s .terms; held = heldIn (s .buckets .len) } = ap (λ (x : Reduced). x .tally) e in
+    let ey : q .tally ≡ record { comparisons = s .comparisons; brought = s .brought; given = s .terms; held = heldIn b } = ap (λ (x : Reduced). x .tally) e in
     let ebw = a .words-are in
     let ebc = a .coefs-are in
     let eww = a .work-words in
@@ -61,5 +61,5 @@ ended-as {o} {p} {words} {coefs} {starts} {limit} {ow₀} {oc₀} {s} {bw} {bc} 
     cc
 
 -- the order is the one of its number
-pub in-order : {o o' : Order} {p : ℕ} {words coefs starts : List ℕ} {limit : ℕ} {ow₀ oc₀ : List ℕ} {s : State} {bw bc ow oc : List ℕ} → o ≡ o' → S.Reduced o p words coefs starts limit ow₀ oc₀ s bw bc ow oc → S.Reduced o' p words coefs starts limit ow₀ oc₀ s bw bc ow oc
-in-order {p = p} {words = words} {coefs = coefs} {starts = starts} {limit = limit} {ow₀ = ow₀} {oc₀ = oc₀} {s = s} {bw = bw} {bc = bc} {ow = ow} {oc = oc} e r = subst (λ (x : Order). S.Reduced x p words coefs starts limit ow₀ oc₀ s bw bc ow oc) e r
+pub in-order : {o o' : Order} {p : ℕ} {words coefs starts : List ℕ} {limit : ℕ} {ow₀ oc₀ : List ℕ} {s : State} {b : Buckets} {bw bc ow oc : List ℕ} → o ≡ o' → S.Reduced o p words coefs starts limit ow₀ oc₀ s b bw bc ow oc → S.Reduced o' p words coefs starts limit ow₀ oc₀ s b bw bc ow oc
+in-order {p = p} {words = words} {coefs = coefs} {starts = starts} {limit = limit} {ow₀ = ow₀} {oc₀ = oc₀} {s = s} {b = b} {bw = bw} {bc = bc} {ow = ow} {oc = oc} e r = subst (λ (x : Order). S.Reduced x p words coefs starts limit ow₀ oc₀ s b bw bc ow oc) e r

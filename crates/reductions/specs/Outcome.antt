@@ -7,7 +7,7 @@ use lib.ListN.{length, drop, replicate}
 use Rattle.monomial.specs.Exponents.{orderOf}
 use Rattle.polynomial.specs.Terms as T
 use Rattle.geobucket.specs.Buckets.{held}
-use Rattle.space.specs.Space.{heldIn, laidOut}
+use Rattle.space.specs.Space.{Buckets, heldIn, laidOut}
 use Rattle.opening.specs.Reduction.{reductionRefusal}
 use Rattle.opening.specs.Refusals.{refusalNamed}
 use Rattle.division.specs.Steps.{Reduction, reductionOfWords}
@@ -68,8 +68,8 @@ reductionOutcome tally p order n words coefs starts limit bw bc ww wc ow oc =
 abbrev pub refusedWith : ℕ → Tally → Reduced
 refusedWith number tally = record { answer = Refused (refusalNamed number) 0; tally = tally }
 
-abbrev pub reducedOf : State → Reduced
-reducedOf s = record {
+abbrev pub reducedOf : State → Buckets → Reduced
+reducedOf s b = record {
   answer = answerBy (eqb (s .stop) 0) (s .stop) (s .leads) (s .terms);
-  tally = record { comparisons = s .comparisons; brought = s .brought; given = s .terms; held = heldIn (s .buckets .len) };
+  tally = record { comparisons = s .comparisons; brought = s .brought; given = s .terms; held = heldIn b };
 }

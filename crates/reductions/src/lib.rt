@@ -65,6 +65,8 @@ pub fn reduce<'a>(
     if number != 0 {
         return refused(number, tally);
     }
+    // Empty buckets, each at its start.
+    let mut b: [usize; 12] = [0, 4, 20, 84, 340, 1364, 0, 0, 0, 0, 0, 0];
     let s = reduce_all(
         order_of(order),
         p,
@@ -72,6 +74,7 @@ pub fn reduce<'a>(
         coefs,
         starts,
         limit,
+        &mut b,
         bw,
         bc,
         ww,
@@ -79,8 +82,8 @@ pub fn reduce<'a>(
         ow,
         oc,
     );
-    settle(s.buckets, bw, bc, ww, wc);
-    ended(s)
+    settle(&b, bw, bc, ww, wc);
+    ended(s, &b)
 }
 
 // What an opening refusal gives.
@@ -94,16 +97,16 @@ fn refused(number: u32, tally: Tally) -> Reduced
     Reduced { answer, tally }
 }
 
-// What a reduction gives, from its last state.
-fn ended(s: State) -> Reduced
-    requires { ⌜ Laid (s .buckets) ⌝ }
-    ensures { λ r. ⌜ r ≡ reducedOf s ⌝ }
+// What a reduction gives, from its last state and its buckets.
+fn ended(s: State, b: &[usize]) -> Reduced
+    requires { ⌜ Laid (now b) ⌝ }
+    ensures { λ r. ⌜ r ≡ reducedOf s (now (b .entry)) ⌝ }
 {
     let tally = Tally {
         comparisons: s.comparisons,
         brought: s.brought,
         given: s.terms as u64,
-        held: held(s.buckets) as u64,
+        held: held(b) as u64,
     };
     if s.stop == 0 {
         let answer = Answer::Done {
