@@ -301,6 +301,7 @@ pub fn any_over(q: u64, words: &[u64]) -> bool {
 /// Puts the polynomial times c·q modulo p into the output from `to` on.
 pub fn put_multiple(p: u32, (c, q): (u32, u64), f: Lent, (ow, oc): LentMut, to: usize) {
     ask_polynomial(p, f);
+    assert!(p <= residue::FACTOR_LIMIT, "not a factor's modulus");
     assert!(c < p, "not below the modulus");
     ask_packed(q);
     f.0.iter().for_each(|&w| ask_packed(w));

@@ -3,6 +3,9 @@
 /// The largest modulus that the proved functions take.
 pub const LIMIT: u32 = 2_147_483_647;
 
+/// The largest modulus that a prepared factor takes.
+pub const FACTOR_LIMIT: u32 = 65_536;
+
 /// Whether p is prime: no number from 2 up to the root divides it.
 pub fn is_prime(p: u32) -> bool {
     let p = u64::from(p);

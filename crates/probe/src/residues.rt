@@ -8,7 +8,7 @@ use residue::inverse::invert;
 use residue::prime::is_prime;
 ghost use mathlib.Core.Path.{_≡_};
 ghost use mathlib.Core.Bool.{cond, _&&_};
-ghost use lib.Dec.{ltb};
+ghost use lib.Dec.{leb, ltb};
 ghost use Rattle.residue.specs.Prime.{isPrime};
 ghost use Rattle.residue.specs.Modular.{sum, negative, product, inverseOf};
 ghost use Rattle.probe.specs.Answers.{able};
@@ -52,12 +52,15 @@ pub extern "C" fn probe_multiply_residues(a: u32, b: u32, p: u32) -> u32
     multiply(a, b, p)
 }
 
-// The same product, by the prepared factor a.
+// The same product, by the prepared factor a. u32::MAX also where p is over 2^16.
 #[no_mangle]
 pub extern "C" fn probe_factor_times(a: u32, b: u32, p: u32) -> u32
-    ensures { λ r. ⌜ r ≡ cond (able p a b) (product p a b) 4294967295 ⌝ }
+    ensures { λ r. ⌜ r ≡ cond (able p a b && leb p 65536) (product p a b) 4294967295 ⌝ }
 {
     if !takes(p, a, b) {
+        return REFUSED;
+    }
+    if p > 65536 {
         return REFUSED;
     }
     Factor::new(a, p).times(b)
