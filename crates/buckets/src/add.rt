@@ -44,11 +44,11 @@ pub fn add<'a>(
     let h = b[i];
     let n = b[6 + i];
     if n == 0 {
-        store(b, l, fw, fc, sw, sc);
+        store(b, l, &fw[..], &fc[..], sw, sc);
         return 0;
     }
     let e = h + n;
-    let m = merge(order, p, fw, fc, &sw[h..e], &sc[h..e], ww, wc);
+    let m = merge(order, p, &fw[..], &fc[..], &sw[h..e], &sc[h..e], ww, wc);
     let r = carry(order, p, b, l, sw, sc, ww, wc, m.len, m.comparisons);
     let from = r.from;
     let end = from + r.len;
