@@ -17,7 +17,7 @@ use Rattle.polynomial.specs.Opening.{isLarger}
 use Rattle.polynomial.proofs.TermLists.{lead-at}
 use Rattle.merge.specs.Lent.{Poly, restOf, flag, chosen}
 use Rattle.merge.specs.Merging.{Made}
-use Rattle.merge.proofs.State.{State, state-start, turn, one-flag, after-more, after-less, after-sum, after-cancel, more-by, less-by, same-by, rest-words, rest-coefs, used-up, word-past, coef-past, word-one, coef-one, end-words, end-coefs, end-length, end-count}
+use Rattle.merge.proofs.State.{State, state-start, turn, one-flag, rest-words, rest-coefs, used-up, word-past, coef-past, word-one, coef-one, end-words, end-coefs, end-length, end-count}
 use Rattle.merge.proofs.Steps.{Bounds, coef-within, chosen-below}
 
 -- a merge of two lists under way, of which i and j terms are used up
@@ -63,34 +63,6 @@ module _ {order : Order} {p : ℕ} {aw ac bw bc : List ℕ} {to : ℕ} {ow₀ oc
     turn-by-flags {l} {m} {e} {s = s} {z = z} {w = w} f eu ev es ez hz ew = record {
       bounds = simp length-set (omega (arith, one-of f, g .bounds));
       state = turn (terms aw ac) (terms bw bc) i j (g .state) (words-order order) (term x xc) (term y yc) x-lead y-lead x-within y-within l m e s z (f .x-larger) (f .y-larger) (f .both-like) (es ∙ ap₂ (λ (c d : ℕ). (c + d) % p) eu ev) ez w ew;
-    }
-
-    -- a turn by branches: l is 1 where x is larger
-    pub below-both : (xc < p) × (yc < p)
-    below-both = (x-within .1, y-within .1)
-
-    pub turn-more : {l : ℕ} → l ≡ flag (isLarger (compareWords order x y)) → l ≡ 1 → Going order p aw ac bw bc to ow₀ oc₀ (set ow k x) (set oc k xc) (i + 1) j (k + 1) (n + 1)
-    turn-more {l} el h = record {
-      bounds = simp length-set (omega (arith, g .bounds));
-      state = after-more (g .state) (words-order order) (term x xc) (term y yc) (drop (i + 1) (terms aw ac)) (drop (j + 1) (terms bw bc)) x-lead y-lead (more-by (compareWords order) x y l el h);
-    }
-
-    pub turn-less : {l : ℕ} → l ≡ flag (isLarger (compareWords order x y)) → (l ≡ 1 → ⊥) → (x ≡ y → ⊥) → Going order p aw ac bw bc to ow₀ oc₀ (set ow k y) (set oc k yc) i (j + 1) (k + 1) (n + 1)
-    turn-less {l} el h ne = record {
-      bounds = simp length-set (omega (arith, g .bounds));
-      state = after-less (g .state) (words-order order) (term x xc) (term y yc) (drop (i + 1) (terms aw ac)) (drop (j + 1) (terms bw bc)) x-lead y-lead (less-by (compareWords order) (words-order order) x y l el h ne);
-    }
-
-    pub turn-sum : {s : ℕ} → x ≡ y → s ≡ (xc + yc) % p → (s ≡ 0 → ⊥) → Going order p aw ac bw bc to ow₀ oc₀ (set ow k x) (set oc k s) (i + 1) (j + 1) (k + 1) (n + 1)
-    turn-sum {s} e es ne = record {
-      bounds = simp length-set (omega (arith, g .bounds));
-      state = after-sum (g .state) (words-order order) (term x xc) (term y yc) (drop (i + 1) (terms aw ac)) (drop (j + 1) (terms bw bc)) x-lead y-lead (same-by (compareWords order) (words-order order) x y e) s es ne;
-    }
-
-    pub turn-none : {s : ℕ} → x ≡ y → s ≡ (xc + yc) % p → s ≡ 0 → Going order p aw ac bw bc to ow₀ oc₀ ow oc (i + 1) (j + 1) k (n + 1)
-    turn-none e es z = record {
-      bounds = omega (arith, g .bounds);
-      state = after-cancel (g .state) (words-order order) (term x xc) (term y yc) (drop (i + 1) (terms aw ac)) (drop (j + 1) (terms bw bc)) x-lead y-lead (same-by (compareWords order) (words-order order) x y e) (sym z ∙ es);
     }
 
   -- at the end, what is left of one list is put

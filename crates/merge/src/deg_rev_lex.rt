@@ -68,58 +68,6 @@ pub fn by_flags<'a>(
     }
 }
 
-// The merge by branches.
-pub fn by_branches<'a>(
-    p: u32,
-    aw: &'a [u64],
-    ac: &'a [u32],
-    bw: &'a [u64],
-    bc: &'a [u32],
-    ow: &mut [u64],
-    oc: &mut [u32],
-) -> Merged
-    requires { ⌜ Sides p (now aw) (now ac) (now bw) (now bc) (now ow) (now oc) ⌝ }
-    ensures { λ r. ⌜ Made (compareWords DegRevLex) p (terms (now (aw .entry)) (now (ac .entry))) (terms (now (bw .entry)) (now (bc .entry))) 0 (now (ow .entry)) (now (oc .entry)) (now (ow .exit)) (now (oc .exit)) (r .len) (r .comparisons) ⌝ }
-{
-    let mut i = 0;
-    let mut j = 0;
-    let mut k = 0;
-    let mut m: u64 = 0;
-    while i < aw.len() && j < bw.len() {
-        let x = aw[i];
-        let y = bw[j];
-        m += 1;
-        if larger_word(x, y) == 1 {
-            ow[k] = x;
-            oc[k] = ac[i];
-            i += 1;
-            k += 1;
-        } else if x != y {
-            ow[k] = y;
-            oc[k] = bc[j];
-            j += 1;
-            k += 1;
-        } else {
-            let s = add(ac[i], bc[j], p);
-            i += 1;
-            j += 1;
-            if s != 0 {
-                ow[k] = x;
-                oc[k] = s;
-                k += 1;
-            }
-        }
-    }
-    let rw = rest_words(aw, i, bw, j);
-    let rc = rest_coefs(ac, i, bc, j);
-    put_words(rw, ow, k);
-    put_coefs(rc, oc, k);
-    Merged {
-        len: k + rw.len(),
-        comparisons: m,
-    }
-}
-
 // The merge within the work space, by flags.
 pub fn within(
     p: u32,

@@ -1,8 +1,13 @@
 // The merge of two lent polynomials into a lent output.
+use crate::copy::put_coefs;
+use crate::copy::put_words;
+use crate::copy::rest_coefs;
+use crate::copy::rest_words;
 use crate::deg_lex;
 use crate::deg_rev_lex;
 use crate::lex;
 use monomial::order::Order;
+use residue::arithmetic::add;
 ghost use mathlib.Core.Path.{_≡_};
 ghost use mathlib.Core.Bool.{not};
 ghost use Prim.Native.Nat.{_≤_};
@@ -77,10 +82,42 @@ fn merge_by_branches<'a>(
     requires { ⌜ Sides p (now aw) (now ac) (now bw) (now bc) (now ow) (now oc) ⌝ }
     ensures { λ r. ⌜ Made (compareWords order) p (terms (now (aw .entry)) (now (ac .entry))) (terms (now (bw .entry)) (now (bc .entry))) 0 (now (ow .entry)) (now (oc .entry)) (now (ow .exit)) (now (oc .exit)) (r .len) (r .comparisons) ⌝ }
 {
-    match order {
-        Order::Lex => lex::by_branches(p, aw, ac, bw, bc, ow, oc),
-        Order::DegLex => deg_lex::by_branches(p, aw, ac, bw, bc, ow, oc),
-        Order::DegRevLex => deg_rev_lex::by_branches(p, aw, ac, bw, bc, ow, oc),
+    let mut i = 0;
+    let mut j = 0;
+    let mut k = 0;
+    let mut m: u64 = 0;
+    while i < aw.len() && j < bw.len() {
+        let x = aw[i];
+        let y = bw[j];
+        m += 1;
+        if larger(order, x, y) == 1 {
+            ow[k] = x;
+            oc[k] = ac[i];
+            i += 1;
+            k += 1;
+        } else if x != y {
+            ow[k] = y;
+            oc[k] = bc[j];
+            j += 1;
+            k += 1;
+        } else {
+            let s = add(ac[i], bc[j], p);
+            i += 1;
+            j += 1;
+            if s != 0 {
+                ow[k] = x;
+                oc[k] = s;
+                k += 1;
+            }
+        }
+    }
+    let rw = rest_words(aw, i, bw, j);
+    let rc = rest_coefs(ac, i, bc, j);
+    put_words(rw, ow, k);
+    put_coefs(rc, oc, k);
+    Merged {
+        len: k + rw.len(),
+        comparisons: m,
     }
 }
 
