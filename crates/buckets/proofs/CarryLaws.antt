@@ -1,12 +1,12 @@
 -- A carry, from bucket to bucket: over lists, and then in the spaces. Assumes nothing.
-use mathlib.Core.Path.{_≡_, refl, sym, ap, ap₂, _∙_, subst}
+use mathlib.Core.Path.{_≡_, sym, ap, ap₂, _∙_, subst}
 use mathlib.Core.List.{List, [], _∷_, _++_}
 use mathlib.Core.Logic.{_⊎_, inl, inr, ⊎-elim}
-use Prim.Native.Nat.{ℕ, zero, suc, _+_, _-_, _*_, _<_, _≤_, Ordering}
+use Prim.Native.Nat.{ℕ, suc, _+_, _-_, _*_, _<_, _≤_, Ordering}
 use native.Mathlib.Nat.{zero-add}
 use native.Mathlib.Omega.{arith}
 use borrow.Author.Tests.{le-leb, lt-leb}
-use lib.ListN.{length, take, drop, set, getD, length-append, length-map, length-set}
+use lib.ListN.{length, take, drop, set, length-append, length-map, length-set}
 use lib.Seq.{sets, set-getD, append-snoc, length-sets, getD-set-same}
 use Rattle.residue.specs.Modular.{Modulus}
 use Rattle.monomial.specs.TotalOrder.{TotalOrder}

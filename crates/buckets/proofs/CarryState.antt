@@ -5,7 +5,7 @@ use mathlib.Core.Logic.{_⊎_, inl, inr, ⊎-elim}
 use Prim.Native.Nat.{ℕ, zero, suc, _+_, _-_, _*_, _<_, _≤_, Ordering}
 use native.Mathlib.Decide.{decLe}
 use native.Mathlib.Omega.{arith}
-use lib.ListN.{length, take, drop, set, getD, length-set}
+use lib.ListN.{length, take, drop, length-set}
 use lib.Seq.{length-sets}
 use Rattle.residue.specs.Modular.{Modulus}
 use Rattle.monomial.specs.TotalOrder.{TotalOrder}

@@ -44,7 +44,7 @@ use Rattle.engine.proofs.OutputLaws.{written-long, grown, grown-output, words-p
 use Rattle.reducer.specs.declared.state.State.{State}
 use Rattle.reducer.specs.Divisors.{leadWord, leadCoef, divisorsOf, OfLayout, Checked, Leads, FirstFit, Inverses}
 use Rattle.reducer.specs.States.{searched, halted, removed, added, kept}
-use Rattle.reducer.specs.Dividing.{Dividing, DividedTo, over, many, divided, Divided, tailOf, toAdd}
+use Rattle.reducer.specs.Dividing.{Dividing, DividedTo, over, many, divided, Divided, tailOf}
 use Rattle.reducer.specs.Stepping.{Keeping, Kept, full, put, Counts, remainderIn, Ended, Going, Reaches, Sound, Stepping, Stepped}
 use Rattle.reducer.proofs.DivideLaws.{over-terms, tail-long, to-add}
 use Rattle.reducer.proofs.FirstLaws.{leads-there, fit-none, fit-some}
