@@ -5,8 +5,8 @@ use native.Mathlib.Omega.{arith}
 use mathlib.Core.Path.{_≡_, refl, sym, ap, _∙_}
 use mathlib.Core.Bool.{Bool, true, false, _&&_}
 use mathlib.Core.List.{List, [], _∷_, _++_, append-nil}
-use borrow.Author.Tests.{eq-eqb, ne-eqb, eqb-true, eqb-false}
-use lib.Dec.{eqb}
+use borrow.Author.Tests.{eq-eqb, ne-eqb, eqb-true, eqb-false, leb-true}
+use lib.Dec.{eqb, leb}
 use lib.ListN.{length, take, drop, getD, drop-of-length-le}
 use lib.Seq.{drop-cons}
 use Rattle.text.specs.Bytes.{begins, same, indexOf, onto, parts, joined}
@@ -162,3 +162,52 @@ parts-last b (x ∷ s) h = go (eqb x b) h (λ k. parts-last b s k)
     go : (t : Bool) → suc (length s) ≤ elim t [ true ↦ 0 | false ↦ suc (indexOf b s) ] → (length s ≤ indexOf b s → parts b s ≡ s ∷ []) → elim t [ true ↦ [] ∷ parts b s | false ↦ onto x (parts b s) ] ≡ (x ∷ s) ∷ []
     go true k f = absurd (let z : ⊥ = omega arith in z)
     go false k f = ap (onto x) (f (omega arith))
+
+-- the text before and after the first separator
+pub cut : (b : ℕ) (s : List ℕ) → indexOf b s < length s → s ≡ take (indexOf b s) s ++ (b ∷ drop (suc (indexOf b s)) s)
+unfolding indexOf
+cut b [] h = absurd (let z : ⊥ = omega arith in z)
+cut b (x ∷ s) h = go (eqb x b) refl h (λ k. cut b s k)
+  where
+    go : (t : Bool) → eqb x b ≡ t → elim t [ true ↦ 0 | false ↦ suc (indexOf b s) ] < suc (length s) → (indexOf b s < length s → s ≡ take (indexOf b s) s ++ (b ∷ drop (suc (indexOf b s)) s))
+        → x ∷ s ≡ take (elim t [ true ↦ 0 | false ↦ suc (indexOf b s) ]) (x ∷ s) ++ (b ∷ drop (suc (elim t [ true ↦ 0 | false ↦ suc (indexOf b s) ])) (x ∷ s))
+    go true e k f = cons (eqb-true _ _ e) refl
+    go false e k f = ap (λ (l : List ℕ). x ∷ l) (f (omega arith))
+
+pub index-first : (b : ℕ) (p s : List ℕ) → Without b p → indexOf b (p ++ (b ∷ s)) ≡ length p
+unfolding indexOf
+index-first b [] s w = rw (eq-eqb b b refl, indexOf)
+index-first b (x ∷ p) s w = rw (ne-eqb x b (w .0), indexOf, index-first b p s (w .1))
+
+-- ---- bytes in a range
+abbrev pub Within : (low high : ℕ) → List ℕ → Type 0
+Within low high [] = Unit {0}
+Within low high (x ∷ xs) = ((low ≤ x) × (x ≤ high)) × Within low high xs
+
+-- the same as a test, for words that are written out
+abbrev pub within : (low high : ℕ) → List ℕ → Bool
+within low high [] = true
+within low high (x ∷ xs) = (leb low x && leb x high) && within low high xs
+
+pub within-true : (low high : ℕ) (xs : List ℕ) → within low high xs ≡ true → Within low high xs
+within-true low high [] e = tt
+within-true low high (x ∷ xs) e =
+    let t = both (leb low x && leb x high) (within low high xs) e in
+    let u = both (leb low x) (leb x high) (t .0) in
+    ((leb-true _ _ (u .0), leb-true _ _ (u .1)), within-true low high xs (t .1))
+
+pub within-append : (low high : ℕ) (xs ys : List ℕ) → Within low high xs → Within low high ys → Within low high (xs ++ ys)
+within-append low high [] ys h k = k
+within-append low high (x ∷ xs) ys h k = (h .0, within-append low high xs ys (h .1) k)
+
+pub within-more : (low high l m : ℕ) (xs : List ℕ) → l ≤ low → high ≤ m → Within low high xs → Within l m xs
+within-more low high l m [] p q h = tt
+within-more low high l m (x ∷ xs) p q h = ((omega (arith, h .0), omega (arith, h .0)), within-more low high l m xs p q (h .1))
+
+pub below-without : (low high b : ℕ) (xs : List ℕ) → b < low → Within low high xs → Without b xs
+below-without low high b [] p h = tt
+below-without low high b (x ∷ xs) p h = ((λ e. let z : ⊥ = omega (arith, h .0) in z), below-without low high b xs p (h .1))
+
+pub above-without : (low high b : ℕ) (xs : List ℕ) → high < b → Within low high xs → Without b xs
+above-without low high b [] p h = tt
+above-without low high b (x ∷ xs) p h = ((λ e. let z : ⊥ = omega (arith, h .0) in z), above-without low high b xs p (h .1))

@@ -9,9 +9,9 @@ use native.Mathlib.Nat.{add-zero, div-lt-self, div-eq-of-lt, mul-add-div-right, 
 use mathlib.Core.Option.{Option, none, some}
 use borrow.Author.Tests.{lt-ltb, le-ltb, le-leb, lt-leb, ltb-true, ltb-false, leb-true, leb-false, not-true, not-false}
 use lib.Dec.{leb, ltb}
-use lib.ListN.{length, drop, getD, drop-of-length-le}
+use lib.ListN.{length, drop, getD, drop-of-length-le, length-append}
 use lib.Seq.{drop-cons}
-use Rattle.text.proofs.ByteLaws.{both}
+use Rattle.text.proofs.ByteLaws.{both, Within, within-append}
 use Rattle.text.specs.Numbers.{decimalIn, decimal, andThen, onlyIf, isDigit, withDigit, withDigits, numberOf, found}
 use Rattle.text.specs.declared.number.Number.{Number}
 use Rattle.text.specs.declared.number.Number.the-variants.{Value, Bad}
@@ -123,12 +123,12 @@ decimal-behind v d h l =
     decimal-more (v * 10 + d) (omega arith) ∙ (ap (λ (n : ℕ). decimal n ++ ((48 + (v * 10 + d) % 10) ∷ [])) q ∙ ap (λ (n : ℕ). decimal v ++ ((48 + n) ∷ [])) r)
 
 -- ---- a text is read xs v exactly where it is the decimal digits of v, and v is not too large
-then-some : {A B : Type 0} (o : Option A) (f : A → Option B) (b : B) → andThen o f ≡ some b → (a : A) × (o ≡ some a) × (f a ≡ some b)
+pub then-some : {A B : Type 0} (o : Option A) (f : A → Option B) (b : B) → andThen o f ≡ some b → (a : A) × (o ≡ some a) × (f a ≡ some b)
 unfolding andThen
 then-some none f b e = absurd (let z : _≡_ {A = ℕ} 0 1 = cc in let y : ⊥ = omega arith in y)
 then-some (some a) f b e = (a, refl, e)
 
-only-if : {A : Type 0} (t : Bool) (a b : A) → onlyIf t a ≡ some b → (t ≡ true) × (a ≡ b)
+pub only-if : {A : Type 0} (t : Bool) (a b : A) → onlyIf t a ≡ some b → (t ≡ true) × (a ≡ b)
 only-if true a b e = (refl, cc)
 only-if false a b e = absurd (let z : _≡_ {A = ℕ} 0 1 = cc in let y : ⊥ = omega arith in y)
 
@@ -204,3 +204,29 @@ written-in (suc k) v h m = go (ltb v 10) refl (λ l n. written-in k (v / 10) l n
 -- every number is read from its digits
 pub number-written : (v : ℕ) → v ≤ 4294967295 → numberOf (decimal v) ≡ some v
 number-written v m = written-in v v (omega arith) m
+
+-- ---- the bytes of decimal digits
+digits-in : (k v : ℕ) → v ≤ k → Within 48 57 (decimal v)
+unfolding decimalIn
+digits-in zero v h = rw (let z : v ≡ 0 = omega arith in z, decimalIn) ((omega arith, omega arith), tt)
+digits-in (suc k) v h = go (ltb v 10) refl (λ l. digits-in k (v / 10) l)
+  where
+    go : (t : Bool) → ltb v 10 ≡ t → (v / 10 ≤ k → Within 48 57 (decimal (v / 10))) → Within 48 57 (decimal v)
+    go true e f =
+        let l : v < 10 = ltb-true _ _ e in
+        rw (decimal-digit v l) ((omega arith, omega arith), tt)
+    go false e f =
+        let l : 10 ≤ v = ltb-false _ _ e in
+        let d : v / 10 < v = div-lt-self (omega arith) (omega arith) in
+        let r : v % 10 < 10 = mod-lt v (omega arith) in
+        rw (decimal-more v l) (within-append 48 57 (decimal (v / 10)) ((48 + v % 10) ∷ []) (f (omega arith)) ((omega arith, omega arith), tt))
+
+pub decimal-within : (v : ℕ) → Within 48 57 (decimal v)
+decimal-within v = digits-in v v (omega arith)
+
+pub decimal-some : (v : ℕ) → 1 ≤ length (decimal v)
+decimal-some v = go (ltb v 10) refl
+  where
+    go : (t : Bool) → ltb v 10 ≡ t → 1 ≤ length (decimal v)
+    go true e = rw (decimal-digit v (ltb-true _ _ e)) (omega arith)
+    go false e = rw (decimal-more v (ltb-false _ _ e)) (simp length-append (omega arith))
