@@ -1,2 +1,4 @@
 pub mod Accepted
 pub mod Written
+pub mod Prefix
+pub mod EntryLaws

@@ -1,10 +1,21 @@
 -- A script as a run takes it: words, coefficients, starts and operations. Assumes nothing.
 use Prim.Native.Nat.{ℕ, zero, suc, _+_, min}
 use mathlib.Core.List.{List, [], _∷_, _++_, map}
+use mathlib.Core.Path.{_≡_}
+use mathlib.Core.Option.{Option, none, some}
 use lib.ListN.{length, take}
+use lib.Seq.{sets}
 use Rattle.monomial.specs.declared.order.Order.{Order}
 use Rattle.monomial.specs.declared.order.Order.the-variants.{Lex, DegLex, DegRevLex}
 use Rattle.monomial.specs.Layout.{wordOf}
+use Rattle.script.specs.declared.entry.Counted.{Counted}
+use Rattle.script.specs.declared.entry.Counted.the-variants.{All}
+use Rattle.script.specs.declared.entry.Counted.the-variants.{Bad as Counted·Bad}
+use Rattle.script.specs.declared.entry.Parsed.{Parsed}
+use Rattle.script.specs.declared.entry.Parsed.the-variants.{Term}
+use Rattle.script.specs.declared.entry.Parsed.the-variants.{Bad as Parsed·Bad}
+use Rattle.text.specs.Bytes.{parts}
+use Rattle.script.specs.Reading.{numbersOf}
 use Rattle.script.specs.Grammar.{Entry, Line, addLine, leadLine, sumLine, Script}
 
 -- An exponent as a byte. "an exponent over 127 gives 5": its word is outside the layout.
@@ -59,3 +70,17 @@ startsOf s = 0 ∷ endsFrom 0 (s .lines)
 
 abbrev pub pairsOf : Script → List ℕ
 pairsOf s = pairsFrom 0 (s .lines)
+
+-- ---- what the code hands back
+
+-- exponents, of which those that have a place are stored
+abbrev pub CountedAs : Option (List ℕ) → (exps exps' : List ℕ) → Counted → Type 0
+CountedAs none exps exps' r = r ≡ Counted·Bad
+CountedAs (some es) exps exps' r = (r ≡ All (length es)) × (exps' ≡ sets exps 0 (map capped es))
+
+pub record ReadExponents (s exps exps' : List ℕ) (r : Counted) : Type 0 where
+  pub is : CountedAs (numbersOf (parts 46 s)) exps exps' r
+
+abbrev pub parsed : Order → Option Entry → Parsed
+parsed o none = Parsed·Bad
+parsed o (some t) = Term (entryWord o t) (entryCoef t)

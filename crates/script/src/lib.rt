@@ -1,1 +1,2 @@
-// The script reader.
+// The script reader: from the bytes of a script to what a run takes.
+pub mod entry; // a term
