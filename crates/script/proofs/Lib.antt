@@ -2,3 +2,4 @@ pub mod Accepted
 pub mod Written
 pub mod Prefix
 pub mod EntryLaws
+pub mod FieldLaws

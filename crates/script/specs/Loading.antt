@@ -1,5 +1,5 @@
 -- A script as a run takes it: words, coefficients, starts and operations. Assumes nothing.
-use Prim.Native.Nat.{ℕ, zero, suc, _+_, min}
+use Prim.Native.Nat.{ℕ, zero, suc, _+_, _*_, _≤_, min}
 use mathlib.Core.List.{List, [], _∷_, _++_, map}
 use mathlib.Core.Path.{_≡_}
 use mathlib.Core.Option.{Option, none, some}
@@ -15,7 +15,10 @@ use Rattle.script.specs.declared.entry.Parsed.{Parsed}
 use Rattle.script.specs.declared.entry.Parsed.the-variants.{Term}
 use Rattle.script.specs.declared.entry.Parsed.the-variants.{Bad as Parsed·Bad}
 use Rattle.text.specs.Bytes.{parts}
-use Rattle.script.specs.Reading.{numbersOf}
+use Rattle.script.specs.Reading.{numbersOf, fieldsOf, addOf, lineOf}
+use Rattle.script.specs.declared.line.Counts.{Counts}
+use Rattle.script.specs.declared.line.Behind.{Behind}
+use Rattle.script.specs.declared.line.Behind.the-variants.{Line as Behind·Line, Bad as Behind·Bad}
 use Rattle.script.specs.Grammar.{Entry, Line, addLine, leadLine, sumLine, Script}
 
 -- An exponent as a byte. "an exponent over 127 gives 5": its word is outside the layout.
@@ -84,3 +87,45 @@ pub record ReadExponents (s exps exps' : List ℕ) (r : Counted) : Type 0 where
 abbrev pub parsed : Order → Option Entry → Parsed
 parsed o none = Parsed·Bad
 parsed o (some t) = Term (entryWord o t) (entryCoef t)
+
+-- Room for terms: each takes at least four bytes of the text, of which there are l.
+pub record EntryRoom (l at words coefs : ℕ) : Type 0 where
+  pub fits : 4 * at + l ≤ 4 * words
+  pub same-long : coefs ≡ words
+
+-- the terms of an addition, put from place at on
+abbrev pub EntriesAs : Order → Option (List Entry) → (at : ℕ) (words coefs words' coefs' : List ℕ) → Counted → Type 0
+EntriesAs o none at words coefs words' coefs' r = r ≡ Counted·Bad
+EntriesAs o (some ts) at words coefs words' coefs' r = (r ≡ All (at + length ts)) × (words' ≡ sets words at (map (entryWord o) ts)) × (coefs' ≡ sets coefs at (map entryCoef ts))
+
+pub record ReadEntries (o : Order) (n : ℕ) (s : List ℕ) (at : ℕ) (words coefs words' coefs' : List ℕ) (r : Counted) : Type 0 where
+  pub is : EntriesAs o (fieldsOf n (parts 32 s)) at words coefs words' coefs' r
+
+-- ---- a line
+abbrev pub countsBehind : Counts → Line → Counts
+countsBehind c (addLine ts) = record { terms = c .terms + length ts; polynomials = c .polynomials + 1; operations = c .operations + 1 }
+countsBehind c leadLine = record { terms = c .terms; polynomials = c .polynomials; operations = c .operations + 1 }
+countsBehind c sumLine = record { terms = c .terms; polynomials = c .polynomials; operations = c .operations + 1 }
+
+-- Room for a line of l bytes: with its newline it takes four bytes for each term, and at least four for itself.
+pub record LineRoom (l : ℕ) (c : Counts) (words coefs starts ops : ℕ) : Type 0 where
+  pub terms-fit : 4 * c .terms + l + 1 ≤ 4 * words
+  pub same-long : coefs ≡ words
+  pub starts-fit : 4 * c .polynomials + l + 5 ≤ 4 * starts
+  pub pairs-fit : 4 * c .operations + l + 1 ≤ 2 * ops
+
+abbrev pub LineAs : Order → Option Line → Counts → (words coefs starts ops words' coefs' starts' ops' : List ℕ) → Behind → Type 0
+LineAs o none c words coefs starts ops words' coefs' starts' ops' r = r ≡ Behind·Bad
+LineAs o (some l) c words coefs starts ops words' coefs' starts' ops' r =
+    (r ≡ Behind·Line (countsBehind c l))
+    × (words' ≡ sets words (c .terms) (map (entryWord o) (lineEntries l)))
+    × (coefs' ≡ sets coefs (c .terms) (map entryCoef (lineEntries l)))
+    × (starts' ≡ sets starts (c .polynomials + 1) (endsFrom (c .terms) (l ∷ [])))
+    × (ops' ≡ sets ops (2 * c .operations) (pairsFrom (c .polynomials) (l ∷ [])))
+
+pub record ReadLine (o : Order) (n : ℕ) (s : List ℕ) (c : Counts) (words coefs starts ops words' coefs' starts' ops' : List ℕ) (r : Behind) : Type 0 where
+  pub is : LineAs o (lineOf n s) c words coefs starts ops words' coefs' starts' ops' r
+
+-- an addition, by what stands behind the word
+pub record ReadAdd (o : Order) (n : ℕ) (s : List ℕ) (c : Counts) (words coefs starts ops words' coefs' starts' ops' : List ℕ) (r : Behind) : Type 0 where
+  pub is : LineAs o (addOf n s) c words coefs starts ops words' coefs' starts' ops' r

@@ -174,6 +174,20 @@ cut b (x ∷ s) h = go (eqb x b) refl h (λ k. cut b s k)
     go true e k f = cons (eqb-true _ _ e) refl
     go false e k f = ap (λ (l : List ℕ). x ∷ l) (f (omega arith))
 
+pub found-there : (b : ℕ) (s : List ℕ) → indexOf b s < length s → drop (indexOf b s) s ≡ b ∷ drop (suc (indexOf b s)) s
+unfolding indexOf
+found-there b [] h = absurd (let z : ⊥ = omega arith in z)
+found-there b (x ∷ s) h = go (eqb x b) refl h (λ k. found-there b s k)
+  where
+    go :
+        (t : Bool)
+        → eqb x b ≡ t
+        → elim t [ true ↦ 0 | false ↦ suc (indexOf b s) ] < suc (length s)
+        → (indexOf b s < length s → drop (indexOf b s) s ≡ b ∷ drop (suc (indexOf b s)) s)
+        → drop (elim t [ true ↦ 0 | false ↦ suc (indexOf b s) ]) (x ∷ s) ≡ b ∷ drop (suc (elim t [ true ↦ 0 | false ↦ suc (indexOf b s) ])) (x ∷ s)
+    go true e k f = cons (eqb-true _ _ e) refl
+    go false e k f = f (omega arith)
+
 pub index-first : (b : ℕ) (p s : List ℕ) → Without b p → indexOf b (p ++ (b ∷ s)) ≡ length p
 unfolding indexOf
 index-first b [] s w = rw (eq-eqb b b refl, indexOf)
