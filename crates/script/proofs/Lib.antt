@@ -3,3 +3,4 @@ pub mod Written
 pub mod Prefix
 pub mod EntryLaws
 pub mod FieldLaws
+pub mod LineLaws

@@ -1,0 +1,119 @@
+use borrow.Author.Needs.{needs}
+use Rattle.script.proofs.header.read_header.Statement.{statement}
+use Rattle.script.proofs.header.read_header.Tie as tie
+use Rattle.script.proofs.header.read_header.Reads as reads
+use Rattle.script.proofs.header.read_header.Lts as lts
+use Rattle.script.proofs.header.number_behind.Reads as number-behind-reads
+use Rattle.script.proofs.header.read_order.Reads as read-order-reads
+use Rattle.script.proofs.header.read_vars.Reads as read-vars-reads
+use Rattle.text.proofs.bytes.find.Reads as find-reads
+
+-- src/header.rt:59:9
+find-requires : tie.Need-find-requires
+find-requires c κs = search needs
+
+-- src/header.rt:61:9
+returns : tie.Need-returns
+returns c = ?
+
+-- src/header.rt:63:17
+sub-first : tie.Need-sub-first
+sub-first c = search needs
+
+-- src/header.rt:63:17
+part-first-start : tie.Need-part-first-start
+part-first-start c = search needs
+
+-- src/header.rt:63:17
+part-first-end : tie.Need-part-first-end
+part-first-end c = search needs
+
+-- src/header.rt:64:34
+slice-aggregate-number-behind : tie.Need-slice-aggregate-number-behind
+slice-aggregate-number-behind c = search needs
+
+-- src/header.rt:64:9
+number-behind-requires : tie.Need-number-behind-requires
+number-behind-requires c κs = search needs
+
+-- src/header.rt:65:23
+enum-known-p : tie.Need-enum-known-p
+enum-known-p c = search needs
+
+-- src/header.rt:66:9
+enum-told : tie.Need-enum-told
+enum-told c = search needs
+
+-- src/header.rt:66:9
+returns-2 : tie.Need-returns-2
+returns-2 c = ?
+
+-- src/header.rt:68:13
+add-i : tie.Need-add-i
+add-i c = search needs
+
+-- src/header.rt:69:9
+find-requires-2 : tie.Need-find-requires-2
+find-requires-2 c κs = search needs
+
+-- src/header.rt:71:9
+returns-3 : tie.Need-returns-3
+returns-3 c = ?
+
+-- src/header.rt:73:18
+sub-second : tie.Need-sub-second
+sub-second c = search needs
+
+-- src/header.rt:73:18
+part-second-start : tie.Need-part-second-start
+part-second-start c = search needs
+
+-- src/header.rt:73:18
+part-second-end : tie.Need-part-second-end
+part-second-end c = search needs
+
+-- src/header.rt:74:9
+read-order-requires : tie.Need-read-order-requires
+read-order-requires c κs = search needs
+
+-- src/header.rt:76:9
+returns-4 : tie.Need-returns-4
+returns-4 c = ?
+
+-- src/header.rt:78:32
+add-read-vars : tie.Need-add-read-vars
+add-read-vars c = search needs
+
+-- src/header.rt:78:5
+read-vars-requires : tie.Need-read-vars-requires
+read-vars-requires c κs = search needs
+
+-- src/header.rt:56:1
+returns-5 : tie.Need-returns-5
+returns-5 c = ?
+
+pub read-header-spec : {M : Type 1} → statement M
+read-header-spec =
+    tie.close
+    (tie.spec
+    find-requires
+    returns
+    sub-first
+    part-first-start
+    part-first-end
+    slice-aggregate-number-behind
+    number-behind-requires
+    enum-known-p
+    enum-told
+    returns-2
+    add-i
+    find-requires-2
+    returns-3
+    sub-second
+    part-second-start
+    part-second-end
+    read-order-requires
+    returns-4
+    add-read-vars
+    read-vars-requires
+    returns-5)
