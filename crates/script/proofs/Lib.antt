@@ -4,3 +4,5 @@ pub mod Prefix
 pub mod EntryLaws
 pub mod FieldLaws
 pub mod LineLaws
+pub mod HeaderLaws
+pub mod LinesLaws

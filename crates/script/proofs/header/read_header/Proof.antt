@@ -1,3 +1,6 @@
+use Rattle.script.proofs.HeaderLaws.{prime-cut, prime-bad, order-cut, order-bad, header-good}
+use Rattle.text.proofs.NumberLaws.{found-value, found-bad}
+-- `script::header::read_header` meets its contract, return by return. Assumes nothing.
 use borrow.Author.Needs.{needs}
 use Rattle.script.proofs.header.read_header.Statement.{statement}
 use Rattle.script.proofs.header.read_header.Tie as tie
@@ -14,7 +17,7 @@ find-requires c κs = search needs
 
 -- src/header.rt:61:9
 returns : tie.Need-returns
-returns c = ?
+returns c = prime-cut _ _ (c .before .find .ensures .0) (c .if1 .taken)
 
 -- src/header.rt:63:17
 sub-first : tie.Need-sub-first
@@ -46,7 +49,7 @@ enum-told c = search needs
 
 -- src/header.rt:66:9
 returns-2 : tie.Need-returns-2
-returns-2 c = ?
+returns-2 c = prime-bad (c .before .before .before .before .before .before .before .before .args .s .now) _ (c .before .before .before .before .before .before .find .ensures .0) (found-bad _ _ (c .before .before .number-behind .ensures) (c .enum-told .given .1))
 
 -- src/header.rt:68:13
 add-i : tie.Need-add-i
@@ -58,7 +61,7 @@ find-requires-2 c κs = search needs
 
 -- src/header.rt:71:9
 returns-3 : tie.Need-returns-3
-returns-3 c = ?
+returns-3 c = order-cut (c .before .before .before .before .before .before .before .before .before .before .before .args .s .now) _ (c .before .before .before .before .before .before .before .before .before .find .ensures .0) (c .before .before .before .before .before .before .before .before .before .find .ensures .2) (c .before .before .before .before .before .before .before .before .if1 .left) _ (found-value _ _ _ (c .before .before .before .before .before .number-behind .ensures) (c .before .before .before .p .given .1)) _ (c .before .find2 .ensures .0) (c .if2 .taken)
 
 -- src/header.rt:73:18
 sub-second : tie.Need-sub-second
@@ -78,7 +81,7 @@ read-order-requires c κs = search needs
 
 -- src/header.rt:76:9
 returns-4 : tie.Need-returns-4
-returns-4 c = ?
+returns-4 c = order-bad (c .before .before .before .before .before .before .before .before .before .before .before .before .before .before .args .s .now) _ (c .before .before .before .before .before .before .before .before .before .before .before .before .find .ensures .0) (c .before .before .before .before .before .before .before .before .before .before .before .before .find .ensures .2) (c .before .before .before .before .before .before .before .before .before .before .before .if1 .left) _ (found-value _ _ _ (c .before .before .before .before .before .before .before .before .number-behind .ensures) (c .before .before .before .before .before .before .p .given .1)) _ (c .before .before .before .before .find2 .ensures .0) _ (c .before .read-order .ensures) (c .if3 .taken)
 
 -- src/header.rt:78:32
 add-read-vars : tie.Need-add-read-vars
@@ -90,7 +93,7 @@ read-vars-requires c κs = search needs
 
 -- src/header.rt:56:1
 returns-5 : tie.Need-returns-5
-returns-5 c = ?
+returns-5 c = header-good (c .before .before .before .before .before .before .before .before .before .before .before .before .before .before .before .args .s .now) _ (c .before .before .before .before .before .before .before .before .before .before .before .before .before .find .ensures .0) (c .before .before .before .before .before .before .before .before .before .before .before .before .before .find .ensures .2) (c .before .before .before .before .before .before .before .before .before .before .before .before .if1 .left) _ (found-value _ _ _ (c .before .before .before .before .before .before .before .before .before .number-behind .ensures) (c .before .before .before .before .before .before .before .p .given .1)) _ (c .before .before .before .before .before .find2 .ensures .0) _ (c .before .before .read-order .ensures) (c .before .if3 .left) (c .before .before .before .before .before .find2 .ensures .2) (c .before .before .before .before .if2 .left) (c .read-vars .ensures)
 
 pub read-header-spec : {M : Type 1} → statement M
 read-header-spec =

@@ -1,3 +1,6 @@
+use Rattle.script.proofs.HeaderLaws.{order-lp, order-Dp, order-dp, order-none}
+use Rattle.script.proofs.LineLaws.{so}
+-- `script::header::read_order` meets its contract, word by word. Assumes nothing.
 use borrow.Author.Needs.{needs}
 use Rattle.script.proofs.header.read_order.Statement.{statement}
 use Rattle.script.proofs.header.read_order.Tie as tie
@@ -15,7 +18,7 @@ is-word-requires c κs = search needs
 
 -- src/header.rt:44:9
 returns : tie.Need-returns
-returns c = ?
+returns c = order-lp _ (so (c .before .is-word .ensures) (c .if1 .taken))
 
 -- src/header.rt:46:19
 slice-aggregate-is-word-2 : tie.Need-slice-aggregate-is-word-2
@@ -27,7 +30,7 @@ is-word-requires-2 c κs = search needs
 
 -- src/header.rt:47:9
 returns-2 : tie.Need-returns-2
-returns-2 c = ?
+returns-2 c = order-Dp _ (so (c .before .before .before .before .is-word .ensures) (c .before .before .before .if1 .left)) (so (c .before .is-word2 .ensures) (c .if2 .taken))
 
 -- src/header.rt:49:19
 slice-aggregate-is-word-3 : tie.Need-slice-aggregate-is-word-3
@@ -39,11 +42,11 @@ is-word-requires-3 c κs = search needs
 
 -- src/header.rt:50:9
 returns-3 : tie.Need-returns-3
-returns-3 c = ?
+returns-3 c = order-dp _ (so (c .before .before .before .before .before .before .before .is-word .ensures) (c .before .before .before .before .before .before .if1 .left)) (so (c .before .before .before .before .is-word2 .ensures) (c .before .before .before .if2 .left)) (so (c .before .is-word3 .ensures) (c .if3 .taken))
 
 -- src/header.rt:40:1
 returns-4 : tie.Need-returns-4
-returns-4 c = ?
+returns-4 c = order-none _ (so (c .before .before .before .before .before .before .before .is-word .ensures) (c .before .before .before .before .before .before .if1 .left)) (so (c .before .before .before .before .is-word2 .ensures) (c .before .before .before .if2 .left)) (so (c .before .is-word3 .ensures) (c .if3 .left))
 
 pub read-order-spec : {M : Type 1} → statement M
 read-order-spec =

@@ -1,3 +1,6 @@
+use Rattle.script.proofs.HeaderLaws.{vars-cut, vars-bad, vars-good}
+use Rattle.text.proofs.NumberLaws.{found-value, found-bad}
+-- `script::header::read_vars` meets its contract, return by return. Assumes nothing.
 use borrow.Author.Needs.{needs}
 use Rattle.script.proofs.header.read_vars.Statement.{statement}
 use Rattle.script.proofs.header.read_vars.Tie as tie
@@ -12,7 +15,7 @@ find-requires c κs = search needs
 
 -- src/header.rt:88:9
 returns : tie.Need-returns
-returns c = ?
+returns c = vars-cut _ _ _ _ _ (c .before .before .before .pre) (c .before .find .ensures .0) (c .if1 .taken)
 
 -- src/header.rt:90:17
 sub-third : tie.Need-sub-third
@@ -44,7 +47,7 @@ enum-told c = search needs
 
 -- src/header.rt:93:9
 returns-2 : tie.Need-returns-2
-returns-2 c = ?
+returns-2 c = vars-bad _ _ _ _ _ (c .before .before .before .before .before .before .before .before .pre) (c .before .before .before .before .before .before .find .ensures .0) (found-bad _ _ (c .before .before .number-behind .ensures) (c .enum-told .given .1))
 
 -- src/header.rt:99:15
 add-t11 : tie.Need-add-t11
@@ -52,7 +55,7 @@ add-t11 c = search needs
 
 -- src/header.rt:82:1
 returns-3 : tie.Need-returns-3
-returns-3 c = ?
+returns-3 c = vars-good _ _ _ _ _ (c .before .before .before .before .before .before .before .before .before .pre) (c .before .before .before .before .before .before .before .find .ensures .0) _ (c .before .before .before .before .before .before .before .find .ensures .2) (c .before .before .before .before .before .before .if1 .left) (found-value _ _ _ (c .before .before .before .number-behind .ensures) (c .before .n .given .1))
 
 pub read-vars-spec : {M : Type 1} → statement M
 read-vars-spec =
