@@ -11,7 +11,7 @@ ghost use Rattle.listing.specs.Listing.{costText, refusedText};
 
 // The number M of levels for n terms.
 fn level_count(n: u64) -> u64
-    ensures { λ r. ⌜ r ≡ levels n ⌝ }
+    ensures { λ r. ⌜ (r ≡ levels n) × (r ≤ 6) ⌝ }
 {
     if n <= 4 {
         return 1;
