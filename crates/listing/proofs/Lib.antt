@@ -2,3 +2,5 @@ pub mod PutLaws
 pub mod PlaceLaws
 pub mod AnswerLaws
 pub mod EndingLaws
+pub mod WholeLaws
+pub mod SizeLaws
