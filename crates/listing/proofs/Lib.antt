@@ -4,3 +4,4 @@ pub mod AnswerLaws
 pub mod EndingLaws
 pub mod WholeLaws
 pub mod SizeLaws
+pub mod OutcomeLaws

@@ -5,8 +5,8 @@ use mathlib.Core.Path.{_≡_, refl, sym, ap, subst, _∙_}
 use mathlib.Core.List.{List, [], _∷_, _++_, map}
 use mathlib.Core.Option.{Option, none, some}
 use lib.ListN.{length, take, drop, replicate, length-append, length-map, length-replicate}
-use lib.Seq.{sets, sets-eq, length-sets, take-at}
-use Rattle.monomial.specs.Exponents.{orderOf}
+use lib.Seq.{sets, sets-eq, length-sets, take-at, length-take-le}
+use Rattle.monomial.specs.declared.order.Order.{Order}
 use Rattle.script.specs.declared.reader.Loaded.{Loaded}
 use Rattle.script.specs.declared.reader.Found.{Found}
 use Rattle.script.specs.declared.reader.Found.the-variants.{Script as Found·Script, Bad as Found·Bad}
@@ -20,7 +20,7 @@ use Rattle.script.proofs.ScriptLaws.{order-number}
 use Rattle.text.specs.Numbers.{decimal}
 use Rattle.listing.specs.Put.{Put}
 use Rattle.listing.specs.Listing.{refusedText}
-use Rattle.listing.specs.Whole.{listingBy, listingOf, loadedText}
+use Rattle.listing.specs.Whole.{listingBy, listingOf, loadedText, outcomeText, scriptOutcome}
 use Rattle.listing.proofs.PutLaws.{put-same}
 
 lines-terms : (n : ℕ) (ls : List Line) → GoodLines n ls → 4 * length (entriesIn ls) ≤ length (linesText ls)
@@ -74,3 +74,77 @@ pub taken-back : (size n : ℕ) (l l' vs : List ℕ) → length l ≡ size → l
 taken-back size n l l' vs h e k m =
     let f : 0 + length vs ≤ length l = omega arith in
     ap (take n) (e ∙ sets-eq vs l 0 f) ∙ take-at vs (drop (0 + length vs) l) n k
+
+-- ---- what was read
+pub record Read (s : List ℕ) (l : Loaded) (words coefs starts ops : List ℕ) : Type 0 where
+  pub script : Script
+  pub is : scriptOf s ≡ some script
+  pub loaded : l ≡ loadedOf script
+  pub terms-in : l .counts .terms ≤ 4096
+  pub starts-in : l .counts .polynomials + 1 ≤ 4097
+  pub pairs-in : 2 * l .counts .operations ≤ 8192
+  pub words-are : take (l .counts .terms) words ≡ wordsOf script
+  pub coefs-are : take (l .counts .terms) coefs ≡ coefsOf script
+  pub starts-are : take (l .counts .polynomials + 1) starts ≡ startsOf script
+  pub pairs-are : take (2 * l .counts .operations) ops ≡ pairsOf script
+  pub words-long : length words ≡ 4096
+  pub coefs-long : length coefs ≡ 4096
+  pub starts-long : length starts ≡ 4097
+  pub ops-long : length ops ≡ 8192
+
+module _ {s words₀ coefs₀ starts₀ ops₀ words coefs starts ops : List ℕ} {r : Found} (d : ReadScript s words₀ coefs₀ starts₀ ops₀ words coefs starts ops r) where
+  pub bad-listing : r ≡ Found·Bad → {out out' : List ℕ} {k : ℕ} → Put (refusedText 17 0) 0 out out' k → Put (listingOf s) 0 out out' k
+  unfolding listingOf
+  bad-listing e p = put-same (sym (ap listingBy (go (scriptOf s) (d .is)))) p
+    where
+      go : (x : Option Script) → ScriptAs x words₀ coefs₀ starts₀ ops₀ words coefs starts ops r → x ≡ none
+      go none q = refl
+      go (some t) q = absurd (let y : r ≡ Found·Script (loadedOf t) = q .0 in let z : _≡_ {A = ℕ} 0 1 = cc in let w : ⊥ = omega arith in w)
+
+  pub good-read : length words₀ ≡ 4096 → length coefs₀ ≡ 4096 → length starts₀ ≡ 4097 → length ops₀ ≡ 8192 → (l : Loaded) → r ≡ Found·Script l → Read s l words coefs starts ops
+  good-read lw lc lt lo l e = go (scriptOf s) refl (d .is)
+    where
+      go : (x : Option Script) → scriptOf s ≡ x → ScriptAs x words₀ coefs₀ starts₀ ops₀ words coefs starts ops r → Read s l words coefs starts ops
+      go none y q = absurd (let u : r ≡ Found·Bad = q in let z : _≡_ {A = ℕ} 0 1 = cc in let w : ⊥ = omega arith in w)
+      go (some t) y q =
+          let u : r ≡ Found·Script (loadedOf t) = q .0 in
+          let k : loadedOf t ≡ l = cc in
+          let z = sizes s t y in
+          rw (← k) (record {
+            script = t;
+            is = y;
+            loaded = refl;
+            terms-in = z .terms;
+            starts-in = omega (arith, z .polynomials);
+            pairs-in = omega (arith, z .operations);
+            words-are = taken-back 4096 (length (entriesIn (t .lines))) words₀ words (wordsOf t) lw (q .1) (length-map (entriesIn (t .lines)) (entryWord (t .order))) (z .terms);
+            coefs-are = taken-back 4096 (length (entriesIn (t .lines))) coefs₀ coefs (coefsOf t) lc (q .2) (length-map (entriesIn (t .lines)) entryCoef) (z .terms);
+            starts-are = taken-back 4097 (length (endsFrom 0 (t .lines)) + 1) starts₀ starts (startsOf t) lt (q .3) (omega arith) (omega (arith, z .polynomials));
+            pairs-are = taken-back 8192 (2 * length (t .lines)) ops₀ ops (pairsOf t) lo (q .4) (pairs-long 0 (t .lines)) (omega (arith, z .operations));
+            words-long = ap length (q .1) ∙ (length-sets words₀ 0 (wordsOf t) ∙ lw);
+            coefs-long = ap length (q .2) ∙ (length-sets coefs₀ 0 (coefsOf t) ∙ lc);
+            starts-long = ap length (q .3) ∙ (length-sets starts₀ 0 (startsOf t) ∙ lt);
+            ops-long = ap length (q .4) ∙ (length-sets ops₀ 0 (pairsOf t) ∙ lo);
+          })
+
+pub prefix-long : (n size : ℕ) (l : List ℕ) → n ≤ size → length l ≡ size → n ≡ length (take n l)
+prefix-long n size l h e = sym (length-take-le n l (omega arith))
+
+pub prefix-most : (n size : ℕ) (l : List ℕ) → n ≤ size → length l ≡ size → length (take n l) ≤ size
+prefix-most n size l h e = omega (arith, prefix-long n size l h e)
+
+pub good-listing : {s : List ℕ} {l : Loaded} {words coefs starts ops : List ℕ} → Read s l words coefs starts ops → {out out' : List ℕ} {k : ℕ} → Put (loadedText l (take (l .counts .terms) words) (take (l .counts .terms) coefs) (take (l .counts .polynomials + 1) starts) (take (2 * l .counts .operations) ops)) 0 out out' k → Put (listingOf s) 0 out out' k
+unfolding listingOf
+good-listing {s} {l} {words} {coefs} {starts} {ops} d p = put-same (text ∙ sym (ap listingBy (d .is))) p
+  where
+    text : loadedText l (take (l .counts .terms) words) (take (l .counts .terms) coefs) (take (l .counts .polynomials + 1) starts) (take (2 * l .counts .operations) ops) ≡ listingBy (some (d .script))
+    text =
+        ap (λ (x : List ℕ). loadedText l x (take (l .counts .terms) coefs) (take (l .counts .polynomials + 1) starts) (take (2 * l .counts .operations) ops)) (d .words-are)
+        ∙ (ap (λ (x : List ℕ). loadedText l (wordsOf (d .script)) x (take (l .counts .polynomials + 1) starts) (take (2 * l .counts .operations) ops)) (d .coefs-are)
+          ∙ (ap (λ (x : List ℕ). loadedText l (wordsOf (d .script)) (coefsOf (d .script)) x (take (2 * l .counts .operations) ops)) (d .starts-are)
+            ∙ (ap (λ (x : List ℕ). loadedText l (wordsOf (d .script)) (coefsOf (d .script)) (startsOf (d .script)) x) (d .pairs-are)
+              ∙ (ap (λ (x : Loaded). loadedText x (wordsOf (d .script)) (coefsOf (d .script)) (startsOf (d .script)) (pairsOf (d .script))) (d .loaded)
+                ∙ ap (λ (o : Order). outcomeText o (d .script .vars) (pairsOf (d .script)) (scriptOutcome (d .script))) (order-number (d .script .order))))))
+
+pub prefix-in : (n size : ℕ) (l : List ℕ) → n ≤ size → length l ≡ size → n ≤ length l
+prefix-in n size l h e = omega arith

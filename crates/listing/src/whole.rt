@@ -86,7 +86,7 @@ fn list_run<'a>(
 }
 
 // Reads a script and puts its listing.
-fn put_listing(script: &[u8], out: &mut [u8]) -> usize
+pub fn put_listing(script: &[u8], out: &mut [u8]) -> usize
     ensures { λ r. ⌜ Put (listingOf (now (script .entry))) 0 (now (out .entry)) (now (out .exit)) r ⌝ }
 {
     let mut words = [0u64; 4096];
