@@ -1,6 +1,6 @@
 //! A second program for what the proved crates compute. `monomial`, `residue`, `polynomial`,
-//! `geobucket`, `call`, `course`, `run`, `reduction` and `block_store` are plain models, which share no
-//! code with the proved crates; `probe`, `probe_buckets`, `probe_run`, `probe_reduction` and
+//! `geobucket`, `call`, `course`, `run`, `reduction`, `block_store` and `script` are plain models, which
+//! share no code with the proved crates; `probe`, `probe_buckets`, `probe_run`, `probe_reduction` and
 //! `probe_blocks` call the proved functions; the other modules make what they are given.
 pub mod block_store;
 pub mod c_functions;
@@ -27,6 +27,7 @@ pub mod residue;
 pub mod run;
 pub mod run_damage;
 pub mod run_lists;
+pub mod script;
 
 /// How many cases a group of generated tests has: the variable SECOND_CASES, or 50,000.
 pub fn cases() -> u64 {

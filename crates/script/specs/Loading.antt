@@ -1,0 +1,210 @@
+-- A script as a run takes it: words, coefficients, starts and operations. Assumes nothing.
+use Prim.Native.Nat.{ℕ, zero, suc, _+_, _*_, _≤_, min}
+use mathlib.Core.List.{List, [], _∷_, _++_, map}
+use mathlib.Core.Path.{_≡_}
+use mathlib.Core.Option.{Option, none, some}
+use lib.ListN.{length, take, drop}
+use lib.Seq.{sets}
+use Rattle.monomial.specs.declared.order.Order.{Order}
+use Rattle.monomial.specs.declared.order.Order.the-variants.{Lex, DegLex, DegRevLex}
+use Rattle.monomial.specs.Layout.{wordOf}
+use Rattle.script.specs.declared.entry.Counted.{Counted}
+use Rattle.script.specs.declared.entry.Counted.the-variants.{All}
+use Rattle.script.specs.declared.entry.Counted.the-variants.{Bad as Counted·Bad}
+use Rattle.script.specs.declared.entry.Parsed.{Parsed}
+use Rattle.script.specs.declared.entry.Parsed.the-variants.{Term}
+use Rattle.script.specs.declared.entry.Parsed.the-variants.{Bad as Parsed·Bad}
+use Rattle.text.specs.Bytes.{parts}
+use Rattle.script.specs.Reading.{numbersOf, fieldsOf, addOf, lineOf, linesOf, afterWord, withHeader, scriptOf}
+use Rattle.script.specs.declared.reader.Loaded.{Loaded}
+use Rattle.script.specs.declared.reader.Found.{Found}
+use Rattle.script.specs.declared.reader.Found.the-variants.{Script as Found·Script, Bad as Found·Bad}
+use Rattle.text.specs.Numbers.{andThen}
+use Rattle.script.specs.declared.header.Header.{Header}
+use Rattle.script.specs.declared.header.Head.{Head}
+use Rattle.script.specs.declared.header.Head.the-variants.{Is, Bad as Head·Bad}
+use Rattle.script.specs.declared.line.Counts.{Counts}
+use Rattle.script.specs.declared.line.Behind.{Behind}
+use Rattle.script.specs.declared.line.Behind.the-variants.{Line as Behind·Line, Bad as Behind·Bad}
+use Rattle.script.specs.Grammar.{Entry, Line, addLine, leadLine, sumLine, Script, vars-word}
+
+-- An exponent as a byte. "an exponent over 127 gives 5": its word is outside the layout.
+abbrev pub capped : ℕ → ℕ
+capped e = min e 255
+
+-- The word of a term. More than six variables are refused with 3, whatever the word.
+abbrev pub entryWord : Order → Entry → ℕ
+entryWord o t = wordOf o (map capped (take 6 (t .exps)))
+
+abbrev pub entryCoef : Entry → ℕ
+entryCoef t = t .coef
+
+abbrev pub lineEntries : Line → List Entry
+lineEntries (addLine ts) = ts
+lineEntries leadLine = []
+lineEntries sumLine = []
+
+-- all terms, line by line
+unfoldable pub entriesIn : List Line → List Entry
+entriesIn [] = []
+entriesIn (l ∷ ls) = lineEntries l ++ entriesIn ls
+
+-- where the polynomials end, with so many terms before them
+unfoldable pub endsFrom : (at : ℕ) → List Line → List ℕ
+endsFrom at [] = []
+endsFrom at (addLine ts ∷ ls) = (at + length ts) ∷ endsFrom (at + length ts) ls
+endsFrom at (leadLine ∷ ls) = endsFrom at ls
+endsFrom at (sumLine ∷ ls) = endsFrom at ls
+
+-- the operations as pairs, with so many polynomials before them: "(1, k) adds polynomial k; (2, 0) takes the lead; (3, 0) gives the full sum"
+unfoldable pub pairsFrom : (k : ℕ) → List Line → List ℕ
+pairsFrom k [] = []
+pairsFrom k (addLine ts ∷ ls) = 1 ∷ k ∷ pairsFrom (k + 1) ls
+pairsFrom k (leadLine ∷ ls) = 2 ∷ 0 ∷ pairsFrom k ls
+pairsFrom k (sumLine ∷ ls) = 3 ∷ 0 ∷ pairsFrom k ls
+
+-- "The orders are 1 = lp, 2 = Dp, 3 = dp"
+abbrev pub orderNumber : Order → ℕ
+orderNumber Lex = 1
+orderNumber DegLex = 2
+orderNumber DegRevLex = 3
+
+abbrev pub wordsOf : Script → List ℕ
+wordsOf s = map (entryWord (s .order)) (entriesIn (s .lines))
+
+abbrev pub coefsOf : Script → List ℕ
+coefsOf s = map entryCoef (entriesIn (s .lines))
+
+abbrev pub startsOf : Script → List ℕ
+startsOf s = 0 ∷ endsFrom 0 (s .lines)
+
+abbrev pub pairsOf : Script → List ℕ
+pairsOf s = pairsFrom 0 (s .lines)
+
+-- ---- what the code hands back
+
+-- exponents, of which those that have a place are stored
+abbrev pub CountedAs : Option (List ℕ) → (exps exps' : List ℕ) → Counted → Type 0
+CountedAs none exps exps' r = r ≡ Counted·Bad
+CountedAs (some es) exps exps' r = (r ≡ All (length es)) × (exps' ≡ sets exps 0 (map capped es))
+
+pub record ReadExponents (s exps exps' : List ℕ) (r : Counted) : Type 0 where
+  pub is : CountedAs (numbersOf (parts 46 s)) exps exps' r
+
+abbrev pub parsed : Order → Option Entry → Parsed
+parsed o none = Parsed·Bad
+parsed o (some t) = Term (entryWord o t) (entryCoef t)
+
+-- Room for terms: each takes at least four bytes of the text, of which there are l.
+pub record EntryRoom (l at words coefs : ℕ) : Type 0 where
+  pub fits : 4 * at + l ≤ 4 * words
+  pub same-long : coefs ≡ words
+
+-- the terms of an addition, put from place at on
+abbrev pub EntriesAs : Order → Option (List Entry) → (at : ℕ) (words coefs words' coefs' : List ℕ) → Counted → Type 0
+EntriesAs o none at words coefs words' coefs' r = r ≡ Counted·Bad
+EntriesAs o (some ts) at words coefs words' coefs' r = (r ≡ All (at + length ts)) × (words' ≡ sets words at (map (entryWord o) ts)) × (coefs' ≡ sets coefs at (map entryCoef ts))
+
+pub record ReadEntries (o : Order) (n : ℕ) (s : List ℕ) (at : ℕ) (words coefs words' coefs' : List ℕ) (r : Counted) : Type 0 where
+  pub is : EntriesAs o (fieldsOf n (parts 32 s)) at words coefs words' coefs' r
+
+-- ---- a line
+abbrev pub countsBehind : Counts → Line → Counts
+countsBehind c (addLine ts) = record { terms = c .terms + length ts; polynomials = c .polynomials + 1; operations = c .operations + 1 }
+countsBehind c leadLine = record { terms = c .terms; polynomials = c .polynomials; operations = c .operations + 1 }
+countsBehind c sumLine = record { terms = c .terms; polynomials = c .polynomials; operations = c .operations + 1 }
+
+-- Room for a line of l bytes: with its newline it takes four bytes for each term, and at least four for itself.
+pub record LineRoom (l : ℕ) (c : Counts) (words coefs starts ops : ℕ) : Type 0 where
+  pub terms-fit : 4 * c .terms + l + 1 ≤ 4 * words
+  pub same-long : coefs ≡ words
+  pub starts-fit : 4 * c .polynomials + l + 5 ≤ 4 * starts
+  pub pairs-fit : 4 * c .operations + l + 1 ≤ 2 * ops
+
+abbrev pub LineAs : Order → Option Line → Counts → (words coefs starts ops words' coefs' starts' ops' : List ℕ) → Behind → Type 0
+LineAs o none c words coefs starts ops words' coefs' starts' ops' r = r ≡ Behind·Bad
+LineAs o (some l) c words coefs starts ops words' coefs' starts' ops' r =
+    (r ≡ Behind·Line (countsBehind c l))
+    × (words' ≡ sets words (c .terms) (map (entryWord o) (lineEntries l)))
+    × (coefs' ≡ sets coefs (c .terms) (map entryCoef (lineEntries l)))
+    × (starts' ≡ sets starts (c .polynomials + 1) (endsFrom (c .terms) (l ∷ [])))
+    × (ops' ≡ sets ops (2 * c .operations) (pairsFrom (c .polynomials) (l ∷ [])))
+
+pub record ReadLine (o : Order) (n : ℕ) (s : List ℕ) (c : Counts) (words coefs starts ops words' coefs' starts' ops' : List ℕ) (r : Behind) : Type 0 where
+  pub is : LineAs o (lineOf n s) c words coefs starts ops words' coefs' starts' ops' r
+
+-- an addition, by what stands behind the word
+pub record ReadAdd (o : Order) (n : ℕ) (s : List ℕ) (c : Counts) (words coefs starts ops words' coefs' starts' ops' : List ℕ) (r : Behind) : Type 0 where
+  pub is : LineAs o (addOf n s) c words coefs starts ops words' coefs' starts' ops' r
+
+-- ---- the lines from a place on
+abbrev pub countsOf : List Line → Counts
+countsOf ls = record { terms = length (entriesIn ls); polynomials = length (endsFrom 0 ls); operations = length ls }
+
+-- Room for the lines of s from a place on: four bytes for each term and each line.
+pub record LinesRoom (from s words coefs starts ops : ℕ) : Type 0 where
+  pub within : from ≤ s
+  pub terms-fit : s ≤ 4 * words + from
+  pub same-long : coefs ≡ words
+  pub starts-fit : s + 4 ≤ 4 * starts + from
+  pub pairs-fit : s ≤ 2 * ops + from
+
+abbrev pub LinesAs : Order → Option (List Line) → (words coefs starts ops words' coefs' starts' ops' : List ℕ) → Behind → Type 0
+LinesAs o none words coefs starts ops words' coefs' starts' ops' r = r ≡ Behind·Bad
+LinesAs o (some ls) words coefs starts ops words' coefs' starts' ops' r =
+    (r ≡ Behind·Line (countsOf ls))
+    × (words' ≡ sets words 0 (map (entryWord o) (entriesIn ls)))
+    × (coefs' ≡ sets coefs 0 (map entryCoef (entriesIn ls)))
+    × (starts' ≡ sets starts 1 (endsFrom 0 ls))
+    × (ops' ≡ sets ops 0 (pairsFrom 0 ls))
+
+pub record ReadLines (o : Order) (n from : ℕ) (s : List ℕ) (words coefs starts ops words' coefs' starts' ops' : List ℕ) (r : Behind) : Type 0 where
+  pub is : LinesAs o (linesOf n (parts 10 (drop from s))) words coefs starts ops words' coefs' starts' ops' r
+
+-- ---- the first three lines
+abbrev pub orderCode : Option Order → ℕ
+orderCode none = 0
+orderCode (some o) = orderNumber o
+
+-- a script of which the first three lines have been read
+abbrev pub scriptFrom : (p : ℕ) → Order → (n : ℕ) → List (List ℕ) → Option Script
+scriptFrom p o n ls = andThen (linesOf n ls) (λ xs. some (record { prime = p; order = o; vars = n; lines = xs }))
+
+-- the third line and those behind it
+abbrev pub varsThen : (p : ℕ) → Order → List (List ℕ) → Option Script
+varsThen p o [] = none
+varsThen p o (c ∷ ls) = andThen (afterWord vars-word c) (λ n. scriptFrom p o n ls)
+
+abbrev pub HeadAs : Option Script → (s : List ℕ) → Head → Type 0
+HeadAs x s Head·Bad = x ≡ none
+HeadAs x s (Is h) = (from-in : h .from ≤ length s) × (o : Order) × (named : h .order ≡ orderNumber o) × (x ≡ scriptFrom (h .prime) o (h .vars) (parts 10 (drop (h .from) s)))
+
+pub record ReadHeader (s : List ℕ) (r : Head) : Type 0 where
+  pub is : HeadAs (withHeader (parts 10 s)) s r
+
+pub record ReadVars (s : List ℕ) (p order j : ℕ) (r : Head) : Type 0 where
+  pub is : (o : Order) → order ≡ orderNumber o → HeadAs (varsThen p o (parts 10 (drop j s))) s r
+
+-- ---- a whole script
+
+-- "buffers sized from the script's length": 16,384 bytes hold at most 4,096 terms, and at most 4,096 lines
+pub record ScriptRoom (words coefs starts ops : ℕ) : Type 0 where
+  pub words-long : words ≡ 4096
+  pub coefs-long : coefs ≡ 4096
+  pub starts-long : starts ≡ 4097
+  pub ops-long : ops ≡ 8192
+
+abbrev pub loadedOf : Script → Loaded
+loadedOf s = record { prime = s .prime; order = orderNumber (s .order); vars = s .vars; counts = countsOf (s .lines) }
+
+abbrev pub ScriptAs : Option Script → (words coefs starts ops words' coefs' starts' ops' : List ℕ) → Found → Type 0
+ScriptAs none words coefs starts ops words' coefs' starts' ops' r = r ≡ Found·Bad
+ScriptAs (some s) words coefs starts ops words' coefs' starts' ops' r =
+    (r ≡ Found·Script (loadedOf s))
+    × (words' ≡ sets words 0 (wordsOf s))
+    × (coefs' ≡ sets coefs 0 (coefsOf s))
+    × (starts' ≡ sets starts 0 (startsOf s))
+    × (ops' ≡ sets ops 0 (pairsOf s))
+
+pub record ReadScript (s : List ℕ) (words coefs starts ops words' coefs' starts' ops' : List ℕ) (r : Found) : Type 0 where
+  pub is : ScriptAs (scriptOf s) words coefs starts ops words' coefs' starts' ops' r
