@@ -1,8 +1,9 @@
 //! Scripts and their listings (document 01, "Script"): a plain reader, the run of the second program,
 //! and the lines that it gives.
+use crate::call::{Given, Loan, Tally, WORK};
 use crate::geobucket::{most_comparisons, PLACES};
 use crate::monomial::{Order, FIELDS};
-use crate::run::{run, Given, Loan, Tally, ADD, LEAD, SUM, WORK};
+use crate::run::{run, ADD, LEAD, SUM};
 
 /// The longest script, in bytes.
 pub const LONGEST: usize = 16_384;
@@ -10,8 +11,9 @@ pub const LONGEST: usize = 16_384;
 /// The output places of a script's run.
 const OUTPUT: usize = 4_096;
 
-/// What a script says, as a run takes it; nothing where it is not of the form.
-pub fn read(script: &[u8]) -> Option<Given> {
+/// The polynomials and the operations of a script, as a run takes them; nothing where it is not of the
+/// form.
+pub fn read(script: &[u8]) -> Option<(Given, Vec<usize>)> {
     if script.len() > LONGEST {
         return None;
     }
@@ -27,15 +29,17 @@ pub fn read(script: &[u8]) -> Option<Given> {
         starts: vec![0],
         ..Given::default()
     };
+    let mut operations = Vec::new();
     for line in lines {
-        read_line(line, order, &mut given)?;
+        operations.extend(read_line(line, order, &mut given)?);
     }
-    Some(given)
+    Some((given, operations))
 }
 
-fn read_line(line: &[u8], order: Order, given: &mut Given) -> Option<()> {
+/// The operation of a line, whose polynomial is put behind the others.
+fn read_line(line: &[u8], order: Order, given: &mut Given) -> Option<[usize; 2]> {
     let mut fields = line.split(|&b| b == b' ');
-    let pair = match fields.next()? {
+    Some(match fields.next()? {
         b"add" => {
             for field in fields {
                 let (word, coef) = read_term(field, order, given.n)?;
@@ -48,9 +52,7 @@ fn read_line(line: &[u8], order: Order, given: &mut Given) -> Option<()> {
         b"lead" if fields.next().is_none() => [LEAD, 0],
         b"sum" if fields.next().is_none() => [SUM, 0],
         _ => return None,
-    };
-    given.operations.extend(pair);
-    Some(())
+    })
 }
 
 fn read_term(field: &[u8], order: Order, n: u32) -> Option<(u64, u32)> {
@@ -84,7 +86,7 @@ fn order_named(name: &[u8]) -> Option<Order> {
 
 /// The listing of a script.
 pub fn listing(script: &[u8]) -> String {
-    let Some(given) = read(script) else {
+    let Some((given, operations)) = read(script) else {
         return "refused 17 at 0\n".to_string();
     };
     let mut loan = Loan {
@@ -93,20 +95,20 @@ pub fn listing(script: &[u8]) -> String {
         output: (vec![0; OUTPUT], vec![0; OUTPUT]),
         tally: Tally::default(),
     };
-    let answer = run(&given, &mut loan);
+    let answer = run(&given, &operations, &mut loan);
     if answer.refusal != 0 {
         return format!("refused {} at {}\n", answer.refusal, answer.finished);
     }
-    let mut text = answers(&given, &loan);
+    let mut text = answers(&given, &operations, &loan);
     let bound = most_comparisons(loan.tally.brought);
     text += &format!("cost {} of {}\n", loan.tally.comparisons, bound);
     text
 }
 
-fn answers(given: &Given, loan: &Loan) -> String {
+fn answers(given: &Given, operations: &[usize], loan: &Loan) -> String {
     let mut text = String::new();
     let mut place = 0;
-    for pair in given.operations.chunks(2) {
+    for pair in operations.chunks(2) {
         match pair[0] {
             LEAD => {
                 text += &format!("lead{}\n", shown(given, loan, place));
