@@ -47,9 +47,9 @@ module _ (n : ℕ) (s : List ℕ) (i : ℕ) where
         let x : e - (i + 1) ≡ indexOf 32 (drop (i + 1) s) = omega arith in
         ap (λ (y : List ℕ). fieldsOf n (parts 32 y)) (drop-cons s i 0 l)
         ∙ (ap (λ (t : Bool). fieldsOf n (elim t [ true ↦ [] ∷ parts 32 (drop (suc i) s) | false ↦ onto (getD s i 0) (parts 32 (drop (suc i) s)) ])) (eq-eqb (getD s i 0) 32 b)
-          ∙ (ap (λ (k : ℕ). entriesOf n (parts 32 (drop k s))) (sym (add-one i))
-            ∙ (go (ltb (indexOf 32 (drop (i + 1) s)) (length (drop (i + 1) s))) refl
-              ∙ ap (λ (k : ℕ). andThen (entryOf n (take k (drop (i + 1) s))) (λ t. andThen (fieldsOf n (parts 32 (drop e s))) (λ ts. some (t ∷ ts)))) (sym x))))
+        ∙ (ap (λ (k : ℕ). entriesOf n (parts 32 (drop k s))) (sym (add-one i))
+        ∙ (go (ltb (indexOf 32 (drop (i + 1) s)) (length (drop (i + 1) s))) refl
+        ∙ ap (λ (k : ℕ). andThen (entryOf n (take k (drop (i + 1) s))) (λ t. andThen (fieldsOf n (parts 32 (drop e s))) (λ ts. some (t ∷ ts)))) (sym x))))
       where
         go : (t : Bool) → ltb (indexOf 32 (drop (i + 1) s)) (length (drop (i + 1) s)) ≡ t → entriesOf n (parts 32 (drop (i + 1) s)) ≡ andThen (entryOf n (take (indexOf 32 (drop (i + 1) s)) (drop (i + 1) s))) (λ t. andThen (fieldsOf n (parts 32 (drop e s))) (λ ts. some (t ∷ ts)))
         go true q =

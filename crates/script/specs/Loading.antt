@@ -3,7 +3,7 @@ use Prim.Native.Nat.{ℕ, zero, suc, _+_, _*_, _≤_, min}
 use mathlib.Core.List.{List, [], _∷_, _++_, map}
 use mathlib.Core.Path.{_≡_}
 use mathlib.Core.Option.{Option, none, some}
-use lib.ListN.{length, take}
+use lib.ListN.{length, take, drop}
 use lib.Seq.{sets}
 use Rattle.monomial.specs.declared.order.Order.{Order}
 use Rattle.monomial.specs.declared.order.Order.the-variants.{Lex, DegLex, DegRevLex}
@@ -15,11 +15,15 @@ use Rattle.script.specs.declared.entry.Parsed.{Parsed}
 use Rattle.script.specs.declared.entry.Parsed.the-variants.{Term}
 use Rattle.script.specs.declared.entry.Parsed.the-variants.{Bad as Parsed·Bad}
 use Rattle.text.specs.Bytes.{parts}
-use Rattle.script.specs.Reading.{numbersOf, fieldsOf, addOf, lineOf}
+use Rattle.script.specs.Reading.{numbersOf, fieldsOf, addOf, lineOf, linesOf, afterWord, withHeader}
+use Rattle.text.specs.Numbers.{andThen}
+use Rattle.script.specs.declared.header.Header.{Header}
+use Rattle.script.specs.declared.header.Head.{Head}
+use Rattle.script.specs.declared.header.Head.the-variants.{Is, Bad as Head·Bad}
 use Rattle.script.specs.declared.line.Counts.{Counts}
 use Rattle.script.specs.declared.line.Behind.{Behind}
 use Rattle.script.specs.declared.line.Behind.the-variants.{Line as Behind·Line, Bad as Behind·Bad}
-use Rattle.script.specs.Grammar.{Entry, Line, addLine, leadLine, sumLine, Script}
+use Rattle.script.specs.Grammar.{Entry, Line, addLine, leadLine, sumLine, Script, vars-word}
 
 -- An exponent as a byte. "an exponent over 127 gives 5": its word is outside the layout.
 abbrev pub capped : ℕ → ℕ
@@ -129,3 +133,51 @@ pub record ReadLine (o : Order) (n : ℕ) (s : List ℕ) (c : Counts) (words coe
 -- an addition, by what stands behind the word
 pub record ReadAdd (o : Order) (n : ℕ) (s : List ℕ) (c : Counts) (words coefs starts ops words' coefs' starts' ops' : List ℕ) (r : Behind) : Type 0 where
   pub is : LineAs o (addOf n s) c words coefs starts ops words' coefs' starts' ops' r
+
+-- ---- the lines from a place on
+abbrev pub countsOf : List Line → Counts
+countsOf ls = record { terms = length (entriesIn ls); polynomials = length (endsFrom 0 ls); operations = length ls }
+
+-- Room for the lines of s from a place on: four bytes for each term and each line.
+pub record LinesRoom (from s words coefs starts ops : ℕ) : Type 0 where
+  pub within : from ≤ s
+  pub terms-fit : s ≤ 4 * words + from
+  pub same-long : coefs ≡ words
+  pub starts-fit : s + 4 ≤ 4 * starts + from
+  pub pairs-fit : s ≤ 2 * ops + from
+
+abbrev pub LinesAs : Order → Option (List Line) → (words coefs starts ops words' coefs' starts' ops' : List ℕ) → Behind → Type 0
+LinesAs o none words coefs starts ops words' coefs' starts' ops' r = r ≡ Behind·Bad
+LinesAs o (some ls) words coefs starts ops words' coefs' starts' ops' r =
+    (r ≡ Behind·Line (countsOf ls))
+    × (words' ≡ sets words 0 (map (entryWord o) (entriesIn ls)))
+    × (coefs' ≡ sets coefs 0 (map entryCoef (entriesIn ls)))
+    × (starts' ≡ sets starts 1 (endsFrom 0 ls))
+    × (ops' ≡ sets ops 0 (pairsFrom 0 ls))
+
+pub record ReadLines (o : Order) (n from : ℕ) (s : List ℕ) (words coefs starts ops words' coefs' starts' ops' : List ℕ) (r : Behind) : Type 0 where
+  pub is : LinesAs o (linesOf n (parts 10 (drop from s))) words coefs starts ops words' coefs' starts' ops' r
+
+-- ---- the first three lines
+abbrev pub orderCode : Option Order → ℕ
+orderCode none = 0
+orderCode (some o) = orderNumber o
+
+-- a script of which the first three lines have been read
+abbrev pub scriptFrom : (p : ℕ) → Order → (n : ℕ) → List (List ℕ) → Option Script
+scriptFrom p o n ls = andThen (linesOf n ls) (λ xs. some (record { prime = p; order = o; vars = n; lines = xs }))
+
+-- the third line and those behind it
+abbrev pub varsThen : (p : ℕ) → Order → List (List ℕ) → Option Script
+varsThen p o [] = none
+varsThen p o (c ∷ ls) = andThen (afterWord vars-word c) (λ n. scriptFrom p o n ls)
+
+abbrev pub HeadAs : Option Script → (s : List ℕ) → Head → Type 0
+HeadAs x s Head·Bad = x ≡ none
+HeadAs x s (Is h) = (from-in : h .from ≤ length s) × (o : Order) × (named : h .order ≡ orderNumber o) × (x ≡ scriptFrom (h .prime) o (h .vars) (parts 10 (drop (h .from) s)))
+
+pub record ReadHeader (s : List ℕ) (r : Head) : Type 0 where
+  pub is : HeadAs (withHeader (parts 10 s)) s r
+
+pub record ReadVars (s : List ℕ) (p order j : ℕ) (r : Head) : Type 0 where
+  pub is : (o : Order) → order ≡ orderNumber o → HeadAs (varsThen p o (parts 10 (drop j s))) s r

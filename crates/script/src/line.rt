@@ -71,7 +71,7 @@ fn put_pair(ops: &mut [usize], k: usize, code: usize, index: usize)
 
 // The counts behind an operation without terms.
 fn plain(c: Counts) -> Counts
-    requires { ⌜ c .operations < 16384 ⌝ }
+    requires { ⌜ 2 * c .operations < 9223372036854775808 ⌝ }
     ensures { λ r. ⌜ r ≡ countsBehind c leadLine ⌝ }
 {
     Counts {
