@@ -6,3 +6,4 @@ pub mod FieldLaws
 pub mod LineLaws
 pub mod HeaderLaws
 pub mod LinesLaws
+pub mod ScriptLaws

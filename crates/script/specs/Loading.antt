@@ -15,7 +15,10 @@ use Rattle.script.specs.declared.entry.Parsed.{Parsed}
 use Rattle.script.specs.declared.entry.Parsed.the-variants.{Term}
 use Rattle.script.specs.declared.entry.Parsed.the-variants.{Bad as Parsed·Bad}
 use Rattle.text.specs.Bytes.{parts}
-use Rattle.script.specs.Reading.{numbersOf, fieldsOf, addOf, lineOf, linesOf, afterWord, withHeader}
+use Rattle.script.specs.Reading.{numbersOf, fieldsOf, addOf, lineOf, linesOf, afterWord, withHeader, scriptOf}
+use Rattle.script.specs.declared.reader.Loaded.{Loaded}
+use Rattle.script.specs.declared.reader.Found.{Found}
+use Rattle.script.specs.declared.reader.Found.the-variants.{Script as Found·Script, Bad as Found·Bad}
 use Rattle.text.specs.Numbers.{andThen}
 use Rattle.script.specs.declared.header.Header.{Header}
 use Rattle.script.specs.declared.header.Head.{Head}
@@ -181,3 +184,27 @@ pub record ReadHeader (s : List ℕ) (r : Head) : Type 0 where
 
 pub record ReadVars (s : List ℕ) (p order j : ℕ) (r : Head) : Type 0 where
   pub is : (o : Order) → order ≡ orderNumber o → HeadAs (varsThen p o (parts 10 (drop j s))) s r
+
+-- ---- a whole script
+
+-- "buffers sized from the script's length": 16,384 bytes hold at most 4,096 terms, and at most 4,096 lines
+pub record ScriptRoom (words coefs starts ops : ℕ) : Type 0 where
+  pub words-long : words ≡ 4096
+  pub coefs-long : coefs ≡ 4096
+  pub starts-long : starts ≡ 4097
+  pub ops-long : ops ≡ 8192
+
+abbrev pub loadedOf : Script → Loaded
+loadedOf s = record { prime = s .prime; order = orderNumber (s .order); vars = s .vars; counts = countsOf (s .lines) }
+
+abbrev pub ScriptAs : Option Script → (words coefs starts ops words' coefs' starts' ops' : List ℕ) → Found → Type 0
+ScriptAs none words coefs starts ops words' coefs' starts' ops' r = r ≡ Found·Bad
+ScriptAs (some s) words coefs starts ops words' coefs' starts' ops' r =
+    (r ≡ Found·Script (loadedOf s))
+    × (words' ≡ sets words 0 (wordsOf s))
+    × (coefs' ≡ sets coefs 0 (coefsOf s))
+    × (starts' ≡ sets starts 0 (startsOf s))
+    × (ops' ≡ sets ops 0 (pairsOf s))
+
+pub record ReadScript (s : List ℕ) (words coefs starts ops words' coefs' starts' ops' : List ℕ) (r : Found) : Type 0 where
+  pub is : ScriptAs (scriptOf s) words coefs starts ops words' coefs' starts' ops' r

@@ -3,3 +3,4 @@ pub mod entry; // a term
 pub mod header; // the first three lines
 pub mod line; // an addition's terms, and a line
 pub mod lines; // all lines behind the first three
+pub mod reader; // a whole script

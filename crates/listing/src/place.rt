@@ -1,0 +1,1 @@
+// A term of the listing, as the script writes it.

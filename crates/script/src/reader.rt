@@ -1,0 +1,56 @@
+// A whole script.
+use crate::header::Head;
+use crate::header::read_header;
+use crate::line::Behind;
+use crate::line::Counts;
+use crate::lines::read_lines;
+use monomial::order::order_of;
+ghost use lib.ListN.{length};
+ghost use Rattle.script.specs.Loading.{ScriptRoom, ReadScript};
+
+// The prime, the number of the order, the number of variables, and the counts.
+pub struct Loaded {
+    pub prime: u32,
+    pub order: u32,
+    pub vars: u32,
+    pub counts: Counts,
+}
+
+pub enum Found {
+    Script(Loaded),
+    Bad,
+}
+
+// Reads a script of any length, and puts what it says into words, coefficients, starts and operations.
+pub fn read_script(
+    s: &[u8],
+    words: &mut [u64],
+    coefs: &mut [u32],
+    starts: &mut [usize],
+    ops: &mut [usize],
+) -> Found
+    requires { ⌜ ScriptRoom (length (now words)) (length (now coefs)) (length (now starts)) (length (now ops)) ⌝ }
+    ensures { λ r. ⌜ ReadScript (now (s .entry)) (now (words .entry)) (now (coefs .entry)) (now (starts .entry)) (now (ops .entry)) (now (words .exit)) (now (coefs .exit)) (now (starts .exit)) (now (ops .exit)) r ⌝ }
+{
+    if 16384 < s.len() {
+        return Found::Bad;
+    }
+    let head = read_header(s);
+    let Head::Is(h) = head else {
+        return Found::Bad;
+    };
+    starts[0] = 0;
+    let from = h.from;
+    let order = order_of(h.order);
+    let behind = read_lines(s, from, order, h.vars, words, coefs, starts, ops);
+    let Behind::Line(counts) = behind else {
+        return Found::Bad;
+    };
+    let loaded = Loaded {
+        prime: h.prime,
+        order: h.order,
+        vars: h.vars,
+        counts,
+    };
+    Found::Script(loaded)
+}
