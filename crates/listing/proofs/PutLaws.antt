@@ -53,15 +53,15 @@ pub put-same : {text text' : List ℕ} {at : ℕ} {out out' : List ℕ} {next : 
 put-same e p = rw (← e) p
 
 -- one byte more of a text
-pub put-more : {text : List ℕ} {at : ℕ} {out out' out'' : List ℕ} {to to' : ℕ} (i : ℕ) → i < length text → Put (take i text) at out out' to → Put (getD text i 0 ∷ []) to out' out'' to' → Put (take (i + 1) text) at out out'' to'
-put-more {text} i h p q = put-same (sym (ap (λ (k : ℕ). take k text) (add-one i) ∙ take-suc text i 0 h)) (put-both p q)
+pub put-more : (text : List ℕ) {at : ℕ} {out out' out'' : List ℕ} {to to' : ℕ} (i : ℕ) → i < length text → Put (take i text) at out out' to → Put (getD text i 0 ∷ []) to out' out'' to' → Put (take (i + 1) text) at out out'' to'
+put-more text i h p q = put-same (sym (ap (λ (k : ℕ). take k text) (add-one i) ∙ take-suc text i 0 h)) (put-both p q)
 
-pub put-all : {text : List ℕ} {at : ℕ} {out out' : List ℕ} {to : ℕ} (i : ℕ) → length text ≤ i → Put (take i text) at out out' to → Put text at out out' to
-put-all {text} i h p = put-same (take-all i text h) p
+pub put-all : (text : List ℕ) {at : ℕ} {out out' : List ℕ} {to : ℕ} (i : ℕ) → length text ≤ i → Put (take i text) at out out' to → Put text at out out' to
+put-all text i h p = put-same (take-all i text h) p
 
 -- the digits of a number
-pub put-digit : {v : ℕ} {at : ℕ} {out out' : List ℕ} {to : ℕ} → v < 10 → Put ((48 + v) ∷ []) at out out' to → Put (decimal v) at out out' to
-put-digit {v} h p = put-same (sym (decimal-digit v h)) p
+pub put-digit : (v : ℕ) {at : ℕ} {out out' : List ℕ} {to : ℕ} → v < 10 → Put ((48 + v) ∷ []) at out out' to → Put (decimal v) at out out' to
+put-digit v h p = put-same (sym (decimal-digit v h)) p
 
-pub put-digits : {v : ℕ} {at : ℕ} {out out' out'' : List ℕ} {to to' : ℕ} → 10 ≤ v → Put (decimal (v / 10)) at out out' to → Put ((48 + v % 10) ∷ []) to out' out'' to' → Put (decimal v) at out out'' to'
-put-digits {v} h p q = put-same (sym (decimal-more v h)) (put-both p q)
+pub put-digits : (v : ℕ) {at : ℕ} {out out' out'' : List ℕ} {to to' : ℕ} → 10 ≤ v → Put (decimal (v / 10)) at out out' to → Put ((48 + v % 10) ∷ []) to out' out'' to' → Put (decimal v) at out out'' to'
+put-digits v h p q = put-same (sym (decimal-more v h)) (put-both p q)
