@@ -1,3 +1,4 @@
 // The listing of a script.
-pub mod put; // bytes, words and numbers into a lent slice
+pub mod answers; // the lines of a run's leads and sums
 pub mod place; // terms
+pub mod put; // bytes, words and numbers into a lent slice

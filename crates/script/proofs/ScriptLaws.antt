@@ -95,13 +95,13 @@ module _ {s : List ℕ} {h : Header} (l : length s ≤ 16384) (d : HeadRead s h)
             let k : c ≡ countsOf ls = cc in
             let oo : o ≡ d .order = oe ∙ order-is in
             record {
-              is = rw (script-is (some ls) y)
-                ( rw (k, d .named) refl
-                , q .1 ∙ ap (λ (p : Order). sets words 0 (map (entryWord p) (entriesIn ls))) oo
-                , q .2
-                , q .3
-                , q .4
-                );
+              is = rw (script-is (some ls) y) (
+                rw (k, d .named) refl,
+                q .1 ∙ ap (λ (p : Order). sets words 0 (map (entryWord p) (entriesIn ls))) oo,
+                q .2,
+                q .3,
+                q .4,
+              );
             }
 
   pub lines-room-at : (words coefs starts ops : List ℕ) → ScriptRoom (length words) (length coefs) (length starts) (length ops) → LinesRoom (h .from) (length s) (length words) (length coefs) (length (set starts 0 0)) (length ops)

@@ -1,3 +1,8 @@
+use Rattle.listing.proofs.PlaceLaws.{put-dotted, put-first}
+use Rattle.listing.proofs.PutLaws.{put-same}
+use Rattle.text.specs.Numbers.{decimal}
+use mathlib.Core.Path.{ap, sym, _∙_}
+-- `listing::place::put_exponent` meets its contract. Assumes nothing.
 use borrow.Author.Needs.{needs}
 use Rattle.listing.proofs.place.put_exponent.Statement.{statement}
 use Rattle.listing.proofs.place.put_exponent.Tie as tie
@@ -25,7 +30,7 @@ same-length c = search needs
 
 -- src/place.rt:21:9
 returns : tie.Need-returns
-returns c = ?
+returns c = put-first _ _ (c .before .before .before .before .if1 .taken) (put-same (ap decimal (c .before .before .before .before .before .exponent .ensures)) (c .before .before .put-decimal .ensures))
 
 -- src/place.rt:23:9
 put-byte-requires : tie.Need-put-byte-requires
@@ -45,7 +50,7 @@ same-length-2 c = search needs
 
 -- src/place.rt:15:1
 returns-2 : tie.Need-returns-2
-returns-2 c = ?
+returns-2 c = put-dotted _ _ (c .before .before .before .before .before .before .before .before .if1 .left) (c .before .before .before .before .before .before .put-byte .ensures) (put-same (ap decimal (c .before .before .before .before .before .before .before .before .before .exponent .ensures)) (c .before .before .put-decimal2 .ensures))
 
 pub put-exponent-spec : {M : Type 1} → statement M
 put-exponent-spec =
