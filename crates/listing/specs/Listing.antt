@@ -8,6 +8,7 @@ use lib.ListN.{length, drop}
 use Rattle.monomial.specs.declared.order.Order.{Order}
 use Rattle.monomial.specs.Layout.{exponents}
 use Rattle.polynomial.specs.Terms.{Term, term, terms}
+use Rattle.geobucket.specs.Events.{bound}
 use Rattle.text.specs.Bytes.{joined}
 use Rattle.text.specs.Numbers.{decimal}
 use Rattle.listing.specs.declared.answers.Next.{Next}
@@ -97,3 +98,31 @@ pub record AnswerPut (o : Order) (n code i : ℕ) (ow oc : List ℕ) (at : ℕ) 
   pub put : Put (answerBy (eqb code 1) (eqb code 2) o n (drop i (terms ow oc))) at out out' (r .at)
   pub behind : drop (r .place) (terms ow oc) ≡ behindBy (eqb code 1) (eqb code 2) (drop i (terms ow oc))
   pub within : r .place ≤ length ow
+
+pub record SumPut (o : Order) (n i : ℕ) (ow oc : List ℕ) (at : ℕ) (out out' : List ℕ) (r : Next) : Type 0 where
+  pub put : Put (sumText o n (drop i (terms ow oc))) at out out' (r .at)
+  pub place : r .place ≡ i + length (sumTerms (drop i (terms ow oc)))
+  pub within : r .place ≤ length ow
+
+-- ---- the last line
+
+-- `cost `, ` of `, `refused `, ` at `
+abbrev pub cost-word : List ℕ
+cost-word = 99 ∷ 111 ∷ 115 ∷ 116 ∷ 32 ∷ []
+
+abbrev pub of-word : List ℕ
+of-word = 32 ∷ 111 ∷ 102 ∷ 32 ∷ []
+
+abbrev pub refused-word : List ℕ
+refused-word = 114 ∷ 101 ∷ 102 ∷ 117 ∷ 115 ∷ 101 ∷ 100 ∷ 32 ∷ []
+
+abbrev pub at-word : List ℕ
+at-word = 32 ∷ 97 ∷ 116 ∷ 32 ∷ []
+
+-- "The cost line gives comparisons and 6·N·M."
+unfoldable pub costText : (comparisons brought : ℕ) → List ℕ
+costText comparisons brought = cost-word ++ (decimal comparisons ++ (of-word ++ (decimal (bound brought) ++ (10 ∷ []))))
+
+-- "A refusal prints `refused R at K` (number, operations finished) as the last line, without a cost."
+unfoldable pub refusedText : (number finished : ℕ) → List ℕ
+refusedText number finished = refused-word ++ (decimal number ++ (at-word ++ (decimal finished ++ (10 ∷ []))))

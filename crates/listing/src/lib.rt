@@ -2,3 +2,4 @@
 pub mod answers; // the lines of a run's leads and sums
 pub mod place; // terms
 pub mod put; // bytes, words and numbers into a lent slice
+pub mod ending; // the last line: cost or refusal
