@@ -2,3 +2,6 @@ pub mod PutLaws
 pub mod PlaceLaws
 pub mod AnswerLaws
 pub mod EndingLaws
+pub mod WholeLaws
+pub mod SizeLaws
+pub mod OutcomeLaws

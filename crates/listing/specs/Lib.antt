@@ -1,2 +1,4 @@
 pub mod Put
 pub mod Listing
+pub mod Whole
+pub mod Outcome

@@ -29,14 +29,14 @@ fn coef_at(s: &[u32], i: usize) -> u32
 }
 
 // Puts a term behind a space, or ` zero`.
-fn put_place(order: Order, n: u32, w: u64, c: u32, out: &mut [u8], at: usize) -> usize
+fn put_place(order: Order, n: u32, w: u64, coef: u32, out: &mut [u8], at: usize) -> usize
     requires { ⌜ at ≤ length (now out) ⌝ }
-    ensures { λ r. ⌜ Put (placeText order n (term w c)) at (now (out .entry)) (now (out .exit)) r ⌝ }
+    ensures { λ r. ⌜ Put (placeText order n (term w coef)) at (now (out .entry)) (now (out .exit)) r ⌝ }
 {
-    if c == 0 {
+    if coef == 0 {
         return put(b" zero", out, at);
     }
-    put_term(order, n, w, c, out, at)
+    put_term(order, n, w, coef, out, at)
 }
 
 // Puts the line of a lead, from output place i.

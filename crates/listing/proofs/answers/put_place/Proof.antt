@@ -23,7 +23,7 @@ same-length c = search needs
 
 -- src/answers.rt:37:9
 returns : tie.Need-returns
-returns c = put-zero (c .before .before .before .before .before .before .before .args .order) (c .before .before .before .before .before .before .before .args .n) (term (c .before .before .before .before .before .before .before .args .w) (c .before .before .before .before .before .before .before .args .c)) (c .before .before .before .before .before .if1 .taken) (c .before .before .put .ensures)
+returns c = put-zero (c .before .before .before .before .before .before .before .args .order) (c .before .before .before .before .before .before .before .args .n) (term (c .before .before .before .before .before .before .before .args .w) (c .before .before .before .before .before .before .before .args .coef)) (c .before .before .before .before .before .if1 .taken) (c .before .before .put .ensures)
 
 -- src/answers.rt:39:5
 put-term-requires : tie.Need-put-term-requires
@@ -35,7 +35,7 @@ same-length-2 c = search needs
 
 -- src/answers.rt:32:1
 returns-2 : tie.Need-returns-2
-returns-2 c = put-nonzero (c .before .before .before .before .before .before .args .order) (c .before .before .before .before .before .before .args .n) (term (c .before .before .before .before .before .before .args .w) (c .before .before .before .before .before .before .args .c)) (c .before .before .before .before .if1 .left) (c .before .before .put-term .ensures)
+returns-2 c = put-nonzero (c .before .before .before .before .before .before .args .order) (c .before .before .before .before .before .before .args .n) (term (c .before .before .before .before .before .before .args .w) (c .before .before .before .before .before .before .args .coef)) (c .before .before .before .before .if1 .left) (c .before .before .put-term .ensures)
 
 pub put-place-spec : {M : Type 1} → statement M
 put-place-spec =

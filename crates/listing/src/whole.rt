@@ -1,0 +1,107 @@
+// The whole listing of a script.
+use crate::answers::put_answers;
+use crate::ending::put_cost;
+use crate::ending::put_refused;
+use monomial::order::Order;
+use monomial::order::order_of;
+use opening::refusal::number_of;
+use runs::Answer;
+use runs::Tally;
+use runs::run;
+use script::reader::Found;
+use script::reader::Loaded;
+use script::reader::read_script;
+ghost use Prim.Native.Nat.{_≤_};
+ghost use lib.ListN.{length};
+ghost use Rattle.listing.specs.Put.{Put};
+ghost use Rattle.listing.specs.Whole.{ranText, RanRoom, loadedText, listingOf};
+
+// Puts what a run answered.
+fn put_ran(
+    tally: Tally,
+    answer: Answer,
+    order: Order,
+    n: u32,
+    ops: &[usize],
+    ow: &[u64],
+    oc: &[u32],
+    out: &mut [u8],
+) -> usize
+    requires { ⌜ RanRoom tally answer (length (now ow)) (length (now oc)) ⌝ }
+    ensures { λ r. ⌜ Put (ranText order n (now (ops .entry)) (now (ow .entry)) (now (oc .entry)) tally answer) 0 (now (out .entry)) (now (out .exit)) r ⌝ }
+{
+    match answer {
+        Answer::Done { operations: _, places } => {
+            let m = places as usize;
+            let at = put_answers(order, n, ops, &ow[..m], &oc[..m], out);
+            put_cost(tally.comparisons, tally.brought, out, at)
+        }
+        Answer::Refused { refusal, finished } => put_refused(number_of(refusal), finished, out, 0),
+    }
+}
+
+// Runs what a script says, and puts what the run answered.
+fn list_run<'a>(
+    l: Loaded,
+    words: &'a [u64],
+    coefs: &'a [u32],
+    starts: &[usize],
+    ops: &[usize],
+    out: &mut [u8],
+) -> usize
+    requires { ⌜ (length (now words) ≤ 4096) × (length (now ops) ≤ 8192) ⌝ }
+    ensures { λ r. ⌜ Put (loadedText l (now (words .entry)) (now (coefs .entry)) (now (starts .entry)) (now (ops .entry))) 0 (now (out .entry)) (now (out .exit)) r ⌝ }
+{
+    let mut bw = [0u64; 5460];
+    let mut bc = [0u32; 5460];
+    let mut ww = [0u64; 8192];
+    let mut wc = [0u32; 8192];
+    let mut ow = [0u64; 4096];
+    let mut oc = [0u32; 4096];
+    let none = Tally {
+        comparisons: 0,
+        brought: 0,
+        given: 0,
+        held: 0,
+    };
+    let ran = run(
+        none,
+        l.prime,
+        l.order,
+        l.vars,
+        words,
+        coefs,
+        starts,
+        ops,
+        &mut bw,
+        &mut bc,
+        &mut ww,
+        &mut wc,
+        &mut ow,
+        &mut oc,
+    );
+    let tally = ran.tally;
+    let answer = ran.answer;
+    put_ran(tally, answer, order_of(l.order), l.vars, ops, &ow, &oc, out)
+}
+
+// Reads a script and puts its listing.
+pub fn put_listing(script: &[u8], out: &mut [u8]) -> usize
+    ensures { λ r. ⌜ Put (listingOf (now (script .entry))) 0 (now (out .entry)) (now (out .exit)) r ⌝ }
+{
+    let mut words = [0u64; 4096];
+    let mut coefs = [0u32; 4096];
+    let mut starts = [0usize; 4097];
+    let mut ops = [0usize; 8192];
+    let found = read_script(script, &mut words, &mut coefs, &mut starts, &mut ops);
+    match found {
+        Found::Script(l) => {
+            let counts = l.counts;
+            let t = counts.terms;
+            let k = counts.polynomials + 1;
+            let m = 2 * counts.operations;
+            list_run(l, &words[..t], &coefs[..t], &starts[..k], &ops[..m], out)
+        }
+        Found::Bad => put_refused(17, 0, out, 0),
+    }
+}
