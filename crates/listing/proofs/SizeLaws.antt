@@ -141,10 +141,10 @@ good-listing {s} {l} {words} {coefs} {starts} {ops} d p = put-same (text ∙ sym
     text =
         ap (λ (x : List ℕ). loadedText l x (take (l .counts .terms) coefs) (take (l .counts .polynomials + 1) starts) (take (2 * l .counts .operations) ops)) (d .words-are)
         ∙ (ap (λ (x : List ℕ). loadedText l (wordsOf (d .script)) x (take (l .counts .polynomials + 1) starts) (take (2 * l .counts .operations) ops)) (d .coefs-are)
-          ∙ (ap (λ (x : List ℕ). loadedText l (wordsOf (d .script)) (coefsOf (d .script)) x (take (2 * l .counts .operations) ops)) (d .starts-are)
-            ∙ (ap (λ (x : List ℕ). loadedText l (wordsOf (d .script)) (coefsOf (d .script)) (startsOf (d .script)) x) (d .pairs-are)
-              ∙ (ap (λ (x : Loaded). loadedText x (wordsOf (d .script)) (coefsOf (d .script)) (startsOf (d .script)) (pairsOf (d .script))) (d .loaded)
-                ∙ ap (λ (o : Order). outcomeText o (d .script .vars) (pairsOf (d .script)) (scriptOutcome (d .script))) (order-number (d .script .order))))))
+        ∙ (ap (λ (x : List ℕ). loadedText l (wordsOf (d .script)) (coefsOf (d .script)) x (take (2 * l .counts .operations) ops)) (d .starts-are)
+        ∙ (ap (λ (x : List ℕ). loadedText l (wordsOf (d .script)) (coefsOf (d .script)) (startsOf (d .script)) x) (d .pairs-are)
+        ∙ (ap (λ (x : Loaded). loadedText x (wordsOf (d .script)) (coefsOf (d .script)) (startsOf (d .script)) (pairsOf (d .script))) (d .loaded)
+        ∙ ap (λ (o : Order). outcomeText o (d .script .vars) (pairsOf (d .script)) (scriptOutcome (d .script))) (order-number (d .script .order))))))
 
 pub prefix-in : (n size : ℕ) (l : List ℕ) → n ≤ size → length l ≡ size → n ≤ length l
 prefix-in n size l h e = omega arith

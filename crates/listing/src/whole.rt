@@ -31,7 +31,10 @@ fn put_ran(
     ensures { λ r. ⌜ Put (ranText order n (now (ops .entry)) (now (ow .entry)) (now (oc .entry)) tally answer) 0 (now (out .entry)) (now (out .exit)) r ⌝ }
 {
     match answer {
-        Answer::Done { operations: _, places } => {
+        Answer::Done {
+            operations: _,
+            places,
+        } => {
             let m = places as usize;
             let at = put_answers(order, n, ops, &ow[..m], &oc[..m], out);
             put_cost(tally.comparisons, tally.brought, out, at)
