@@ -1,5 +1,5 @@
 //! A second program for what the proved crates compute. `monomial`, `residue`, `polynomial`,
-//! `geobucket` and `run` are plain models, which share no code with the proved crates; `probe`,
+//! `geobucket`, `run` and `script` are plain models, which share no code with the proved crates; `probe`,
 //! `probe_buckets` and `probe_run` call the proved functions; `generate`, `operations`, `run_lists`
 //! and `damage` make what they are given.
 pub mod c_functions;
@@ -16,6 +16,7 @@ pub mod random;
 pub mod residue;
 pub mod run;
 pub mod run_lists;
+pub mod script;
 
 /// How many cases a group of generated tests has: the variable SECOND_CASES, or 50,000.
 pub fn cases() -> u64 {

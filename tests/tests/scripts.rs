@@ -1,0 +1,164 @@
+//! The program `bucketlist` against the second program's listing of the same script. The program is
+//! `target/bin/bucketlist`, which `rt check bucketlist` makes.
+use second::monomial::Order;
+use second::random::Random;
+use second::script::{listing, LONGEST};
+use std::io::Write;
+use std::path::PathBuf;
+use std::process::{Command, Stdio};
+
+/// Half of these are damaged.
+const SCRIPTS: u64 = 5_000;
+
+fn program() -> PathBuf {
+    PathBuf::from(env!("CARGO_MANIFEST_DIR")).join("../target/bin/bucketlist")
+}
+
+/// What the program writes for a script.
+fn proved(script: &[u8]) -> String {
+    let mut child = Command::new(program())
+        .stdin(Stdio::piped())
+        .stdout(Stdio::piped())
+        .spawn()
+        .expect("target/bin/bucketlist runs: `rt check bucketlist` makes it");
+    let mut input = child.stdin.take().expect("its input is a pipe");
+    input.write_all(script).expect("it reads its input");
+    drop(input);
+    let output = child.wait_with_output().expect("it ends");
+    String::from_utf8(output.stdout).expect("it writes text")
+}
+
+fn same(script: &[u8]) {
+    let text = String::from_utf8_lossy(script);
+    assert_eq!(proved(script), listing(script), "script:\n{text}");
+}
+
+/// A falling polynomial with few monomials, so that much cancels.
+fn polynomial(random: &mut Random, order: Order, n: usize, p: u64) -> String {
+    let largest = random.pick(&[2, 3, 128]);
+    let mut monomials: Vec<Vec<u8>> = (0..random.below(9))
+        .map(|_| (0..n).map(|_| random.below(largest) as u8).collect())
+        .collect();
+    monomials.sort_by(|a, b| order.compare(b, a));
+    monomials.dedup();
+    let mut text = "add".to_string();
+    for exponents in monomials {
+        let coef = 1 + random.below(p - 1);
+        let parts: Vec<String> = exponents.iter().map(u8::to_string).collect();
+        text += &format!(" {coef}:{}", parts.join("."));
+    }
+    text
+}
+
+fn script(random: &mut Random) -> Vec<u8> {
+    let order = random.pick(&Order::ALL);
+    let n = 1 + random.below(6) as usize;
+    let p = random.pick(&[2, 3, 7, 101, 32_003, 65_521]);
+    let mut text = format!("prime {p}\norder {}\nvars {n}\n", order.name());
+    for _ in 0..random.below(30) {
+        let line = match random.below(4) {
+            0 => "lead".to_string(),
+            1 if random.below(3) == 0 => "sum".to_string(),
+            _ => polynomial(random, order, n, p),
+        };
+        text += &line;
+        text.push('\n');
+    }
+    text.into_bytes()
+}
+
+/// One byte inserted, removed or changed.
+fn damage(random: &mut Random, script: &mut Vec<u8>) {
+    let byte = random.pick(b"0123456789:. \nadlesumpx\r");
+    let at = random.below(script.len() as u64) as usize;
+    match random.below(3) {
+        0 => script.insert(at, byte),
+        1 => drop(script.remove(at)),
+        _ => script[at] = byte,
+    }
+}
+
+#[test]
+fn generated_scripts() {
+    let mut random = Random::new(8);
+    for case in 0..SCRIPTS {
+        let mut script = script(&mut random);
+        if case % 2 == 1 {
+            damage(&mut random, &mut script);
+        }
+        same(&script);
+    }
+}
+
+#[test]
+fn the_listing_of_document_01() {
+    let script =
+        b"prime 7\norder dp\nvars 2\nadd 3:2.0 1:1.1 1:0.2 1:1.0 1:0.1\nadd 4:2.0\nlead\nsum\n";
+    let listing = "lead 1:1.1\nsum 1:0.2 1:1.0 1:0.1\ncost 1 of 72\n";
+    assert_eq!(proved(script), listing);
+    same(script);
+}
+
+#[test]
+fn corners() {
+    let cases: [(&str, &str); 20] = [
+        ("", "refused 17 at 0\n"),
+        ("prime 7\norder dp\nvars 2\n", "cost 0 of 0\n"),
+        ("prime 7\norder dp\nvars 2", "refused 17 at 0\n"),
+        ("prime 7\norder dp\nvars 2\nlead", "refused 17 at 0\n"),
+        (
+            "prime 7\norder dp\nvars 2\nlead\n",
+            "lead zero\ncost 0 of 0\n",
+        ),
+        (
+            "prime 7\norder dp\nvars 2\nsum\n",
+            "sum zero\ncost 0 of 0\n",
+        ),
+        ("prime 7\norder dp\nvars 0\n", "refused 3 at 0\n"),
+        ("prime 7\norder dp\nvars 0\nadd 1:0\n", "refused 17 at 0\n"),
+        (
+            "prime 7\norder dp\nvars 7\nadd 1:0.0.0.0.0.0.0\n",
+            "refused 3 at 0\n",
+        ),
+        (
+            "prime 7\norder dp\nvars 7\nadd 1:0.0.0.0.0.0\n",
+            "refused 17 at 0\n",
+        ),
+        ("prime 7\norder dp\nvars 1\nadd  1:0\n", "refused 17 at 0\n"),
+        ("prime 7\norder dp\nvars 1\nadd \n", "refused 17 at 0\n"),
+        ("prime 7\norder dp\nvars 1\nadd 01:0\n", "refused 17 at 0\n"),
+        ("prime 7\norder dp\nvars 1\nadd 1:00\n", "refused 17 at 0\n"),
+        ("prime 7\norder dp\nvars 1\nlead 1:0\n", "refused 17 at 0\n"),
+        ("prime 7\r\norder dp\r\nvars 1\r\n", "refused 17 at 0\n"),
+        ("prime 7\norder dp\nvars 1\nadd 1:128\n", "refused 5 at 0\n"),
+        ("prime 7\norder dp\nvars 1\nadd 7:128\n", "refused 4 at 0\n"),
+        (
+            "prime 7\norder dp\nvars 1\nadd 1:4294967295\n",
+            "refused 5 at 0\n",
+        ),
+        (
+            "prime 7\norder dp\nvars 1\nadd 1:4294967296\n",
+            "refused 17 at 0\n",
+        ),
+    ];
+    for (script, listing) in cases {
+        assert_eq!(proved(script.as_bytes()), listing, "script:\n{script}");
+        same(script.as_bytes());
+    }
+}
+
+/// The longest script is read, and one byte more is refused and not cut.
+#[test]
+fn lengths() {
+    let head = "prime 65521\norder lp\nvars 1\n";
+    let line = "add 1:0\nsum\n";
+    let mut script = head.to_string() + &line.repeat((LONGEST - head.len()) / line.len());
+    while script.len() + 4 <= LONGEST {
+        script += "add\n";
+    }
+    same(script.as_bytes());
+    assert!(listing(script.as_bytes()).ends_with('\n'));
+    let long = script + "add\nadd\nadd\n";
+    assert_eq!(proved(long.as_bytes()), "refused 17 at 0\n");
+    same(long.as_bytes());
+}
