@@ -15,6 +15,7 @@ use Rattle.monomial.proofs.LayoutLaws.{length-fields}
 use Rattle.polynomial.specs.Terms.{Term, term}
 use Rattle.text.specs.Bytes.{joined}
 use Rattle.text.specs.Numbers.{decimal}
+use Rattle.script.proofs.Prefix.{map-snoc}
 use Rattle.listing.specs.Put.{Put}
 use Rattle.listing.specs.Listing.{exponentsText, termText, dotted}
 use Rattle.listing.proofs.PutLaws.{put-both, put-same, put-nothing}
@@ -24,10 +25,6 @@ unfolding joined
 joined-last b p [] q = refl
 joined-last b p (r ∷ ps) q = ap (λ (l : List ℕ). p ++ (b ∷ l)) (joined-last b r ps q) ∙ sym (append-assoc p (b ∷ joined b (r ∷ ps)) (b ∷ q))
 
-map-snoc : (xs : List ℕ) (x : ℕ) → map decimal (xs ++ (x ∷ [])) ≡ map decimal xs ++ (decimal x ∷ [])
-map-snoc [] x = refl
-map-snoc (y ∷ xs) x = ap (λ (l : List (List ℕ)). decimal y ∷ l) (map-snoc xs x)
-
 -- one more exponent
 dotted-more : (es : List ℕ) (i : ℕ) → i < length es → joined 46 (map decimal (take (i + 1) es)) ≡ joined 46 (map decimal (take i es)) ++ dotted i (getD es i 0)
 unfolding joined
@@ -36,7 +33,7 @@ dotted-more [] (suc i) h = absurd (let z : ⊥ = omega arith in z)
 dotted-more (e ∷ es) (suc i) h =
     ap (λ (k : ℕ). joined 46 (map decimal (take k (e ∷ es)))) (add-one (suc i))
     ∙ (ap (λ (l : List ℕ). joined 46 (map decimal l)) (take-suc (e ∷ es) (suc i) 0 h)
-    ∙ (ap (joined 46) (map-snoc (take (suc i) (e ∷ es)) (getD (e ∷ es) (suc i) 0)) ∙ joined-last 46 (decimal e) (map decimal (take i es)) (decimal (getD (e ∷ es) (suc i) 0))))
+    ∙ (ap (joined 46) (map-snoc decimal (take (suc i) (e ∷ es)) (getD (e ∷ es) (suc i) 0)) ∙ joined-last 46 (decimal e) (map decimal (take i es)) (decimal (getD (e ∷ es) (suc i) 0))))
 
 -- taking no more than there is
 take-least : (n : ℕ) (xs : List ℕ) (k : ℕ) → length xs ≡ k → take (min n k) xs ≡ take n xs

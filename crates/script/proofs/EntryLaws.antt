@@ -25,7 +25,7 @@ use Rattle.script.specs.Grammar.{Entry}
 use Rattle.script.specs.Reading.{numbersOf, exponentsOf, entryAt, entryBy, entryOf}
 use Rattle.script.specs.Loading.{capped, CountedAs, ReadExponents, parsed, entryWord}
 use Rattle.script.proofs.Written.{entry-at}
-use Rattle.script.proofs.Prefix.{before, before-more, before-none, partsFrom, from-start, from-next, from-end, sets-out}
+use Rattle.script.proofs.Prefix.{map-snoc, before, before-more, before-none, partsFrom, from-start, from-next, from-end, sets-out}
 
 pub record Counting (s exps₀ exps : List ℕ) (at count : ℕ) : Type 0 where
   pub done : List ℕ
@@ -35,10 +35,6 @@ pub record Counting (s exps₀ exps : List ℕ) (at count : ℕ) : Type 0 where
 
 pub counting-start : (s exps : List ℕ) → Counting s exps exps 0 0
 counting-start s exps = record { done = []; number = refl; whole = before-none (numbersOf (partsFrom 46 0 s)) ∙ ap numbersOf (from-start 46 s); stored = refl }
-
-map-snoc : (f : ℕ → ℕ) (xs : List ℕ) (x : ℕ) → map f (xs ++ (x ∷ [])) ≡ map f xs ++ (f x ∷ [])
-map-snoc f [] x = refl
-map-snoc f (y ∷ xs) x = ap (λ (l : List ℕ). f y ∷ l) (map-snoc f xs x)
 
 module _ {s exps₀ exps : List ℕ} {at count : ℕ} (c : Counting s exps₀ exps at count) (h : at ≤ length s) (e : ℕ) (is : e ≡ at + indexOf 46 (drop at s)) where
   pub counting-more : (v : ℕ) → numberOf (take (e - at) (drop at s)) ≡ some v → (exps' : List ℕ) → exps' ≡ set exps count (capped v) → Counting s exps₀ exps' (e + 1) (count + 1)

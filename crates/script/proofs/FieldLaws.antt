@@ -26,7 +26,7 @@ use Rattle.script.specs.Grammar.{Entry, entryText, entriesText, GoodEntr
 use Rattle.script.specs.Reading.{entryOf, entriesOf, fieldsOf}
 use Rattle.script.specs.Loading.{parsed, entryWord, entryCoef, EntriesAs, ReadEntries, EntryRoom}
 use Rattle.script.proofs.Accepted.{entry-read}
-use Rattle.script.proofs.Prefix.{before, before-more, before-none}
+use Rattle.script.proofs.Prefix.{map-snoc, before, before-more, before-none}
 
 -- ---- the fields from a place on
 module _ (n : ℕ) (s : List ℕ) (i : ℕ) where
@@ -106,10 +106,6 @@ pub record Adding (o : Order) (n : ℕ) (s : List ℕ) (at : ℕ) (words₀ coef
 
 pub adding-start : (o : Order) (n : ℕ) (s : List ℕ) (at : ℕ) (words coefs : List ℕ) → Adding o n s at words coefs words coefs at 0
 adding-start o n s at words coefs = record { done = []; place = omega arith; whole = before-none (fieldsOf n (parts 32 s)); words-are = refl; coefs-are = refl }
-
-map-snoc : {A : Type 0} (f : A → ℕ) (xs : List A) (x : A) → map f (xs ++ (x ∷ [])) ≡ map f xs ++ (f x ∷ [])
-map-snoc f [] x = refl
-map-snoc f (y ∷ xs) x = ap (λ (l : List ℕ). f y ∷ l) (map-snoc f xs x)
 
 put-one : {A : Type 0} (f : A → ℕ) (l₀ l : List ℕ) (at to : ℕ) (done : List A) (a : A) (v : ℕ) → to ≡ at + length done → l ≡ sets l₀ at (map f done) → v ≡ f a → set l to v ≡ sets l₀ at (map f (done ++ (a ∷ [])))
 put-one f l₀ l at to done a v p e q =

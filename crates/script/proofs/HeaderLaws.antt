@@ -21,7 +21,7 @@ use Rattle.script.specs.declared.header.Head.the-variants.{Is, Bad as He
 use Rattle.script.specs.Grammar.{Script, prime-word, order-word, vars-word, orderName}
 use Rattle.script.specs.Reading.{linesOf, numberIf, afterWord, orderBy, orderRead, withHeader}
 use Rattle.script.specs.Loading.{orderNumber, orderCode, scriptFrom, varsThen, HeadAs, ReadHeader, ReadVars}
-use Rattle.script.proofs.Prefix.{partsIf, partsFrom, from-start, from-next, from-end}
+use Rattle.script.proofs.Prefix.{parts-at, partsFrom, from-start, from-next, from-end}
 
 -- ---- a number behind a word
 module _ (w s : List ℕ) where
@@ -68,13 +68,9 @@ no-lines : (p : ℕ) (o : Order) (n : ℕ) → scriptFrom p o n [] ≡ none
 unfolding andThen linesOf
 no-lines p o n = refl
 
--- the parts from a place on
-parts-at : (j : ℕ) (s : List ℕ) → j ≤ length s → parts 10 (drop j s) ≡ partsFrom 10 j s
-parts-at j s h = ap (λ (b : Bool). partsIf b 10 (drop j s)) (sym (le-leb j (length s) h))
-
 module _ (s : List ℕ) (p order j c : ℕ) (h : j ≤ length s) (is : c ≡ j + indexOf 10 (drop j s)) where
   third : parts 10 (drop j s) ≡ take (c - j) (drop j s) ∷ partsFrom 10 (c + 1) s
-  third = parts-at j s h ∙ from-next 10 j s h c is
+  third = sym (parts-at 10 j s h) ∙ from-next 10 j s h c is
 
   pub vars-cut : c ≡ length s → ReadVars s p order j Head·Bad
   vars-cut e = record { is = λ o q. ap (varsThen p o) (third ∙ ap (λ (l : List (List ℕ)). take (c - j) (drop j s) ∷ l) (from-end 10 (c + 1) s (omega arith))) ∙ then-none (afterWord vars-word (take (c - j) (drop j s))) (λ n. scriptFrom p o n []) (λ n. no-lines p o n) }
@@ -88,7 +84,7 @@ module _ (s : List ℕ) (p order j c : ℕ) (h : j ≤ length s) (is : c ≡ j +
   vars-good v l n e = record {
     is = λ o q.
         let f : c + 1 ≤ length s = omega arith in
-        (f, o, q, ap (varsThen p o) third ∙ (ap (λ (x : Option ℕ). andThen x (λ m. scriptFrom p o m (partsFrom 10 (c + 1) s))) e ∙ ap (scriptFrom p o v) (sym (parts-at (c + 1) s f))));
+        (f, o, q, ap (varsThen p o) third ∙ (ap (λ (x : Option ℕ). andThen x (λ m. scriptFrom p o m (partsFrom 10 (c + 1) s))) e ∙ ap (scriptFrom p o v) (parts-at 10 (c + 1) s f)));
   }
 
 -- ---- the first two lines
@@ -129,5 +125,5 @@ module _ (s : List ℕ) (a : ℕ) (is : a ≡ 0 + indexOf 10 s) where
     header-good order q z k n {r} d =
         let x = some-order (orderRead (take (b - (a + 1)) (drop (a + 1) s))) (λ y. z (q ∙ y)) in
         let f : b + 1 ≤ length s = omega arith in
-        let w : withHeader (parts 10 s) ≡ varsThen p (x .0) (parts 10 (drop (b + 1) s)) = two ∙ (ap (λ (y : Option Order). andThen y (λ o. varsThen p o (partsFrom 10 (b + 1) s))) (x .1) ∙ ap (varsThen p (x .0)) (sym (parts-at (b + 1) s f))) in
+        let w : withHeader (parts 10 s) ≡ varsThen p (x .0) (parts 10 (drop (b + 1) s)) = two ∙ (ap (λ (y : Option Order). andThen y (λ o. varsThen p o (partsFrom 10 (b + 1) s))) (x .1) ∙ ap (varsThen p (x .0)) (parts-at 10 (b + 1) s f)) in
         record { is = rw w (d .is (x .0) (q ∙ x .2)) }

@@ -23,7 +23,7 @@ use Rattle.script.specs.Reading.{lineOf, linesOf}
 use Rattle.script.specs.Loading.{entryWord, entryCoef, lineEntries, entriesIn, endsFrom, pairsFrom, countsBehind, LineRoom, LineAs, ReadLine, countsOf, LinesRoom, LinesAs, ReadLines}
 use Rattle.script.proofs.Accepted.{line-read}
 use Rattle.script.proofs.FieldLaws.{entries-size}
-use Rattle.script.proofs.Prefix.{before, before-more, before-none, partsIf, partsFrom, from-next, from-end}
+use Rattle.script.proofs.Prefix.{parts-at, before, before-more, before-none, partsIf, partsFrom, from-next, from-end}
 
 -- ---- one line more
 entries-more : (ls : List Line) (l : Line) → entriesIn (ls ++ (l ∷ [])) ≡ entriesIn ls ++ lineEntries l
@@ -138,12 +138,9 @@ map-both f (x ∷ xs) ys = ap (λ (l : List ℕ). f x ∷ l) (map-both f xs ys)
 put-behind : (l₀ l l' : List ℕ) (i at : ℕ) (us vs ws : List ℕ) → l ≡ sets l₀ i us → l' ≡ sets l at vs → at ≡ i + length us → ws ≡ us ++ vs → l' ≡ sets l₀ i ws
 put-behind l₀ l l' i at us vs ws p q r t = q ∙ (ap (λ (x : List ℕ). sets x at vs) p ∙ (ap (λ (k : ℕ). sets (sets l₀ i us) k vs) r ∙ (sym (sets-append l₀ i us vs) ∙ ap (sets l₀ i) (sym t))))
 
-parts-at : (j : ℕ) (s : List ℕ) → j ≤ length s → partsFrom 10 j s ≡ parts 10 (drop j s)
-parts-at j s h = ap (λ (b : Bool). partsIf b 10 (drop j s)) (le-leb j (length s) h)
-
 pub reading-start : (o : Order) (n from : ℕ) (s words coefs starts ops : List ℕ) → from ≤ length s → Reading o n from s words coefs starts ops words coefs starts ops (record { terms = 0; polynomials = 0; operations = 0 }) from
 unfolding endsFrom pairsFrom entriesIn
-reading-start o n from s words coefs starts ops h = record { done = []; counts = refl; whole = before-none (linesOf n (partsFrom 10 from s)) ∙ ap (linesOf n) (parts-at from s h); words-are = refl; coefs-are = refl; starts-are = refl; ops-are = refl }
+reading-start o n from s words coefs starts ops h = record { done = []; counts = refl; whole = before-none (linesOf n (partsFrom 10 from s)) ∙ ap (linesOf n) (parts-at 10 from s h); words-are = refl; coefs-are = refl; starts-are = refl; ops-are = refl }
 
 lines-behind : (n : ℕ) (l : List ℕ) (ls : List (List ℕ)) (m : List ℕ) (r : List (List ℕ)) → ls ≡ m ∷ r → linesOf n (l ∷ ls) ≡ andThen (lineOf n l) (λ x. andThen (linesOf n ls) (λ xs. some (x ∷ xs)))
 unfolding linesOf
@@ -165,7 +162,7 @@ module _ {o : Order} {n from : ℕ} {s words₀ coefs₀ starts₀ ops₀ words 
   pub reading-end : at ≤ length s → length s ≤ at → ReadLines o n from s words₀ coefs₀ starts₀ ops₀ words coefs starts ops (Behind·Line c)
   unfolding linesOf andThen parts
   reading-end h l =
-      let p : partsFrom 10 at s ≡ [] ∷ [] = parts-at at s h ∙ ap (parts 10) (drop-of-length-le s l) in
+      let p : partsFrom 10 at s ≡ [] ∷ [] = parts-at 10 at s h ∙ ap (parts 10) (drop-of-length-le s l) in
       let w : some (d .done ++ []) ≡ linesOf n (parts 10 (drop from s)) = ap (λ (ps : List (List ℕ)). before (d .done) (linesOf n ps)) (sym p) ∙ d .whole in
       record { is = rw (← w, append-nil) (ap Behind·Line (d .counts), d .words-are, d .coefs-are, d .starts-are, d .ops-are) }
 
@@ -188,7 +185,7 @@ module _ {o : Order} {n from : ℕ} {s words₀ coefs₀ starts₀ ops₀ words 
       next : linesOf n (partsFrom 10 at s) ≡ andThen (lineOf n (take (e - at) (drop at s))) (λ x. andThen (linesOf n (partsFrom 10 (e + 1) s)) (λ xs. some (x ∷ xs)))
       next =
           let m = parts-some 10 (drop (e + 1) s) in
-          ap (linesOf n) (from-next 10 at s (omega arith) e is) ∙ lines-behind n (take (e - at) (drop at s)) (partsFrom 10 (e + 1) s) (m .0) (m .1) (parts-at (e + 1) s (omega arith) ∙ m .2)
+          ap (linesOf n) (from-next 10 at s (omega arith) e is) ∙ lines-behind n (take (e - at) (drop at s)) (partsFrom 10 (e + 1) s) (m .0) (m .1) (parts-at 10 (e + 1) s (omega arith) ∙ m .2)
 
       pub reading-bad : lineOf n (take (e - at) (drop at s)) ≡ none → {words' coefs' starts' ops' : List ℕ} → ReadLines o n from s words₀ coefs₀ starts₀ ops₀ words' coefs' starts' ops' Behind·Bad
       unfolding andThen

@@ -4,7 +4,7 @@ use native.Mathlib.Numerals.{add-one}
 use native.Mathlib.Omega.{arith}
 use mathlib.Core.Path.{_≡_, refl, sym, ap, _∙_}
 use mathlib.Core.Bool.{Bool, true, false}
-use mathlib.Core.List.{List, [], _∷_, _++_, append-assoc}
+use mathlib.Core.List.{List, [], _∷_, _++_, map, append-assoc}
 use mathlib.Core.Option.{Option, none, some}
 use borrow.Author.Tests.{le-leb, lt-leb, ltb-true, ltb-false}
 use lib.Dec.{leb, ltb}
@@ -72,3 +72,10 @@ from-end b at s h = ap (λ (t : Bool). partsIf t b (drop at s)) (lt-leb at (leng
 pub sets-out : {A : Type 0} (l : List A) (i : ℕ) (vs : List A) → length l ≤ i → sets l i vs ≡ l
 sets-out l i [] h = refl
 sets-out l i (v ∷ vs) h = let e : set l i v ≡ l = set-out l i v h in rw e (sets-out l (suc i) vs (omega arith))
+
+pub parts-at : (b j : ℕ) (s : List ℕ) → j ≤ length s → partsFrom b j s ≡ parts b (drop j s)
+parts-at b j s h = ap (λ (t : Bool). partsIf t b (drop j s)) (le-leb j (length s) h)
+
+pub map-snoc : {A B : Type 0} (f : A → B) (xs : List A) (x : A) → map f (xs ++ (x ∷ [])) ≡ map f xs ++ (f x ∷ [])
+map-snoc {A} {B} f [] x = refl
+map-snoc {A} {B} f (y ∷ xs) x = ap (λ (l : List B). f y ∷ l) (map-snoc f xs x)

@@ -13,7 +13,7 @@ use Rattle.monomial.specs.declared.order.Order.{Order}
 use Rattle.monomial.specs.declared.order.Order.the-variants.{Lex, DegLex, DegRevLex}
 use Rattle.text.specs.Bytes.{begins, same, indexOf, parts, joined}
 use Rattle.text.specs.Numbers.{decimal, andThen, onlyIf, numberOf}
-use Rattle.text.proofs.ByteLaws.{cons, begins-word, same-word, parts-some, parts-first, parts-joined, index-first, Without, AllWithout, Within, within-true, within-append, within-more, below-without, above-without}
+use Rattle.text.proofs.ByteLaws.{and-false, cons, begins-word, same-word, parts-some, parts-first, parts-joined, index-first, Without, AllWithout, Within, within-true, within-append, within-more, below-without, above-without}
 use Rattle.text.proofs.NumberLaws.{number-written, decimal-within}
 use Rattle.script.specs.Grammar.{Entry, Line, addLine, leadLine, sumLine, Script, prime-word, order-word, vars-word, add-word, lead-word, sum-word, orderName, entryText, entriesText, lineText, linesText, scriptText, Small, AllSmall, GoodEntry, GoodEntries, GoodLine, GoodLines, GoodScript}
 use Rattle.script.specs.Reading.{numbersOf, exponentsOf, entryAt, entryBy, entryOf, entriesOf, fieldsOf, addOf, lineBy, lineOf, linesOf, numberIf, afterWord, orderBy, orderRead, withHeader, scriptOf}
@@ -78,10 +78,6 @@ entries-within [] = tt
 entries-within (t ∷ ts) = ((omega arith, omega arith), within-append 32 122 (entryText t) (entriesText ts) (within-more 46 58 32 122 (entryText t) (omega arith) (omega arith) (entry-within t)) (entries-within ts))
 
 -- ---- lines
-and-false : (b : Bool) → (b && false) ≡ false
-and-false true = refl
-and-false false = refl
-
 line-written : (n : ℕ) (l : Line) → GoodLine n l → lineOf n (lineText l) ≡ some l
 unfolding lineOf same begins addOf andThen
 line-written n leadLine g = refl
