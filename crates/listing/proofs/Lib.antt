@@ -4,4 +4,5 @@ pub mod AnswerLaws
 pub mod EndingLaws
 pub mod WholeLaws
 pub mod SizeLaws
+pub mod NeverFull
 pub mod OutcomeLaws

@@ -53,7 +53,7 @@ pub record Sizes (s : Script) : Type 0 where
 behind : (a b : List ℕ) (k : ℕ) → k ≤ length b → k ≤ length (a ++ (10 ∷ b))
 behind a b k h = omega (arith, length-append a (10 ∷ b))
 
-inside : (s : Script) → length (linesText (s .lines)) ≤ length (scriptText s)
+pub inside : (s : Script) → length (linesText (s .lines)) ≤ length (scriptText s)
 unfolding scriptText
 inside s =
     let t = linesText (s .lines) in

@@ -92,7 +92,7 @@ module _ (cmp : ℕ → ℕ → Ordering) (p places most : ℕ) where
       go true x y = omega (arith, suc-mul (length os) most)
       go false x y = omega (arith, suc-mul (length os) most)
 
-terms-most : (ws cs : List ℕ) → length (terms ws cs) ≤ length ws
+pub terms-most : (ws cs : List ℕ) → length (terms ws cs) ≤ length ws
 terms-most [] cs = omega arith
 terms-most (w ∷ ws) [] = omega arith
 terms-most (w ∷ ws) (c ∷ cs) = omega (arith, terms-most ws cs)
