@@ -4,9 +4,9 @@ use native.Mathlib.Omega.{arith}
 use mathlib.Core.Path.{_≡_, refl, sym, ap, _∙_}
 use mathlib.Core.Bool.{Bool, true, false, _&&_}
 use mathlib.Core.List.{List, [], _∷_, _++_}
-use mathlib.Core.Option.{some}
+use mathlib.Core.Option.{Option, none, some}
 use borrow.Author.Tests.{le-leb, eq-eqb}
-use lib.ListN.{length, drop, getD, replicate, length-append, length-take}
+use lib.ListN.{length, take, drop, getD, replicate, length-append, length-take}
 use lib.Dec.{leb, ltb}
 use Rattle.polynomial.specs.Terms.{Term, term, terms}
 use Rattle.monomial.specs.declared.order.Order.{Order}
@@ -27,6 +27,7 @@ use Rattle.opening.specs.Run.{unless, between, setting, shapeGood, operationsGo
 use Rattle.opening.proofs.RefusalLaws.{number-named}
 use Rattle.residue.specs.Prime.{isPrime}
 use Rattle.runs.specs.declared.Tally.{Tally}
+use Rattle.runs.specs.declared.Answer.{Answer}
 use Rattle.runs.specs.declared.Answer.the-variants.{Done, Refused}
 use Rattle.runs.specs.Outcome.{answerBy, decidedBy}
 use Rattle.runs.proofs.Follow.{all-on}
@@ -35,7 +36,8 @@ use Rattle.script.specs.Reading.{scriptOf}
 use Rattle.script.specs.Loading.{endsFrom, pairsFrom, orderNumber, wordsOf, coefsOf, startsOf, pairsOf}
 use Rattle.script.proofs.Accepted.{text-read}
 use Rattle.script.proofs.FieldLaws.{entries-size}
-use Rattle.listing.specs.Whole.{noTally, scriptOutcome}
+use Rattle.listing.specs.Listing.{answersText, costText, refusedText}
+use Rattle.listing.specs.Whole.{ranText, noTally, scriptOutcome, listingBy, listingOf}
 use Rattle.listing.proofs.SizeLaws.{inside}
 use Rattle.listing.proofs.WholeLaws.{terms-most}
 
@@ -212,8 +214,32 @@ refused-at-opening bytes s is r finished e =
     (opening-most (s .prime) (orderNumber (s .order)) (s .vars) (wordsOf s) (coefsOf s) (startsOf s) (pairsOf s) _ _ _ _ _ _)
     (never-full bytes s is (compareWords (orderOf (orderNumber (s .order)))) (s .prime)) r finished e
 
--- "10 and 11 cannot come from a script."
+-- so neither with 10 nor with 11
 pub no-refusal-10-11 : (bytes : List ℕ) (s : Script) → scriptOf bytes ≡ some s → (r : Refusal) (finished : ℕ) → scriptOutcome s .answer ≡ Refused r finished → (numberOf r ≡ 10 → ⊥) × (numberOf r ≡ 11 → ⊥)
 no-refusal-10-11 bytes s is r finished e =
     let h = refused-at-opening bytes s is r finished e .0 in
     (λ q. let z : ⊥ = omega (arith, h, q) in z, λ q. let z : ⊥ = omega (arith, h, q) in z)
+
+-- ---- the listing of any bytes: not a script; or refused by an opening check; or the lines of all leads and sums, and the cost
+pub data Printed (bytes : List ℕ) : Type 0 where
+  bad-script : scriptOf bytes ≡ none → listingOf bytes ≡ refusedText 17 0 → Printed bytes
+  refused : (r : Refusal) → numberOf r ≤ 9 → listingOf bytes ≡ refusedText (numberOf r) 0 → Printed bytes
+  done : (s : Script) → scriptOf bytes ≡ some s → (operations places : ℕ) → scriptOutcome s .answer ≡ Done operations places
+      → listingOf bytes ≡ answersText (s .order) (s .vars) (pairsOf s) (terms (take places (scriptOutcome s .ow)) (take places (scriptOutcome s .oc))) ++ costText (scriptOutcome s .tally .comparisons) (scriptOutcome s .tally .brought) → Printed bytes
+
+pub printed : (bytes : List ℕ) → Printed bytes
+unfolding listingOf ranText
+printed bytes = by (scriptOf bytes) refl
+  where
+    text-is : (s : Script) → scriptOf bytes ≡ some s → (a : Answer) → scriptOutcome s .answer ≡ a → listingOf bytes ≡ ranText (s .order) (s .vars) (pairsOf s) (scriptOutcome s .ow) (scriptOutcome s .oc) (scriptOutcome s .tally) a
+    text-is s e a q = ap listingBy e ∙ ap (ranText (s .order) (s .vars) (pairsOf s) (scriptOutcome s .ow) (scriptOutcome s .oc) (scriptOutcome s .tally)) q
+
+    ran : (s : Script) → scriptOf bytes ≡ some s → (a : Answer) → scriptOutcome s .answer ≡ a → Printed bytes
+    ran s e (Done operations places) q = done s e operations places q (text-is s e (Done operations places) q)
+    ran s e (Refused r finished) q =
+        let h = refused-at-opening bytes s e r finished q in
+        refused r (h .0) (text-is s e (Refused r finished) q ∙ ap (refusedText (numberOf r)) (h .1))
+
+    by : (x : Option Script) → scriptOf bytes ≡ x → Printed bytes
+    by none e = bad-script e (ap listingBy e)
+    by (some s) e = ran s e (scriptOutcome s .answer) refl
