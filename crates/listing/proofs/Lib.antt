@@ -6,3 +6,5 @@ pub mod WholeLaws
 pub mod SizeLaws
 pub mod NeverFull
 pub mod OutcomeLaws
+pub mod GivenLaws
+pub mod LengthLaws

@@ -10,7 +10,7 @@ use Rattle.monomial.specs.declared.order.Order.{Order}
 use Rattle.script.specs.declared.reader.Loaded.{Loaded}
 use Rattle.script.specs.declared.reader.Found.{Found}
 use Rattle.script.specs.declared.reader.Found.the-variants.{Script as Found·Script, Bad as Found·Bad}
-use Rattle.script.specs.Grammar.{Entry, Line, addLine, leadLine, sumLine, Script, prime-word, order-word, vars-word, orderName, entriesText, lineText, linesText, scriptText, GoodLines, GoodScript}
+use Rattle.script.specs.Grammar.{Entry, Line, addLine, leadLine, sumLine, Script, order-word, vars-word, orderName, entriesText, lineText, linesText, scriptText, GoodLines, GoodScript}
 use Rattle.script.specs.Reading.{scriptOf}
 use Rattle.script.specs.Loading.{lineEntries, entriesIn, endsFrom, pairsFrom, orderNumber, wordsOf, coefsOf, startsOf, pairsOf, countsOf, loadedOf, entryWord, entryCoef, ScriptAs, ReadScript}
 use Rattle.script.proofs.Accepted.{text-read}
@@ -50,23 +50,21 @@ pub record Sizes (s : Script) : Type 0 where
   pub polynomials : length (endsFrom 0 (s .lines)) ≤ 4096
   pub operations : length (s .lines) ≤ 4096
 
-behind : (a b : List ℕ) (k : ℕ) → k ≤ length b → k ≤ length (a ++ (10 ∷ b))
-behind a b k h = omega (arith, length-append a (10 ∷ b))
-
-pub inside : (s : Script) → length (linesText (s .lines)) ≤ length (scriptText s)
+-- six bytes of the first line stand before the others
+pub inside : (s : Script) → 6 + length (linesText (s .lines)) ≤ length (scriptText s)
 unfolding scriptText
 inside s =
     let t = linesText (s .lines) in
     let c = vars-word ++ decimal (s .vars) in
     let b = order-word ++ orderName (s .order) in
-    behind (prime-word ++ decimal (s .prime)) (b ++ (10 ∷ (c ++ (10 ∷ t)))) (length t) (behind b (c ++ (10 ∷ t)) (length t) (behind c t (length t) (omega arith)))
+    omega (arith, length-append (decimal (s .prime)) (10 ∷ (b ++ (10 ∷ (c ++ (10 ∷ t))))), length-append b (10 ∷ (c ++ (10 ∷ t))), length-append c (10 ∷ t))
 
 pub sizes : (bytes : List ℕ) (s : Script) → scriptOf bytes ≡ some s → Sizes s
 sizes bytes s e =
     let g = text-read bytes s e .0 in
     let a = g .not-long in
     let t = linesText (s .lines) in
-    let l : length t ≤ length (scriptText s) = inside s in
+    let l : 6 + length t ≤ length (scriptText s) = inside s in
     record { terms = omega (arith, lines-terms (s .vars) (s .lines) (g .lines-good)); polynomials = omega (arith, ends-many 0 (s .lines), lines-many (s .lines)); operations = omega (arith, lines-many (s .lines)) }
 
 -- what was put is read back

@@ -112,7 +112,7 @@ module _ (words coefs starts : List ℕ) where
       go false true = tt
       go false false = tt
 
-  operations-short : (ops : List ℕ) → AllShort (length words) (operationsOf words coefs starts ops) × (length (operationsOf words coefs starts ops) ≤ length ops)
+  pub operations-short : (ops : List ℕ) → AllShort (length words) (operationsOf words coefs starts ops) × (length (operationsOf words coefs starts ops) ≤ length ops)
   unfolding operationsOf
   operations-short [] = (tt, omega arith)
   operations-short (code ∷ []) = (tt, omega arith)

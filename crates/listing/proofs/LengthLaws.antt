@@ -1,0 +1,293 @@
+-- 65,536 bytes are enough for every listing: a refusal is one short line, and the lines of a run that is done have at most four bytes for each of the script. Assumes nothing.
+use Prim.Native.Nat.{ℕ, zero, suc, _+_, _*_, _/_, _%_, _≤_, _<_}
+use native.Mathlib.Nat.{div-add-mod', mul-le-mul, mul-le-mul-right}
+use native.Mathlib.Decide.{decLe}
+use native.Mathlib.Omega.{arith}
+use mathlib.Core.Path.{_≡_, refl, ap, ap₂, _∙_}
+use mathlib.Core.Bool.{Bool, true, false}
+use mathlib.Core.List.{List, [], _∷_, _++_, map}
+use mathlib.Core.Option.{Option, none, some}
+use borrow.Author.Tests.{ne-eqb}
+use lib.Dec.{eqb}
+use lib.ListN.{length, take, drop, getD, replicate, length-append, length-map, length-take}
+use lib.Seq.{take-at}
+use Rattle.monomial.specs.declared.order.Order.{Order}
+use Rattle.monomial.specs.Exponents.{orderOf}
+use Rattle.monomial.specs.Words.{compareWords}
+use Rattle.monomial.specs.Layout.{bytes, fields, exponents, Below}
+use Rattle.monomial.proofs.Places.{below-true, true-below}
+use Rattle.monomial.proofs.ByteLaws.{bytes-below}
+use Rattle.monomial.proofs.LayoutLaws.{below-fields}
+use Rattle.monomial.proofs.OrderLaws.{words-order}
+use Rattle.polynomial.specs.Terms.{Term, term, terms, All}
+use Rattle.polynomial.specs.Terms as T
+use Rattle.polynomial.proofs.OpeningLaws.{passes}
+use Rattle.polynomial.proofs.TermLists.{terms-of}
+use Rattle.geobucket.specs.Events.{levels, bound}
+use Rattle.geobucket.proofs.Levels.{levels-are}
+use Rattle.opening.specs.declared.refusal.Refusal.{Refusal}
+use Rattle.opening.specs.declared.refusal.Refusal.the-variants.{NotPrime, BadOrder, BadVariables, BadCoefficient, BadLayout, NotFalling, ZeroDivisor, BadShape, BadOperation, NoOutput, TooManyTerms, ExponentOver, StepLimit, NotBlocks, BadCheck, BadBlock, BadScript}
+use Rattle.opening.specs.Refusals.{numberOf, refusalNamed}
+use Rattle.opening.specs.Run.{Opened, runRefusal}
+use Rattle.opening.proofs.RunLaws.{opened}
+use Rattle.engine.specs.Runs.{Operation, adds, leads, sums, Running, begun, operationsOf}
+use Rattle.runs.specs.Outcome.{runOutcome, ranThrough, ended, decidedBy, answerBy, tallyOf}
+use Rattle.runs.specs.Ending.{Ending, all-done, too-many-terms, no-place, no-places}
+use Rattle.runs.proofs.Follow.{all-addable}
+use Rattle.runs.proofs.Demands.{demand-1-operations, demand-3-bound}
+use Rattle.runs.specs.Demanded.{unlessZero, nonZero}
+use Rattle.text.specs.Bytes.{joined}
+use Rattle.text.specs.Numbers.{decimal}
+use Rattle.text.proofs.NumberLaws.{decimal-digit, decimal-more, decimal-some}
+use Rattle.script.specs.Grammar.{Entry, Line, addLine, leadLine, sumLine, Script, entryText, entriesText, linesText, GoodEntry, GoodEntries, GoodLines, GoodScript}
+use Rattle.script.specs.Reading.{scriptOf}
+use Rattle.script.specs.Loading.{entriesIn, pairsFrom, orderNumber, wordsOf, coefsOf, startsOf, pairsOf}
+use Rattle.script.proofs.Accepted.{text-read}
+use Rattle.script.proofs.LinesLaws.{pairs-long}
+use Rattle.listing.specs.Listing.{exponentsText, termText, placeBy, placeText, leadText, sumTerms, termsText, zeroIf, sumText, answersText, of-word, at-word, costText, refusedText}
+use Rattle.listing.specs.Whole.{ranText, noTally, outcomeText, listingBy, listingOf}
+use Rattle.listing.proofs.WholeLaws.{operations-short}
+use Rattle.listing.proofs.SizeLaws.{Sizes, inside, sizes}
+use Rattle.listing.proofs.GivenLaws.{CoefsBelow, gives, gives-begun, script-adds}
+
+-- ---- numbers
+-- ten to the power k + 1
+abbrev pub tens : ℕ → ℕ
+tens zero = 10
+tens (suc k) = 10 * tens k
+
+pub decimal-long : (k v : ℕ) → v < tens k → length (decimal v) ≤ suc k
+decimal-long zero v h = omega (arith, ap length (decimal-digit v h))
+decimal-long (suc k) v h = go (decLe 10 v) (λ l. decimal-long k (v / 10) l)
+  where
+    go : Dec (10 ≤ v) → (v / 10 < tens k → length (decimal (v / 10)) ≤ suc k) → length (decimal v) ≤ suc (suc k)
+    go (yes l) r =
+        let e : v / 10 * 10 + v % 10 ≡ v = div-add-mod' v 10 in
+        let q : v / 10 < tens k = omega (arith, e) in
+        omega (arith, r q, ap length (decimal-more v l), length-append (decimal (v / 10)) ((48 + v % 10) ∷ []))
+    go (no l) r = omega (arith, ap length (decimal-digit v (omega arith)))
+
+-- ---- a term of the listing
+joined-most : (es : List ℕ) → Below 256 es → length (joined 46 (map decimal es)) ≤ 4 * length es
+unfolding joined
+joined-most [] h = omega arith
+joined-most (e ∷ []) h = omega (arith, decimal-long 2 e (let z : e < 1000 = omega (arith, h .0) in z))
+joined-most (e ∷ (f ∷ es)) h =
+    omega (arith, decimal-long 2 e (let z : e < 1000 = omega (arith, h .0) in z), joined-most (f ∷ es) (h .1), length-append (decimal e) (46 ∷ joined 46 (map decimal (f ∷ es))))
+
+take-below : (k n : ℕ) (es : List ℕ) → Below k es → Below k (take n es)
+take-below k zero es h = tt
+take-below k (suc n) [] h = tt
+take-below k (suc n) (e ∷ es) h = (h .0, take-below k n es (h .1))
+
+fields-small : (o : Order) (w : ℕ) → Below 256 (fields o w)
+fields-small o w = true-below 256 (fields o w) (below-fields 256 o w ∙ below-true 256 (bytes 6 w) (bytes-below 6 w))
+
+-- the most bytes of a term in n variables: a space, five digits, a colon, and four for each exponent
+abbrev pub most : ℕ → ℕ
+most n = 4 * n + 7
+
+pub term-length : (o : Order) (n : ℕ) (t : Term ℕ) → t .coef < 65536 → length (termText o n t) ≤ most n
+term-length o n t h =
+    let es = exponents o n (t .mono) in
+    omega (
+      arith,
+      decimal-long 4 (t .coef) (let z : t .coef < 100000 = omega arith in z),
+      joined-most es (take-below 256 n (fields o (t .mono)) (fields-small o (t .mono))),
+      length-take n (fields o (t .mono)),
+      length-append (decimal (t .coef)) (58 ∷ exponentsText o n (t .mono)),
+    )
+
+-- ---- a term of the script
+joined-least : (es : List ℕ) → 2 * length es ≤ 1 + length (joined 46 (map decimal es))
+unfolding joined
+joined-least [] = omega arith
+joined-least (e ∷ []) = omega (arith, decimal-some e)
+joined-least (e ∷ (f ∷ es)) = omega (arith, decimal-some e, joined-least (f ∷ es), length-append (decimal e) (46 ∷ joined 46 (map decimal (f ∷ es))))
+
+entry-pays : (n : ℕ) (t : Entry) → GoodEntry n t → most n ≤ 4 * (1 + length (entryText t))
+entry-pays n t g = omega (arith, g .n-exps, decimal-some (t .coef), joined-least (t .exps), length-append (decimal (t .coef)) (58 ∷ joined 46 (map decimal (t .exps))))
+
+entries-pay : (n : ℕ) (ts : List Entry) → GoodEntries n ts → length ts * most n ≤ 4 * length (entriesText ts)
+unfolding entriesText
+entries-pay n [] g = omega arith
+entries-pay n (t ∷ ts) g = omega (arith, entry-pays n t (g .0), entries-pay n ts (g .1), length-append (entryText t) (entriesText ts))
+
+-- four bytes for each of the script pay for its terms, and for ten bytes of each line
+pub lines-pay : (n : ℕ) (ls : List Line) → GoodLines n ls → length (entriesIn ls) * most n + 10 * length ls ≤ 4 * length (linesText ls)
+unfolding entriesIn linesText
+lines-pay n [] g = omega arith
+lines-pay n (addLine ts ∷ ls) g =
+    let e : length (ts ++ entriesIn ls) * most n ≡ length ts * most n + length (entriesIn ls) * most n = rw (length-append ts (entriesIn ls)) (omega arith) in
+    omega (arith, e, entries-pay n ts (g .0), lines-pay n ls (g .1), length-append (entriesText ts) (10 ∷ linesText ls))
+lines-pay n (leadLine ∷ ls) g = omega (arith, lines-pay n ls (g .1))
+lines-pay n (sumLine ∷ ls) g = omega (arith, lines-pay n ls (g .1))
+
+-- ---- the lines of the listing
+abbrev pub Small : List (Term ℕ) → Type 0
+Small ts = All (λ t. t .coef < 65536) ts
+
+small-drop : (k : ℕ) (ts : List (Term ℕ)) → Small ts → Small (drop k ts)
+small-drop zero ts h = h
+small-drop (suc k) [] h = tt
+small-drop (suc k) (t ∷ ts) h = small-drop k ts (h .1)
+
+suc-less : (a c : ℕ) → suc a * c ≡ c + a * c
+suc-less a c = omega arith
+
+module _ (o : Order) (n : ℕ) where
+  lead-most : (ts : List (Term ℕ)) → Small ts → length (leadText o n ts) + length (nonZero (drop 1 ts)) * most n ≤ 10 + length (nonZero ts) * most n
+  unfolding leadText
+  lead-most [] h = omega arith
+  lead-most (t ∷ ts) h = go (t .mono) (t .coef) (term-length o n t (h .0))
+    where
+      go : (m c : ℕ) → length (termText o n (term m c)) ≤ most n → length (leadText o n (term m c ∷ ts)) + length (nonZero ts) * most n ≤ 10 + length (unlessZero c (term m c) (nonZero ts)) * most n
+      go m zero l = omega arith
+      go m (suc c) l =
+          let e : placeText o n (term m (suc c)) ≡ termText o n (term m (suc c)) = ap (λ (b : Bool). placeBy b o n (term m (suc c))) (ne-eqb (suc c) 0 (λ q. let z : ⊥ = omega arith in z)) in
+          omega (arith, l, ap (λ (x : List ℕ). length (x ++ (10 ∷ []))) e, suc-less (length (nonZero ts)) (most n), length-append (termText o n (term m (suc c))) (10 ∷ []))
+
+  sumTerms-most : (ts : List (Term ℕ)) → Small ts → length (termsText o n (sumTerms ts)) + length (nonZero (drop (length (sumTerms ts) + 1) ts)) * most n ≤ length (nonZero ts) * most n
+  unfolding sumTerms termsText
+  sumTerms-most [] h = omega arith
+  sumTerms-most (t ∷ ts) h = go (t .mono) (t .coef) (term-length o n t (h .0)) (sumTerms-most ts (h .1))
+    where
+      go : (m c : ℕ) → length (termText o n (term m c)) ≤ most n → length (termsText o n (sumTerms ts)) + length (nonZero (drop (length (sumTerms ts) + 1) ts)) * most n ≤ length (nonZero ts) * most n
+          → length (termsText o n (sumTerms (term m c ∷ ts))) + length (nonZero (drop (length (sumTerms (term m c ∷ ts)) + 1) (term m c ∷ ts))) * most n ≤ length (unlessZero c (term m c) (nonZero ts)) * most n
+      go m zero l r = omega arith
+      go m (suc c) l r =
+          let e : sumTerms (term m (suc c) ∷ ts) ≡ term m (suc c) ∷ sumTerms ts = rw (ne-eqb (suc c) 0 (λ q. let z : ⊥ = omega arith in z), sumTerms) refl in
+          let j : length (sumTerms (term m (suc c) ∷ ts)) + 1 ≡ suc (length (sumTerms ts) + 1) = omega (arith, ap length e) in
+          omega (
+            arith,
+            l,
+            r,
+            ap (λ (x : List (Term ℕ)). length (termsText o n x)) e,
+            ap (λ (i : ℕ). length (nonZero (drop i (term m (suc c) ∷ ts))) * most n) j,
+            suc-less (length (nonZero ts)) (most n),
+            length-append (termText o n (term m (suc c))) (termsText o n (sumTerms ts)),
+          )
+
+  sum-most : (ts : List (Term ℕ)) → Small ts → length (sumText o n ts) + length (nonZero (drop (length (sumTerms ts) + 1) ts)) * most n ≤ 10 + length (nonZero ts) * most n
+  unfolding sumText
+  sum-most ts h = omega (arith, sumTerms-most ts h, length-append (termsText o n (sumTerms ts)) (zeroIf (eqb (length (sumTerms ts)) 0) ++ (10 ∷ [])), go (eqb (length (sumTerms ts)) 0))
+    where
+      go : (b : Bool) → length (zeroIf b ++ (10 ∷ [])) ≤ 6
+      go true = omega arith
+      go false = omega arith
+
+  pub answers-most : (k : ℕ) (ls : List Line) (ts : List (Term ℕ)) → Small ts → length (answersText o n (pairsFrom k ls) ts) ≤ 10 * length ls + length (nonZero ts) * most n
+  unfolding pairsFrom answersText
+  answers-most k [] ts h = omega arith
+  answers-most k (addLine es ∷ ls) ts h = omega (arith, answers-most (k + 1) ls ts h)
+  answers-most k (leadLine ∷ ls) ts h = omega (arith, lead-most ts h, answers-most k ls (drop 1 ts) (small-drop 1 ts h), length-append (leadText o n ts) (answersText o n (pairsFrom k ls) (drop 1 ts)))
+  answers-most k (sumLine ∷ ls) ts h =
+      let us = drop (length (sumTerms ts) + 1) ts in
+      omega (arith, sum-most ts h, answers-most k ls us (small-drop (length (sumTerms ts) + 1) ts h), length-append (sumText o n ts) (answersText o n (pairsFrom k ls) us))
+
+-- ---- the last line, which the first three of the script pay for
+cost-most : (c b : ℕ) → c ≤ bound b → b ≤ 4096 → length (costText c b) ≤ 22
+unfolding costText
+cost-most c b h l =
+    let m : 6 * b * levels b ≤ 24576 * 6 = mul-le-mul (let z : 6 * b ≤ 24576 = omega arith in z) (levels-are b .six) in
+    let k : bound b ≤ 147456 = m in
+    omega (
+      arith,
+      decimal-long 5 c (let z : c < 1000000 = omega (arith, h, k) in z),
+      decimal-long 5 (bound b) (let z : bound b < 1000000 = omega (arith, k) in z),
+      length-append (decimal c) (of-word ++ (decimal (bound b) ++ (10 ∷ []))),
+      length-append (decimal (bound b)) (10 ∷ []),
+    )
+
+refused-most : (number finished : ℕ) → number < 100 → finished < 100000 → length (refusedText number finished) ≤ 65536
+unfolding refusedText
+refused-most number finished h l =
+    omega (arith, decimal-long 1 number h, decimal-long 4 finished l, length-append (decimal number) (at-word ++ (decimal finished ++ (10 ∷ []))), length-append (decimal finished) (10 ∷ []))
+
+number-small : (r : Refusal) → numberOf r < 100
+number-small NotPrime = omega arith
+number-small BadOrder = omega arith
+number-small BadVariables = omega arith
+number-small BadCoefficient = omega arith
+number-small BadLayout = omega arith
+number-small NotFalling = omega arith
+number-small ZeroDivisor = omega arith
+number-small BadShape = omega arith
+number-small BadOperation = omega arith
+number-small NoOutput = omega arith
+number-small TooManyTerms = omega arith
+number-small ExponentOver = omega arith
+number-small StepLimit = omega arith
+number-small NotBlocks = omega arith
+number-small BadCheck = omega arith
+number-small BadBlock = omega arith
+number-small BadScript = omega arith
+
+finished-most : {places before : ℕ} {os : List Operation} {t : Running} → Ending places before os t → t .finished ≤ before + length os
+finished-most (all-done z e) = omega (arith, e)
+finished-most (too-many-terms done rest f e n h z) = omega (arith, n, ap length e, length-append done (adds f ∷ rest))
+finished-most (no-place done rest e n h z) = omega (arith, n, ap length e, length-append done (leads ∷ rest))
+finished-most (no-places done rest e n h z) = omega (arith, n, ap length e, length-append done (sums ∷ rest))
+
+-- ---- the listing
+below-small : (p : ℕ) (ts : List (Term ℕ)) → p ≤ 65521 → CoefsBelow p ts → Small ts
+below-small p [] l h = tt
+below-small p (t ∷ ts) l h = ((let z : t .coef < 65536 = omega (arith, h .0) in z), below-small p ts l (h .1))
+
+written-back : (ts : List (Term ℕ)) (ow oc : List ℕ) → terms (take (length ts) (T.words ts ++ ow)) (take (length ts) (T.coefs ts ++ oc)) ≡ ts
+written-back ts ow oc = ap₂ terms (take-at (T.words ts) ow (length ts) (length-map ts (λ t. t .mono))) (take-at (T.coefs ts) oc (length ts) (length-map ts (λ t. t .coef))) ∙ terms-of ts
+
+module _ (s : Script) (g : GoodScript s) (z : Sizes s) (bw bc ww wc ow oc : List ℕ) where
+  abbrev last : Running
+  last = ranThrough (s .prime) (orderNumber (s .order)) (wordsOf s) (coefsOf s) (startsOf s) (pairsOf s) (length ow)
+
+  done-most : Opened (s .prime) (orderNumber (s .order)) (s .vars) (wordsOf s) (coefsOf s) (startsOf s) (pairsOf s) (length bw) (length bc) (length ww) (length wc) (length ow) (length oc) → length (answersText (s .order) (s .vars) (pairsOf s) (last .output)) + length (costText (last .comparisons) (last .brought)) ≤ 65536
+  done-most o =
+      let order = orderOf (orderNumber (s .order)) in
+      let cmp = compareWords order in
+      let p = s .prime in
+      let os = operationsOf (wordsOf s) (coefsOf s) (startsOf s) (pairsOf s) in
+      let addable = all-addable cmp p (wordsOf s) (coefsOf s) (startsOf s) (pairsOf s) (o .operations) (λ k h. passes order (s .vars) p _ (o .polynomials k (omega arith)) .0) in
+      let a = gives cmp p (words-order order) (let pos : 0 < p = omega (arith, o .prime .above) in pos) (length ow) os begun 0 addable (gives-begun cmp p) in
+      let t = script-adds (wordsOf s) (coefsOf s) (startsOf s) 0 0 (s .lines) (λ j. ap (λ (i : ℕ). getD (startsOf s) i 0) (let q : 0 + j ≡ j = omega arith in q)) in
+      let few : length (nonZero (last .output)) ≤ length (entriesIn (s .lines)) = omega (arith, a .given, t) in
+      let k : length (nonZero (last .output)) * most (s .vars) ≤ length (entriesIn (s .lines)) * most (s .vars) = mul-le-mul-right (most (s .vars)) few in
+      let b : last .brought ≤ 4096 = omega (arith, a .brought, t, z .terms) in
+      omega (
+        arith,
+        answers-most (s .order) (s .vars) 0 (s .lines) (last .output) (below-small p (last .output) (o .limit) (a .below)),
+        k,
+        lines-pay (s .vars) (s .lines) (g .lines-good),
+        cost-most (last .comparisons) (last .brought) (demand-3-bound o (length ow)) b,
+        inside s,
+        g .not-long,
+      )
+
+  last-finished : last .finished < 100000
+  last-finished =
+      let e = demand-1-operations (s .prime) (orderNumber (s .order)) (wordsOf s) (coefsOf s) (startsOf s) (pairsOf s) (length ow) in
+      omega (arith, finished-most e, operations-short (wordsOf s) (coefsOf s) (startsOf s) (pairsOf s) .1, pairs-long 0 (s .lines), z .operations)
+
+  run-most : length (outcomeText (s .order) (s .vars) (pairsOf s) (runOutcome noTally (s .prime) (orderNumber (s .order)) (s .vars) (wordsOf s) (coefsOf s) (startsOf s) (pairsOf s) bw bc ww wc ow oc)) ≤ 65536
+  unfolding ranText
+  run-most = go (runRefusal (s .prime) (orderNumber (s .order)) (s .vars) (wordsOf s) (coefsOf s) (startsOf s) (pairsOf s) (length bw) (length bc) (length ww) (length wc) (length ow) (length oc)) refl
+    where
+      ends : (b : Bool) → length (answersText (s .order) (s .vars) (pairsOf s) (last .output)) + length (costText (last .comparisons) (last .brought)) ≤ 65536
+          → length (ranText (s .order) (s .vars) (pairsOf s) (ended last ow oc .ow) (ended last ow oc .oc) (tallyOf last) (answerBy b (last .stop) (last .finished) (length (last .output)))) ≤ 65536
+      ends true h =
+          let ts = last .output in
+          omega (arith, h, ap (λ (x : List (Term ℕ)). length (answersText (s .order) (s .vars) (pairsOf s) x ++ costText (last .comparisons) (last .brought))) (written-back ts (drop (length ts) ow) (drop (length ts) oc)), length-append (answersText (s .order) (s .vars) (pairsOf s) ts) (costText (last .comparisons) (last .brought)))
+      ends false h = refused-most (numberOf (refusalNamed (last .stop))) (last .finished) (number-small (refusalNamed (last .stop))) last-finished
+
+      go : (r : ℕ) → runRefusal (s .prime) (orderNumber (s .order)) (s .vars) (wordsOf s) (coefsOf s) (startsOf s) (pairsOf s) (length bw) (length bc) (length ww) (length wc) (length ow) (length oc) ≡ r → length (outcomeText (s .order) (s .vars) (pairsOf s) (decidedBy r noTally last bw bc ww wc ow oc)) ≤ 65536
+      go (suc r) e = refused-most (numberOf (refusalNamed (suc r))) 0 (number-small (refusalNamed (suc r))) (omega arith)
+      go zero e = ends (eqb (last .stop) 0) (done-most (opened (s .prime) (orderNumber (s .order)) (s .vars) (wordsOf s) (coefsOf s) (startsOf s) (pairsOf s) (length bw) (length bc) (length ww) (length wc) (length ow) (length oc) e))
+
+-- 65,536 bytes are enough, whatever the script: nothing of a listing is cut off
+pub suffices : (s : List ℕ) → length (listingOf s) ≤ 65536
+unfolding listingOf
+suffices s = go (scriptOf s) refl
+  where
+    go : (x : Option Script) → scriptOf s ≡ x → length (listingBy x) ≤ 65536
+    go none e = refused-most 17 0 (omega arith) (omega arith)
+    go (some t) e = run-most t (text-read s t e .0) (sizes s t e) (replicate 5460 0) (replicate 5460 0) (replicate 8192 0) (replicate 8192 0) (replicate 4096 0) (replicate 4096 0)
