@@ -8,3 +8,4 @@ pub mod NeverFull
 pub mod OutcomeLaws
 pub mod GivenLaws
 pub mod LengthLaws
+mod Outcomes
