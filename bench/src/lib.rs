@@ -3,6 +3,7 @@
 //! merge; `buckets` times geobuckets, `runs` and `reductions` whole calls, `workload` calls from a
 //! file, and `blocks` the block store.
 pub mod blocks;
+pub mod bound;
 pub mod buckets;
 #[path = "../../tests/src/c_functions.rs"]
 pub mod c_functions;
@@ -13,6 +14,7 @@ pub mod loan;
 pub mod merge;
 #[path = "../../tests/src/monomial.rs"]
 pub mod monomial;
+pub mod picture;
 pub mod plain_blocks;
 pub mod plain_opening;
 pub mod plain_reduction;
@@ -26,4 +28,5 @@ pub mod proved_run;
 pub mod random;
 pub mod reductions;
 pub mod runs;
+pub mod singular;
 pub mod workload;

@@ -2,6 +2,7 @@
 //! by its name; or does the calls of a workload's file: `calls FILE`, `time FILE SECONDS` or
 //! `passes FILE N`. It fails only where results differ.
 use bench::blocks::blocks;
+use bench::bound::bound;
 use bench::buckets;
 use bench::c_functions::Counts;
 use bench::lists::{pair, List, Order};
@@ -10,6 +11,7 @@ use bench::proved;
 use bench::random::Random;
 use bench::reductions::reductions;
 use bench::runs::runs;
+use bench::singular::singular;
 use bench::workload::Workload;
 use std::hint::black_box;
 use std::time::Instant;
@@ -43,11 +45,13 @@ fn main() {
         ["settling"] => buckets::settling(),
         ["runs"] => runs(),
         ["reductions"] => reductions(),
+        ["singular"] => singular(),
         ["blocks"] => blocks(),
+        ["bound", file] => bound(file),
         ["calls", file] => workload(file).calls(),
         ["time", file, seconds] => workload(file).time(seconds.parse().expect("seconds")),
         ["passes", file, passes] => workload(file).passes(passes.parse().expect("passes")),
-        _ => panic!("merges, buckets, leads, settling, runs, reductions, blocks, calls, time or passes"),
+        _ => panic!("merges, buckets, leads, settling, runs, reductions, singular, blocks, bound, calls, time or passes"),
     }
 }
 

@@ -11,10 +11,10 @@ use crate::proved_reduction;
 use crate::random::Random;
 
 /// Output places that are enough.
-const PLACES: usize = 4_096;
+pub(crate) const PLACES: usize = 4_096;
 
 /// The variables, and the terms of the polynomial that is reduced.
-const VARIABLES: usize = 4;
+pub(crate) const VARIABLES: usize = 4;
 const TERMS: usize = 60;
 
 /// A term by its coefficient, perhaps below 0, and its exponents.
@@ -67,7 +67,7 @@ const CYCLIC_4: [&[Term]; 7] = [
 
 /// What is reduced by what.
 #[derive(Clone, Copy)]
-enum Kind {
+pub(crate) enum Kind {
     /// Each divisor's lead is the third power of a variable, its tail has so many random terms.
     Random {
         tail: usize,
@@ -76,7 +76,15 @@ enum Kind {
 }
 
 impl Kind {
-    fn name(self) -> String {
+    /// The rows of the tables: what is reduced by what, and in which order.
+    pub(crate) fn rows() -> Vec<(Kind, Order)> {
+        let random = |order| [4, 16].map(|tail| (Kind::Random { tail }, order));
+        let mut rows: Vec<_> = ORDERS.into_iter().flat_map(random).collect();
+        rows.push((Kind::Cyclic4, Order::DegRevLex));
+        rows
+    }
+
+    pub(crate) fn name(self) -> String {
         match self {
             Kind::Random { tail } => format!("random, tails of {tail}"),
             Kind::Cyclic4 => "basis of cyclic 4".to_string(),
@@ -92,7 +100,14 @@ impl Kind {
         }
     }
 
-    fn divisors(self, random: &mut Random, order: Order) -> Vec<List> {
+    /// A fresh polynomial to be reduced.
+    pub(crate) fn polynomial(self, random: &mut Random, order: Order) -> List {
+        let most = self.degree(order);
+        let monomials = (0..TERMS).map(|_| any_monomial(random, most)).collect();
+        list(random, order, monomials)
+    }
+
+    pub(crate) fn divisors(self, random: &mut Random, order: Order) -> Vec<List> {
         match self {
             Kind::Random { tail } => (0..VARIABLES)
                 .map(|k| cube_and_tail(random, order, k, tail))
@@ -103,7 +118,7 @@ impl Kind {
 }
 
 /// The same order, for exponents.
-fn by_exponents(order: Order) -> monomial::Order {
+pub(crate) fn by_exponents(order: Order) -> monomial::Order {
     match order {
         Order::Lex => monomial::Order::Lex,
         Order::DegRevLex => monomial::Order::DegRevLex,
@@ -155,6 +170,14 @@ fn cube_and_tail(random: &mut Random, order: Order, k: usize, tail: usize) -> Li
     list(random, order, monomials)
 }
 
+/// A reduction of a polynomial by divisors.
+pub(crate) fn reduction(f: &List, divisors: &[List]) -> Given {
+    let mut given = Given::new(P, VARIABLES as u32);
+    given.push(f);
+    divisors.iter().for_each(|g| given.push(g));
+    given
+}
+
 /// One kind of reductions, and the least times for each comparison and for each lead.
 struct Row {
     kind: Kind,
@@ -177,22 +200,11 @@ impl Row {
         }
     }
 
-    /// A fresh polynomial and its divisors.
-    fn given(&self, random: &mut Random) -> Given {
-        let most = self.kind.degree(self.order);
-        let monomials = (0..TERMS).map(|_| any_monomial(random, most)).collect();
-        let f = list(random, self.order, monomials);
-        let mut given = Given::new(P, VARIABLES as u32);
-        given.push(&f);
-        for divisor in self.kind.divisors(random, self.order) {
-            given.push(&divisor);
-        }
-        given
-    }
-
     /// Makes a fresh reduction, and times both over it once, in turn.
     fn pass(&mut self, random: &mut Random, round: usize) {
-        let (order, given) = (self.order, self.given(random));
+        let order = self.order;
+        let f = self.kind.polynomial(random, order);
+        let given = reduction(&f, &self.kind.divisors(random, order));
         let (mut proved, mut plain) = (Loan::new(PLACES), Loan::new(PLACES));
         let mut results = [ReductionResult::default(); 2];
         let [first, second] = &mut results;
@@ -236,13 +248,8 @@ impl Row {
 
 /// Whole reductions: nanoseconds for each comparison, and for each lead.
 pub fn reductions() {
-    let mut rows = Vec::new();
-    for order in ORDERS {
-        for tail in [4, 16] {
-            rows.push(Row::new(Kind::Random { tail }, order));
-        }
-    }
-    rows.push(Row::new(Kind::Cyclic4, Order::DegRevLex));
+    let kinds = Kind::rows().into_iter();
+    let mut rows: Vec<Row> = kinds.map(|(kind, order)| Row::new(kind, order)).collect();
     let random = &mut Random::new(54);
     for round in 0..ROUNDS {
         for row in &mut rows {
