@@ -1,5 +1,5 @@
 // The full sum of the buckets.
-use merge::within::merge_within;
+use merges::within::merge_within;
 use monomial::order::Order;
 use space::state::clear;
 ghost use Rattle.monomial.specs.Words.{compareWords};

@@ -3,4 +3,3 @@ pub mod State
 pub mod Steps
 pub mod Places
 pub mod Turns
-mod Outcomes

@@ -16,7 +16,7 @@ use Rattle.monomial.proofs.Places.{and-both}
 use Rattle.polynomial.specs.Terms.{Term}
 use Rattle.polynomial.specs.Opening.{Within, refusalOf}
 use Rattle.merge.specs.Merging.{Made}
-use Rattle.merge.specs.Multiplying.{Multiplicands, Multiplied}
+use Rattle.multiple.specs.Multiplying.{Multiplicands, Multiplied}
 use Rattle.probe.specs.Lending.{checkable, partThere, Factors}
 
 module _ (n words coefs : ℕ) where

@@ -7,7 +7,7 @@ use lib.ListN.{length, getD}
 use Rattle.residue.specs.Modular.{Modulus}
 use Rattle.monomial.specs.Words.{Packed}
 use Rattle.merge.specs.Lent.{Poly}
-use Rattle.merge.specs.Multiplying.{AllPacked}
+use Rattle.multiple.specs.Multiplying.{AllPacked}
 
 -- at most 6 variables, and as many coefficients as words
 unfoldable pub checkable : (n words coefs : ℕ) → Bool

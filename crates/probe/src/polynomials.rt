@@ -1,11 +1,11 @@
 // Polynomials in lent slices: their opening check, starts and parts, their merge, and the multiple
 // by a term. An order is its number, 1 to 3; any other number counts as 3. The merges and the
 // multiple ask what the functions that they call ask: whoever calls them tests it first.
-use merge::merging::merge;
-use merge::multiple::any_over;
-use merge::multiple::put_multiple;
-use merge::within::merge_within;
+use merges::merging::merge;
+use merges::within::merge_within;
 use monomial::order::order_of;
+use multiple::multiple::any_over;
+use multiple::multiple::put_multiple;
 use polynomial::check::check;
 use polynomial::part::coefs_of;
 use polynomial::part::words_of;
@@ -20,7 +20,7 @@ ghost use Rattle.polynomial.specs.Terms.{terms};
 ghost use Rattle.polynomial.specs.Opening.{refusalOf, startsGood, partOf};
 ghost use Rattle.merge.specs.Lent.{part};
 ghost use Rattle.merge.specs.Merging.{Sides, Within, Made};
-ghost use Rattle.merge.specs.Multiplying.{AllPacked, anyOver, Multiplied};
+ghost use Rattle.multiple.specs.Multiplying.{AllPacked, anyOver, Multiplied};
 ghost use Rattle.probe.specs.Lending.{checkable, partThere, Factors};
 
 const NO_WORD: u64 = 0xffff_ffff_ffff_ffff;

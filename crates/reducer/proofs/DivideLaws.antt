@@ -17,7 +17,7 @@ use Rattle.monomial.proofs.LayoutLaws.{layout-packed}
 use Rattle.polynomial.specs.Terms.{Term, term, terms, All, Canonical}
 use Rattle.polynomial.specs.Multiple.{multiple}
 use Rattle.polynomial.specs.Opening.{partOf, Within}
-use Rattle.merge.specs.Multiplying.{AllPacked, anyOver}
+use Rattle.multiple.specs.Multiplying.{AllPacked, anyOver}
 use Rattle.geobucket.specs.Buckets.{held}
 use Rattle.space.specs.Space.{Buckets, bucketsIn, heldIn, dropped}
 use Rattle.space.proofs.SpaceLaws.{held-lens}

@@ -16,7 +16,7 @@ use Rattle.monomial.proofs.LayoutLaws.{layout-packed}
 use Rattle.polynomial.specs.Terms.{Term, term, All, terms}
 use Rattle.polynomial.proofs.TermLists.{length-terms}
 use Rattle.polynomial.proofs.MultipleLaws.{length-multiple}
-use Rattle.merge.specs.Multiplying.{anyOver}
+use Rattle.multiple.specs.Multiplying.{anyOver}
 use Rattle.geobucket.specs.Buckets.{held, add, addCompared}
 use Rattle.geobucket.specs.Search.{Lead, none, lead, search, withLead}
 use Rattle.geobucket.specs.Events as events

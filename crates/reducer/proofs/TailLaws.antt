@@ -10,7 +10,7 @@ use Rattle.polynomial.specs.Terms.{Term, term, terms, words, coefs, Canonical}
 use Rattle.polynomial.specs.Multiple.{multiple}
 use Rattle.polynomial.proofs.TermLists.{length-terms, terms-of}
 use Rattle.merge.specs.Lent.{part}
-use Rattle.merge.specs.Multiplying.{Multiplied}
+use Rattle.multiple.specs.Multiplying.{Multiplied}
 use Rattle.space.specs.Space.{Buckets}
 use Rattle.space.proofs.SpaceLaws.{part-put}
 use Rattle.buckets.specs.Adding.{Addition, AddDone}

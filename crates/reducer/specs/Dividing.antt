@@ -10,7 +10,7 @@ use Rattle.monomial.specs.Words.{compareWords, dividesWord}
 use Rattle.polynomial.specs.Terms.{Term, term, terms, Canonical}
 use Rattle.polynomial.specs.Multiple.{multiple}
 use Rattle.polynomial.specs.Opening.{partOf}
-use Rattle.merge.specs.Multiplying.{anyOver, Multiplicands}
+use Rattle.multiple.specs.Multiplying.{anyOver, Multiplicands}
 use Rattle.geobucket.specs.Buckets.{held}
 use Rattle.space.specs.Space.{Buckets, bucketsIn, Stands, dropped}
 use Rattle.search.specs.declared.candidate.Candidate.{Candidate}

@@ -2,10 +2,10 @@
 use crate::divisor::lead_inverse;
 use crate::state::State;
 use buckets::add::add;
-use merge::multiple::any_over;
-use merge::multiple::put_multiple;
 use monomial::order::Order;
 use monomial::word::quotient;
+use multiple::multiple::any_over;
+use multiple::multiple::put_multiple;
 use polynomial::part::coefs_of;
 use polynomial::part::words_of;
 use residue::arithmetic::multiply;

@@ -10,7 +10,7 @@ use Rattle.reducer.proofs.divide.add_tail.Tie as tie
 use Rattle.reducer.proofs.divide.add_tail.Reads as reads
 use Rattle.reducer.proofs.divide.add_tail.Lts as lts
 use Rattle.buckets.proofs.add.add.Reads as add-reads
-use Rattle.merge.proofs.multiple.put_multiple.Reads as put-multiple-reads
+use Rattle.multiple.proofs.multiple.put_multiple.Reads as put-multiple-reads
 
 put-multiple-requires : tie.Need-put-multiple-requires
 put-multiple-requires c κs = search needs

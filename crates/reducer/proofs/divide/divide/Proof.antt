@@ -13,7 +13,7 @@ use Rattle.reducer.proofs.divide.divide.Statement.{statement}
 use Rattle.reducer.proofs.divide.divide.Tie as tie
 use Rattle.reducer.proofs.divide.divide.Reads as reads
 use Rattle.reducer.proofs.divide.divide.Lts as lts
-use Rattle.merge.proofs.multiple.any_over.Reads as any-over-reads
+use Rattle.multiple.proofs.multiple.any_over.Reads as any-over-reads
 use Rattle.monomial.proofs.word.quotient.Reads as quotient-reads
 use Rattle.polynomial.proofs.part.coefs_of.Reads as coefs-of-reads
 use Rattle.polynomial.proofs.part.words_of.Reads as words-of-reads

@@ -1,0 +1,38 @@
+-- What the multiple of a lent polynomial by a term asks and makes. Assumes nothing.
+use Prim.Native.Nat.{ℕ, _+_, _<_, _≤_}
+use mathlib.Core.Path.{_≡_}
+use mathlib.Core.Bool.{Bool, true, false, not, _||_}
+use mathlib.Core.List.{List, [], _∷_}
+use lib.ListN.{length}
+use lib.Seq.{sets}
+use Rattle.residue.specs.declared.factor.Factor.{Factor}
+use Rattle.residue.specs.Share.{Prepared}
+use Rattle.monomial.specs.Exponents.{product}
+use Rattle.monomial.specs.Layout.{bytes, below}
+use Rattle.monomial.specs.Words.{Packed}
+use Rattle.polynomial.specs.Terms.{terms, words, coefs}
+use Rattle.polynomial.specs.Multiple.{multiple}
+use Rattle.merge.specs.Lent.{Poly}
+
+-- each word is fit for word arithmetic
+abbrev pub AllPacked : List ℕ → Type 0
+AllPacked [] = Unit {0}
+AllPacked (w ∷ ws) = Packed w × AllPacked ws
+
+-- some product with the monomial q has an exponent over 127
+unfoldable pub anyOver : ℕ → List ℕ → Bool
+anyOver q [] = false
+anyOver q (w ∷ ws) = not (below 128 (product (bytes 6 q) (bytes 6 w))) || anyOver q ws
+
+pub record Multiplicands (f : Factor) (q : ℕ) (ws cs : List ℕ) (to : ℕ) (ow oc : List ℕ) : Type 0 where
+  pub prepared : Prepared f
+  pub poly : Poly (f .prime) ws cs
+  pub monomial : Packed q
+  pub packed : AllPacked ws
+  pub words-room : to + length ws ≤ length ow
+  pub coefs-room : to + length ws ≤ length oc
+
+-- the multiple by f·q was put from place `to` on; all else is as it was
+pub record Multiplied (p c q : ℕ) (ws cs : List ℕ) (to : ℕ) (ow oc ow' oc' : List ℕ) : Type 0 where
+  pub words-are : ow' ≡ sets ow to (words (multiple (λ x y. x + y) p c q (terms ws cs)))
+  pub coefs-are : oc' ≡ sets oc to (coefs (multiple (λ x y. x + y) p c q (terms ws cs)))

@@ -1,0 +1,71 @@
+// The multiple of a lent polynomial by a term.
+use monomial::word::TOPS;
+use residue::factor::Factor;
+ghost use mathlib.Core.Path.{_≡_};
+ghost use mathlib.Core.List.{map};
+ghost use Prim.Native.Nat.{_+_, _≤_};
+ghost use lib.ListN.{length};
+ghost use lib.Seq.{sets};
+ghost use Rattle.residue.specs.Modular.{product};
+ghost use Rattle.residue.specs.Share.{Prepared};
+ghost use Rattle.monomial.specs.Layout.{Below};
+ghost use Rattle.monomial.specs.Words.{Packed};
+ghost use Rattle.multiple.specs.Multiplying.{AllPacked, anyOver, Multiplicands, Multiplied};
+
+// Whether a product of the monomial q with one of the words has an exponent over 127. No field of a
+// sum carries into the next, and one is over 127 where its top bit is set; the bits of all sums are
+// gathered, and looked at once.
+pub fn any_over(q: u64, words: &[u64]) -> bool
+    requires { ⌜ Packed q × AllPacked (now words) ⌝ }
+    ensures { λ r. ⌜ r ≡ anyOver q (now (words .entry)) ⌝ }
+{
+    let mut seen: u64 = 0;
+    let mut i = 0;
+    while i < words.len() {
+        seen |= q + words[i];
+        i += 1;
+    }
+    seen & TOPS != 0
+}
+
+// Puts the polynomial times factor·q into the output from place `to` on: a loop for the words and one
+// for the coefficients, so that each makes several at once.
+pub fn put_multiple(
+    factor: Factor,
+    q: u64,
+    words: &[u64],
+    coefs: &[u32],
+    ow: &mut [u64],
+    oc: &mut [u32],
+    to: usize,
+)
+    requires { ⌜ Multiplicands factor q (now words) (now coefs) to (now ow) (now oc) ⌝ }
+    ensures { λ _. ⌜ Multiplied (factor .prime) (factor .value) q (now (words .entry)) (now (coefs .entry)) to (now (ow .entry)) (now (oc .entry)) (now (ow .exit)) (now (oc .exit)) ⌝ }
+{
+    put_products(q, words, ow, to);
+    put_scaled(factor, coefs, oc, to);
+}
+
+// Puts the products of the monomial q with the words.
+fn put_products(q: u64, words: &[u64], ow: &mut [u64], to: usize)
+    requires { ⌜ Packed q × AllPacked (now words) × (to + length (now words) ≤ length (now ow)) ⌝ }
+    ensures { λ _. ⌜ now (ow .exit) ≡ sets (now (ow .entry)) to (map (λ w. q + w) (now (words .entry))) ⌝ }
+{
+    let mut i = 0;
+    while i < words.len() {
+        ow[to + i] = q + words[i];
+        i += 1;
+    }
+}
+
+// Puts the products of the factor with the coefficients.
+fn put_scaled(factor: Factor, coefs: &[u32], oc: &mut [u32], to: usize)
+    requires { ⌜ Prepared factor × Below (factor .prime) (now coefs) × (to + length (now coefs) ≤ length (now oc)) ⌝ }
+    ensures { λ _. ⌜ now (oc .exit) ≡ sets (now (oc .entry)) to (map (λ c. product (factor .prime) (factor .value) c) (now (coefs .entry))) ⌝ }
+{
+    let mut j = 0;
+    while j < coefs.len() {
+        oc[to + j] = factor.times(coefs[j]);
+        j += 1;
+    }
+}
