@@ -2,15 +2,17 @@
 use mathlib.Core.Path.{_≡_, refl, sym, ap, ap₂, _∙_, subst}
 use mathlib.Core.Bool.{Bool, true, false}
 use mathlib.Core.List.{List, [], _∷_}
-use Prim.Native.Nat.{ℕ, zero, suc, _+_, _-_, _<_, _≤_}
+use Prim.Native.Nat.{ℕ, zero, suc, _+_, _-_, _%_, _<_, _≤_}
+use native.Mathlib.Nat.{mul-comm}
 use native.Mathlib.Omega.{arith}
 use lib.ListN.{length, getD, take, drop, length-drop}
 use lib.Seq.{length-take-le, take-all, drop-cons}
 use Rattle.residue.specs.declared.factor.Factor.{Factor}
-use Rattle.residue.specs.Share.{shareOf, FactorOf}
+use Rattle.residue.specs.Share.{shareOf, FactorOf, Prepared}
 use Rattle.residue.specs.Modular.{Modulus, negative, product, inverseOf}
 use Rattle.residue.proofs.Modular.{negative-below}
 use Rattle.residue.proofs.Inverses.{inverse-below}
+use Rattle.residue.proofs.Shoup.{prepared, times-product}
 use Rattle.monomial.specs.declared.order.Order.{Order}
 use Rattle.monomial.specs.Words.{compareWords, Packed, dividesWord}
 use Rattle.monomial.proofs.LayoutLaws.{layout-packed}
@@ -113,6 +115,7 @@ module _ {o : Order} {p : ℕ} {words coefs starts : List ℕ} {k : ℕ} {s : St
   pub inverting : Inverting p coefs starts k inverses
   inverting = record {
     modulus = a .checked .modulus;
+    short = a .checked .short;
     prime = a .checked .prime;
     low = a .low;
     there = omega (arith, a .high);
@@ -218,16 +221,20 @@ module _ {o : Order} {p : ℕ} {words coefs starts : List ℕ} {k : ℕ} {s : St
     held-few = omega (arith, a .room, held-is a)
 
   -- ---- −c divided by the lead coefficient
-  module _ {x y : ℕ} (ex : x ≡ negative p (lead .coef)) (ey : y ≡ inverseOf p (leadCoef coefs starts k)) where
-    pub multiply-asks : Modulus p × (x < p) × (y < p)
-    multiply-asks = (a .checked .modulus, omega (arith, ex, negative-below p pos (lead .coef)), omega (arith, ey, inverse-below p (leadCoef coefs starts k) (a .checked .prime) (valid a .canonical .reduced .0 .0) (valid a .canonical .reduced .0 .1)))
+  module _ {x : ℕ} (ex : x ≡ negative p (lead .coef)) {i : Factor} (ei : FactorOf p (inverseOf p (leadCoef coefs starts k)) i) where
+    pub times-asks : Prepared i × (x < i .prime)
+    times-asks = (prepared p _ i (a .checked .modulus) (a .checked .short) (inverse-below p (leadCoef coefs starts k) (a .checked .prime) (valid a .canonical .reduced .0 .0) (valid a .canonical .reduced .0 .1)) ei, omega (arith, ex, negative-below p pos (lead .coef), ei .prime-is))
       where
         pos : 0 < p
         pos = omega (arith, a .checked .modulus .two)
 
-    module _ {v : ℕ} (ev : v ≡ product p x y) where
+    module _ {v : ℕ} (ev : v ≡ product (i .prime) (i .value) x) where
       pub multiplier-is : v ≡ product p (negative p (lead .coef)) (inverseOf p (leadCoef coefs starts k))
-      multiplier-is = ev ∙ ap₂ (product p) ex ey
+      multiplier-is =
+          ev
+          ∙ (times-product p (inverseOf p (leadCoef coefs starts k)) x i ei
+          ∙ (ap (product p (inverseOf p (leadCoef coefs starts k))) ex
+          ∙ ap (λ (n : ℕ). n % p) (mul-comm (inverseOf p (leadCoef coefs starts k)) (negative p (lead .coef)))))
 
       pub factor-asks : Modulus p × (p ≤ 65536) × (v < p)
       factor-asks = (a .checked .modulus, a .checked .short, omega (arith, multiplier-is, multiplier-small a))

@@ -1,5 +1,5 @@
 -- The divisors as they are lent: "Polynomial 0 is added first; the others are divisors." What the search for a fitting one and the inverse of its lead coefficient ask and give. Assumes nothing.
-use Prim.Native.Nat.{ℕ, _+_, _-_, _<_, _≤_}
+use Prim.Native.Nat.{ℕ, _+_, _-_, _*_, _<_, _≤_}
 use mathlib.Core.Path.{_≡_}
 use mathlib.Core.Bool.{true, false}
 use mathlib.Core.List.{List}
@@ -7,6 +7,7 @@ use mathlib.Core.Logic.{_⊎_}
 use lib.ListN.{length, getD}
 use Rattle.residue.specs.Modular.{Modulus, inverseOf}
 use Rattle.residue.specs.Prime.{Prime}
+use Rattle.residue.specs.Share.{shareOf}
 use Rattle.monomial.specs.declared.order.Order.{Order}
 use Rattle.monomial.specs.Layout.{Layout}
 use Rattle.monomial.specs.Words.{compareWords, Packed, dividesWord}
@@ -55,13 +56,18 @@ pub record FirstFit (words starts : List ℕ) (α k : ℕ) : Type 0 where
   pub before : (j : ℕ) → 1 ≤ j → j < k → dividesWord (leadWord words starts j) α ≡ false
   pub here : k + 1 < length starts → dividesWord (leadWord words starts k) α ≡ true
 
+-- a factor modulo p in one number: its share, and its value below 2 ^ 16
+abbrev pub inOne : (p value : ℕ) → ℕ
+inOne p value = shareOf p value * 65536 + value
+
 -- the inverses of the lead coefficients of the first 1,024 divisors, as far as they were asked for
 pub record Inverses (p : ℕ) (coefs starts inverses : List ℕ) : Type 0 where
   pub long : length inverses ≡ 1024
-  pub each : (j : ℕ) → j < 1024 → (getD inverses j 0 ≡ 0) ⊎ (getD inverses j 0 ≡ inverseOf p (leadCoef coefs starts (j + 1)))
+  pub each : (j : ℕ) → j < 1024 → (getD inverses j 0 ≡ 0) ⊎ (getD inverses j 0 ≡ inOne p (inverseOf p (leadCoef coefs starts (j + 1))))
 
 pub record Inverting (p : ℕ) (coefs starts : List ℕ) (k : ℕ) (inverses : List ℕ) : Type 0 where
   pub modulus : Modulus p
+  pub short : p ≤ 65536
   pub prime : Prime p
   pub low : 1 ≤ k
   pub there : k < length starts

@@ -8,7 +8,6 @@ use multiple::multiple::any_over;
 use multiple::multiple::put_multiple;
 use polynomial::part::coefs_of;
 use polynomial::part::words_of;
-use residue::arithmetic::multiply;
 use residue::arithmetic::negate;
 use residue::factor::Factor;
 use search::candidate::Candidate;
@@ -53,7 +52,7 @@ pub fn divide<'a>(
         return s.halt(11);
     }
     let inverse = lead_inverse(p, coefs, starts, k, inverses);
-    let factor = Factor::new(multiply(negate(lead.coef, p), inverse, p), p);
+    let factor = Factor::new(inverse.times(negate(lead.coef, p)), p);
     remove_lead(b, lead.bucket);
     let r = s.remove();
     add_tail(order, p, factor, q, tw, tc, r, b, bw, bc, ww, wc, mw, mc)
