@@ -25,7 +25,7 @@ use Rattle.division.proofs.Endings.{begins, begins-not}
 use Rattle.engine.specs.Runs.{polynomial}
 use Rattle.engine.specs.States.{Addend, Lent, Output, Work}
 use Rattle.reducer.specs.declared.state.State.{State}
-use Rattle.reducer.specs.Divisors.{divisorsOf, OfLayout, Checked, Inverses}
+use Rattle.reducer.specs.Divisors.{divisorsOf, OfLayout, Checked, KeptLeads, Inverses}
 use Rattle.reducer.specs.Stepping.{Counts, Ended, Going, Reaches, Sound, Stepping, Stepped, Beginning, Begun, refused, begun, Reducible, Reduced}
 use Rattle.reducer.proofs.DivideLaws.{part-long}
 use Rattle.reducer.proofs.StepLaws.{false-true, of-every}
@@ -155,12 +155,13 @@ module _ {o : Order} {p : ℕ} {words coefs starts : List ℕ} {limit : ℕ} (a 
   -- ---- in a turn
   module _ {ow₀ oc₀ : List ℕ} {b : Buckets} {bw bc ww wc ow oc inverses mw mc : List ℕ} {s : State} (v : Turning o p words coefs starts limit ow₀ oc₀ b bw bc ww wc ow oc inverses mw mc s) where
     module _ (more : s .more ≡ true) where
-      pub turn-asks : Stepping o p words coefs starts limit s inverses b bw bc ww wc mw mc ow oc
-      turn-asks = record {
+      pub turn-asks : {leads : List ℕ} → KeptLeads words starts leads → Stepping o p words coefs starts leads limit s inverses b bw bc ww wc mw mc ow oc
+      turn-asks l = record {
         checked = a .checked;
         few-steps = a .few-steps;
         more = more;
         sound = v .sound;
+        leads-kept = l;
         kept = v .kept;
         work = v .work;
         scratch-words = v .scratch-words;

@@ -42,7 +42,7 @@ use Rattle.division.proofs.StepLaws.{step-none, step-limit, step-kept, step-ful
 use Rattle.engine.specs.States.{Output}
 use Rattle.engine.proofs.OutputLaws.{written-long, grown, grown-output, words-past, coefs-past}
 use Rattle.reducer.specs.declared.state.State.{State}
-use Rattle.reducer.specs.Divisors.{leadWord, leadCoef, divisorsOf, OfLayout, Checked, Leads, FirstFit, Inverses}
+use Rattle.reducer.specs.Divisors.{leadWord, leadCoef, divisorsOf, OfLayout, Checked, Leads, FirstFit, KeptLeads, Inverses}
 use Rattle.reducer.specs.States.{searched, halted, removed, added, kept}
 use Rattle.reducer.specs.Dividing.{Dividing, DividedTo, over, many, divided, Divided, tailOf}
 use Rattle.reducer.specs.Stepping.{Keeping, Kept, full, put, Counts, remainderIn, Ended, Going, Reaches, Sound, Stepping, Stepped}
@@ -64,11 +64,11 @@ of-every P [] a = tt
 of-every P (b ∷ bs) a = (a .0, of-every P bs (a .1))
 
 -- ---- the search
-pub searches : {o : Order} {p : ℕ} {words coefs starts : List ℕ} {limit : ℕ} {s : State} {inverses : List ℕ} {b₀ : Buckets} {bw bc ww wc mw mc ow oc : List ℕ} → Stepping o p words coefs starts limit s inverses b₀ bw bc ww wc mw mc ow oc → {b : Buckets} {bc' : List ℕ} {k : Candidate} → FindDone (compareWords o) p (bucketsIn b₀ bw bc) b bw bc' k → (s .comparisons < 2000000000000000000) × (k .count < 1000000)
+pub searches : {o : Order} {p : ℕ} {words coefs starts leads : List ℕ} {limit : ℕ} {s : State} {inverses : List ℕ} {b₀ : Buckets} {bw bc ww wc mw mc ow oc : List ℕ} → Stepping o p words coefs starts leads limit s inverses b₀ bw bc ww wc mw mc ow oc → {b : Buckets} {bc' : List ℕ} {k : Candidate} → FindDone (compareWords o) p (bucketsIn b₀ bw bc) b bw bc' k → (s .comparisons < 2000000000000000000) × (k .count < 1000000)
 searches a d = (omega (arith, a .sound .few-comparisons (a .more), a .sound .few-leads, a .few-steps), omega (arith, d .few))
 
 -- ---- once the lead was searched for
-module _ {o : Order} {p : ℕ} {words coefs starts : List ℕ} {limit : ℕ} {s : State} {inverses : List ℕ} {b₀ : Buckets} {bw bc ww wc mw mc ow oc : List ℕ} (a : Stepping o p words coefs starts limit s inverses b₀ bw bc ww wc mw mc ow oc)
+module _ {o : Order} {p : ℕ} {words coefs starts leads : List ℕ} {limit : ℕ} {s : State} {inverses : List ℕ} {b₀ : Buckets} {bw bc ww wc mw mc ow oc : List ℕ} (a : Stepping o p words coefs starts leads limit s inverses b₀ bw bc ww wc mw mc ow oc)
     {b : Buckets} {bc' : List ℕ} {k : Candidate} (d : FindDone (compareWords o) p (bucketsIn b₀ bw bc) b bw bc' k) {t : State} (et : t ≡ searched s (k .count)) where
   abbrev cmp : ℕ → ℕ → Ordering
   cmp = compareWords o
@@ -212,8 +212,8 @@ module _ {o : Order} {p : ℕ} {words coefs starts : List ℕ} {limit : ℕ} {s 
         (λ w c. ap (λ (m : ℕ). stepsFrom cmp dividesWord _-_ _+_ overWord p (divisorsOf words coefs starts) (length ow) m (s .leads) (remainderIn s ow oc) w) none-left ∙ step-limit cmp dividesWord _-_ _+_ overWord p (divisorsOf words coefs starts) (length ow) (s .leads) (remainderIn s ow oc) w (L .at) (L .term) (in-work w c))
         es (a .kept)
 
-    pub first-asks : Leads words starts × Packed (k .word)
-    first-asks = (leads-there (a .checked), layout-packed o 6 (k .word) (omega arith) word-layout)
+    pub first-asks : Leads words starts × KeptLeads words starts leads × Packed (k .word)
+    first-asks = (leads-there (a .checked), a .leads-kept, layout-packed o 6 (k .word) (omega arith) word-layout)
 
     module _ (room : t .leads ≡ limit → ⊥) where
       few : s .leads < limit

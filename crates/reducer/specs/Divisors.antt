@@ -56,6 +56,30 @@ pub record FirstFit (words starts : List ℕ) (α k : ℕ) : Type 0 where
   pub before : (j : ℕ) → 1 ≤ j → j < k → dividesWord (leadWord words starts j) α ≡ false
   pub here : k + 1 < length starts → dividesWord (leadWord words starts k) α ≡ true
 
+-- the first place from `from` on and before `past` whose lead divides α, or `past` where there is none
+pub record FirstOf (lead : ℕ → ℕ) (α from past k : ℕ) : Type 0 where
+  pub low : from ≤ k
+  pub high : k ≤ past
+  pub before : (j : ℕ) → from ≤ j → j < k → dividesWord (lead j) α ≡ false
+  pub here : k < past → dividesWord (lead k) α ≡ true
+
+-- the lead monomials of the first 1,024 divisors, from place 0 on
+pub record KeptLeads (words starts leads : List ℕ) : Type 0 where
+  pub long : length leads ≡ 1024
+  pub each : (j : ℕ) → j < 1024 → j + 2 < length starts → getD leads j 0 ≡ leadWord words starts (j + 1)
+
+-- how many those are, from the number of starts
+pub record KeptCount (m n : ℕ) : Type 0 where
+  pub few : n ≤ 1024
+  pub high : n + 2 ≤ m
+  pub all : n < 1024 → n + 2 ≡ m
+
+-- n words, and one that they may divide
+pub record Scannable (leads : List ℕ) (n α : ℕ) : Type 0 where
+  pub there : n ≤ length leads
+  pub packed : (j : ℕ) → j < n → Packed (getD leads j 0)
+  pub word : Packed α
+
 -- a factor modulo p in one number: its share, and its value below 2 ^ 16
 abbrev pub inOne : (p value : ℕ) → ℕ
 inOne p value = shareOf p value * 65536 + value

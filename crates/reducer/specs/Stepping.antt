@@ -20,7 +20,7 @@ use Rattle.division.specs.Steps.{Reduction, stepsFrom, overWord, reductionOfWor
 use Rattle.engine.specs.Runs.{polynomial}
 use Rattle.engine.specs.States.{Work, Output}
 use Rattle.reducer.specs.declared.state.State.{State}
-use Rattle.reducer.specs.Divisors.{divisorsOf, OfLayout, Checked, Inverses}
+use Rattle.reducer.specs.Divisors.{divisorsOf, OfLayout, Checked, KeptLeads, Inverses}
 use Rattle.reducer.specs.States.{halted, kept}
 
 -- ---- the lead goes to the remainder
@@ -75,11 +75,12 @@ pub record Sound (o : Order) (p limit : ℕ) (s : State) (b : Buckets) (bw bc ow
   pub few-comparisons : s .more ≡ true → s .comparisons ≤ 100000 * (s .leads + 1)
   pub few-brought : s .more ≡ true → s .brought ≤ 4096 * (s .leads + 1)
 
-pub record Stepping (o : Order) (p : ℕ) (words coefs starts : List ℕ) (limit : ℕ) (s : State) (inverses : List ℕ) (b : Buckets) (bw bc ww wc mw mc ow oc : List ℕ) : Type 0 where
+pub record Stepping (o : Order) (p : ℕ) (words coefs starts leads : List ℕ) (limit : ℕ) (s : State) (inverses : List ℕ) (b : Buckets) (bw bc ww wc mw mc ow oc : List ℕ) : Type 0 where
   pub checked : Checked o p words coefs starts
   pub few-steps : limit ≤ 8796093022208
   pub more : s .more ≡ true
   pub sound : Sound o p limit s b bw bc ow oc
+  pub leads-kept : KeptLeads words starts leads
   pub kept : Inverses p coefs starts inverses
   pub work : Work ww wc
   pub scratch-words : length mw ≡ 4096

@@ -16,6 +16,7 @@ pub fn step<'a>(
     words: &'a [u64],
     coefs: &'a [u32],
     starts: &[usize],
+    leads: &[u64],
     limit: u64,
     s: State,
     inverses: &mut [u32],
@@ -29,7 +30,7 @@ pub fn step<'a>(
     ow: &mut [u64],
     oc: &mut [u32],
 ) -> State
-    requires { ⌜ Stepping order p (now words) (now coefs) (now starts) limit s (now inverses) (now b) (now bw) (now bc) (now ww) (now wc) (now mw) (now mc) (now ow) (now oc) ⌝ }
+    requires { ⌜ Stepping order p (now words) (now coefs) (now starts) (now leads) limit s (now inverses) (now b) (now bw) (now bc) (now ww) (now wc) (now mw) (now mc) (now ow) (now oc) ⌝ }
     ensures { λ r. ⌜ Stepped order p (now (words .entry)) (now (coefs .entry)) (now (starts .entry)) limit s (now (b .entry)) (now (bw .entry)) (now (bc .entry)) (now (ow .entry)) (now (oc .entry)) r (now (inverses .exit)) (now (b .exit)) (now (bw .exit)) (now (bc .exit)) (now (ow .exit)) (now (oc .exit)) ⌝ }
 {
     let lead = find_lead(order, p, b, bw, bc);
@@ -40,7 +41,7 @@ pub fn step<'a>(
     if t.leads == limit {
         return t.halt(13);
     }
-    let k = first_fit(words, starts, lead.word);
+    let k = first_fit(words, starts, leads, lead.word);
     if k + 1 < starts.len() {
         return divide(
             order,

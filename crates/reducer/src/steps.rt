@@ -1,4 +1,5 @@
 // The steps of a reduction in turn.
+use crate::divisor::keep_leads;
 use crate::state::State;
 use crate::step::step;
 use buckets::add::add;
@@ -29,9 +30,11 @@ pub fn reduce_all<'a>(
     requires { ⌜ Reducible order p (now words) (now coefs) (now starts) limit × Lent (now b) (now bw) (now bc) (now ww) (now wc) (now ow) (now oc) ⌝ }
     ensures { λ r. ⌜ Reduced order p (now (words .entry)) (now (coefs .entry)) (now (starts .entry)) limit (now (ow .entry)) (now (oc .entry)) r (now (b .exit)) (now (bw .exit)) (now (bc .exit)) (now (ow .exit)) (now (oc .exit)) ⌝ }
 {
+    let mut leads = [0u64; 1024];
     let mut inverses = [0u32; 1024];
     let mut mw = [0u64; 4096];
     let mut mc = [0u32; 4096];
+    keep_leads(words, starts, &mut leads);
     let fw = words_of(words, starts, 0);
     let fc = coefs_of(coefs, starts, 0);
     let mut s = begin(order, p, fw, fc, b, bw, bc, ww, wc);
@@ -42,6 +45,7 @@ pub fn reduce_all<'a>(
             words,
             coefs,
             starts,
+            &leads,
             limit,
             s,
             &mut inverses,

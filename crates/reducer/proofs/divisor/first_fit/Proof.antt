@@ -1,84 +1,43 @@
--- `reducer::divisor::first_fit` meets its contract: after each turn the divisors before k do not fit. Assumes nothing.
-use mathlib.Core.Path.{sym, _∙_}
-use Prim.Native.Nat.{_-_}
-use native.Mathlib.Omega.{arith}
-use lib.ListN.{length}
-use Rattle.reducer.proofs.DivisorLaws.{Scanned, scan-start, scan-fits, scan-none, scan-next}
+-- `reducer::divisor::first_fit` meets its contract: none of the kept leads fits where none is found among them. Assumes nothing.
+use borrow.Author.Needs.{needs}
+use Rattle.reducer.proofs.DivisorLaws.{scannable, fit-kept, fit-past}
 use Rattle.reducer.proofs.divisor.first_fit.Statement.{statement}
 use Rattle.reducer.proofs.divisor.first_fit.Tie as tie
 use Rattle.reducer.proofs.divisor.first_fit.Reads as reads
 use Rattle.reducer.proofs.divisor.first_fit.Lts as lts
-use Rattle.monomial.proofs.word.divides.Reads as divides-reads
+use Rattle.reducer.proofs.divisor.count_kept.Reads as count-kept-reads
+use Rattle.reducer.proofs.divisor.first_kept.Reads as first-kept-reads
+use Rattle.reducer.proofs.divisor.first_past.Reads as first-past-reads
 
-abbrev Inv-loop : tie.InvT-loop
-Inv-loop words starts word k₀ k = Scanned words starts word k
+count-kept-requires : tie.Need-count-kept-requires
+count-kept-requires c κs = search needs
 
-abbrev μ-loop : tie.MeasureT-loop
-μ-loop words starts word k₀ k = length starts - k
+first-kept-requires : tie.Need-first-kept-requires
+first-kept-requires c κs = scannable (c .before .before .before .before .pre .0) (c .before .before .before .before .pre .1) (c .count-kept .ensures) (c .before .before .before .before .pre .2)
 
--- src/divisor.rt:16:5
-loop-holds : tie.Need-loop-holds Inv-loop μ-loop
-loop-holds c = scan-start _ _ _ (c .before .before .pre .0)
+add-result : tie.Need-add-result
+add-result c = search needs
 
--- src/divisor.rt:16:11
-add-loop : tie.Need-add-loop Inv-loop μ-loop
-add-loop c = omega arith
+returns : tie.Need-returns
+returns c = fit-kept (c .before .before .before .before .before .before .pre .0) (c .before .before .before .before .before .before .pre .1) (c .before .before .count-kept .ensures) (c .before .first-kept .ensures) (c .if1 .taken)
 
--- src/divisor.rt:17:26
-mul-divides : tie.Need-mul-divides Inv-loop μ-loop
-mul-divides c = omega arith
+add-first-past : tie.Need-add-first-past
+add-first-past c = search needs
 
--- src/divisor.rt:17:26
-shared-slice-read-divides : tie.Need-shared-slice-read-divides Inv-loop μ-loop
-shared-slice-read-divides c = omega arith
+first-past-requires : tie.Need-first-past-requires
+first-past-requires c κs = search needs
 
--- src/divisor.rt:17:20
-mul-divides-2 : tie.Need-mul-divides-2 Inv-loop μ-loop
-mul-divides-2 c = omega (arith, c .before .before .before .before .before .pre .0 .there (c .before .before .loop .k) (c .before .before .loop .inv .low) (c .before .loop-test .taken), c .before .before .before .before .before .good)
-
--- src/divisor.rt:17:20
-shared-slice-read-divides-2 : tie.Need-shared-slice-read-divides-2 Inv-loop μ-loop
-shared-slice-read-divides-2 c = c .before .before .before .before .before .before .pre .0 .there (c .before .before .before .loop .k) (c .before .before .before .loop .inv .low) (c .before .before .loop-test .taken)
-
--- src/divisor.rt:17:12
-divides-requires : tie.Need-divides-requires Inv-loop μ-loop
-divides-requires c κs = (c .before .before .before .before .before .before .pre .0 .packed (c .before .before .before .loop .k) (c .before .before .before .loop .inv .low) (c .before .before .loop-test .taken), c .before .before .before .before .before .before .pre .1)
-
--- src/divisor.rt:18:13
-returns : tie.Need-returns Inv-loop μ-loop
-returns c = scan-fits (c .before .before .before .before .before .loop .inv) (sym (c .before .divides .ensures) ∙ c .if1 .taken)
-
--- src/divisor.rt:20:9
-add-k : tie.Need-add-k Inv-loop μ-loop
-add-k c = omega arith
-
--- src/divisor.rt:16:5
-loop-less : tie.Need-loop-less Inv-loop μ-loop
-loop-less c = omega arith
-
--- src/divisor.rt:16:5
-loop-again : tie.Need-loop-again Inv-loop μ-loop
-loop-again c = scan-next (c .before .before .before .before .before .loop .inv) (c .before .before .before .before .loop-test .taken) (sym (c .before .divides .ensures) ∙ c .if1 .left)
-
--- src/divisor.rt:11:1
-returns-2 : tie.Need-returns-2 Inv-loop μ-loop
-returns-2 c = scan-none (c .before .loop .inv) (c .loop-test .left)
+returns-2 : tie.Need-returns-2
+returns-2 c = fit-past (c .before .before .before .before .before .before .before .pre .0) (c .before .before .before .before .before .before .before .pre .1) (c .before .before .before .count-kept .ensures) (c .before .before .first-kept .ensures) (c .before .if1 .left) (c .first-past .ensures)
 
 pub first-fit-spec : {M : Type 1} → statement M
 first-fit-spec =
     tie.close
     (tie.spec
-    Inv-loop
-    μ-loop
-    loop-holds
-    add-loop
-    mul-divides
-    shared-slice-read-divides
-    mul-divides-2
-    shared-slice-read-divides-2
-    divides-requires
+    count-kept-requires
+    first-kept-requires
+    add-result
     returns
-    add-k
-    loop-less
-    loop-again
+    add-first-past
+    first-past-requires
     returns-2)
