@@ -1,4 +1,4 @@
--- A run's outcome, as the probe hands it on, and the comparisons of a candidate. Assumes nothing.
+-- The comparisons of a candidate. Assumes nothing.
 use mathlib.Core.Path.{_≡_, refl, ap, _∙_}
 use mathlib.Core.List.{List}
 use Prim.Native.Nat.{ℕ, Ordering}
@@ -9,21 +9,6 @@ use Rattle.space.specs.Space.{Buckets}
 use Rattle.search.specs.declared.candidate.Candidate.{Candidate}
 use Rattle.search.specs.Candidates.{candidateOf}
 use Rattle.search.specs.Searching.{FindDone, TakeDone}
-use Rattle.runs.specs.declared.Ran.{Ran}
-use Rattle.runs.specs.Outcome.{RunOutcome}
-use Rattle.probe.specs.declared.whole.RunResult.{RunResult}
-use Rattle.probe.specs.Runs.{resultOf, ProbedRun}
-
-pub probed : {o : RunOutcome} {q : Ran} {r : RunResult} {bw bc ww wc ow oc : List ℕ} → _≡_ {A = RunOutcome} (record { answer = q .answer; tally = q .tally; bw = bw; bc = bc; ww = ww; wc = wc; ow = ow; oc = oc }) o → r ≡ resultOf (q .answer) (q .tally) → ProbedRun o r bw bc ww wc ow oc
-probed e f = record {
-  result-is = f ∙ ap (λ (x : RunOutcome). resultOf (x .answer) (x .tally)) e;
-  bw-is = ap (λ (x : RunOutcome). x .bw) e;
-  bc-is = ap (λ (x : RunOutcome). x .bc) e;
-  ww-is = ap (λ (x : RunOutcome). x .ww) e;
-  wc-is = ap (λ (x : RunOutcome). x .wc) e;
-  ow-is = ap (λ (x : RunOutcome). x .ow) e;
-  oc-is = ap (λ (x : RunOutcome). x .oc) e;
-}
 
 count-of : (a : Lead ℕ) (n : ℕ) (c : Candidate) → c ≡ candidateOf a n → c .count ≡ n
 count-of a n c e = ap (λ (x : Candidate). x .count) e ∙ by a
