@@ -1,9 +1,9 @@
 //! Times the block store: the proved one beside the one in plain Rust. It fails only where results
 //! differ.
 use crate::buckets::{in_turn, Best, ROUNDS};
+use crate::library;
 use crate::lists::{list, words, List, Order};
 use crate::plain_blocks::{self, Setting};
-use crate::proved_blocks;
 use crate::random::Random;
 use std::hint::black_box;
 
@@ -37,7 +37,7 @@ impl Row {
         let (times, blocks) = in_turn(
             round,
             [
-                &mut || repeat(|| proved_blocks::write(setting, terms, black_box(a)).blocks),
+                &mut || repeat(|| library::write(setting, terms, black_box(a)).blocks),
                 &mut || repeat(|| plain_blocks::write(setting, terms, black_box(b)).blocks),
             ],
         );
@@ -49,7 +49,7 @@ impl Row {
         let (times, read) = in_turn(
             round,
             [
-                &mut || repeat(|| proved_blocks::read(blocks, black_box(a)).terms),
+                &mut || repeat(|| library::read(blocks, black_box(a)).terms),
                 &mut || repeat(|| plain_blocks::read(blocks, black_box(b)).terms),
             ],
         );

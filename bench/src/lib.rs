@@ -1,5 +1,5 @@
 //! Merges, geobuckets, runs, reductions and the block store for the benchmark: the proved ones through
-//! the static libraries `probe` and `probe_blocks`, and others in plain Rust. `lists` makes what they
+//! the static libraries `probe` and `damselbuckle`, and others in plain Rust. `lists` makes what they
 //! merge; `buckets` times geobuckets, `runs` and `reductions` whole calls, `workload` calls from a
 //! file, and `blocks` the block store.
 pub mod blocks;
@@ -9,6 +9,7 @@ pub mod buckets;
 pub mod c_functions;
 pub mod geobucket;
 pub mod given;
+pub mod library;
 pub mod lists;
 pub mod loan;
 pub mod merge;
@@ -20,13 +21,11 @@ pub mod plain_opening;
 pub mod plain_reduction;
 pub mod plain_run;
 pub mod proved;
-pub mod proved_blocks;
 pub mod proved_buckets;
-pub mod proved_reduction;
-pub mod proved_run;
 #[path = "../../tests/src/random.rs"]
 pub mod random;
 pub mod reductions;
+pub mod results;
 pub mod runs;
 pub mod singular;
 pub mod workload;

@@ -1,8 +1,8 @@
 //! The block store in plain Rust, with the order taken out of the loops.
-use crate::c_functions::{ReadResult, WriteResult};
 use crate::lists::{deg_rev_lex_key, lex_key, List};
 use crate::plain_opening::{exponents, in_layout, is_prime, polynomial_good, polynomial_refusal};
 use crate::plain_opening::{DEGREE, LARGEST_PRIME};
+use damselbuckle::raw::{ReadAnswer, WriteAnswer};
 
 const BLOCK: usize = 512;
 const HEADER: usize = 16;
@@ -39,12 +39,12 @@ impl Setting {
     }
 }
 
-pub fn write(setting: Setting, terms: &List, bytes: &mut [u8]) -> WriteResult {
+pub fn write(setting: Setting, terms: &List, bytes: &mut [u8]) -> WriteAnswer {
     let refusal = write_refusal(setting, terms, bytes.len());
     if refusal != 0 {
-        return WriteResult {
+        return WriteAnswer {
             refusal,
-            ..WriteResult::default()
+            ..WriteAnswer::default()
         };
     }
     let count = blocks_for(terms.words.len());
@@ -64,9 +64,9 @@ pub fn write(setting: Setting, terms: &List, bytes: &mut [u8]) -> WriteResult {
         let check = check(block);
         block[BLOCK - 4..].copy_from_slice(&check.to_le_bytes());
     }
-    WriteResult {
+    WriteAnswer {
         blocks: count as u64,
-        ..WriteResult::default()
+        ..WriteAnswer::default()
     }
 }
 
@@ -96,24 +96,24 @@ fn write_refusal(setting: Setting, terms: &List, room: usize) -> u64 {
     0
 }
 
-pub fn read(bytes: &[u8], out: &mut List) -> ReadResult {
+pub fn read(bytes: &[u8], out: &mut List) -> ReadAnswer {
     let (refusal, setting, terms) = judged(bytes, out);
     if refusal != 0 {
-        return ReadResult {
+        return ReadAnswer {
             refusal,
-            ..ReadResult::default()
+            ..ReadAnswer::default()
         };
     }
     let places = out.words.iter_mut().zip(&mut out.coefs);
     for ((to, c), (word, coef)) in places.zip(terms_in(bytes, terms)) {
         (*to, *c) = (word, coef);
     }
-    ReadResult {
+    ReadAnswer {
         p: setting.p.into(),
         order: setting.order.into(),
         n: setting.n.into(),
         terms: terms as u64,
-        ..ReadResult::default()
+        ..ReadAnswer::default()
     }
 }
 

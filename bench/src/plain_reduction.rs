@@ -1,11 +1,11 @@
 //! A reduction in plain Rust: the opening checks, the steps on the geobucket of `geobucket`, and
 //! settling, with the order taken out of the loops. The buckets hold keys, which are compared as
 //! numbers; they become words again when they leave.
-use crate::c_functions::ReductionResult;
 use crate::geobucket::{add_by, lead_by, Geobucket, Lead, Memory, Plain, BUCKETS, MOST};
 use crate::given::Given;
 use crate::lists::{deg_rev_lex_key, lex_key, List, Order, Terms};
 use crate::plain_opening::{polynomials_refusal, setting_refusal, sizes_good};
+use crate::results::ReductionResult;
 use std::marker::PhantomData;
 
 /// The largest step limit.

@@ -1,10 +1,10 @@
 //! A run in plain Rust: the opening checks, the operations on the geobucket of `geobucket`, and
 //! settling, with the order taken out of the loops.
-use crate::c_functions::RunResult;
 use crate::geobucket::{add_by, lead_by, sum_by, Geobucket, Memory, Plain, BUCKETS, MOST};
 use crate::given::Given;
 use crate::lists::{deg_rev_lex_key, lex_key, List, Order};
 use crate::plain_opening::{polynomials_refusal, setting_refusal, sizes_good};
+use crate::results::RunResult;
 
 /// The codes of the operations.
 pub const ADD: usize = 1;

@@ -1,14 +1,14 @@
 //! Times whole reductions, with their opening checks and settling: the proved one beside the one in
 //! plain Rust. It fails only where results differ.
 use crate::buckets::{in_turn, Best, ORDERS, P, ROUNDS};
-use crate::c_functions::ReductionResult;
 use crate::given::Given;
+use crate::library;
 use crate::lists::{List, Order};
 use crate::loan::Loan;
 use crate::monomial::{self, degree};
 use crate::plain_reduction::{self, MOST_LEADS};
-use crate::proved_reduction;
 use crate::random::Random;
+use crate::results::ReductionResult;
 
 /// Output places that are enough.
 pub(crate) const PLACES: usize = 4_096;
@@ -214,7 +214,7 @@ impl Row {
                 &mut || {
                     let Loan { memory, output } = &mut proved;
                     let number = order.number();
-                    *first = proved_reduction::reduce(number, &given, MOST_LEADS, memory, output);
+                    *first = library::reduce(number, &given, MOST_LEADS, memory, output);
                     first.comparisons
                 },
                 &mut || {

@@ -3,13 +3,13 @@
 use crate::buckets::{
     in_turn, Best, Cancellation, Maker, Operation, OPERATIONS, ORDERS, P, ROUNDS,
 };
-use crate::c_functions::RunResult;
 use crate::given::Given;
+use crate::library;
 use crate::lists::Order;
 use crate::loan::Loan;
 use crate::plain_run::{self, ADD, LEAD};
-use crate::proved_run;
 use crate::random::Random;
+use crate::results::RunResult;
 
 const VARIABLES: u32 = 6;
 
@@ -61,7 +61,7 @@ impl Row {
             round,
             [
                 &mut || {
-                    *first = proved_run::run(
+                    *first = library::run(
                         order.number(),
                         &given,
                         &pairs,

@@ -5,15 +5,14 @@
 //! Reductions have lines `input TERM ..`, each a call of its own, and `divisor TERM ..`, in turn, and
 //! may have `limit L`, the step limit. A term is a coefficient, a colon, and exponents parted by dots.
 //! A line that begins with `#` is a comment.
-use crate::c_functions::{ReductionResult, RunResult};
 use crate::given::Given;
+use crate::library;
 use crate::lists::List;
 use crate::loan::Loan;
 use crate::monomial::Order;
 use crate::plain_reduction::MOST_LEADS;
 use crate::plain_run::{ADD, LEAD, SUM};
-use crate::proved_reduction;
-use crate::proved_run;
+use crate::results::{ReductionResult, RunResult};
 use std::time::{Duration, Instant};
 
 const RUN_PLACES: usize = 4_000_000;
@@ -158,10 +157,10 @@ impl Workload {
         let Loan { memory, output } = &mut self.loan;
         match &self.calls[k] {
             Call::Run(given, pairs) => {
-                proved_run::run(self.order, given, pairs, memory, output).into()
+                library::run(self.order, given, pairs, memory, output).into()
             }
             Call::Reduction(given, limit) => {
-                proved_reduction::reduce(self.order, given, *limit, memory, output).into()
+                library::reduce(self.order, given, *limit, memory, output).into()
             }
         }
     }

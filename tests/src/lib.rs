@@ -1,7 +1,7 @@
 //! A second program for what the proved crates compute. `monomial`, `residue`, `polynomial`,
 //! `geobucket`, `call`, `course`, `run`, `reduction`, `block_store` and `script` are plain models, which
-//! share no code with the proved crates; `probe`, `probe_buckets`, `probe_run`, `probe_reduction` and
-//! `probe_blocks` call the proved functions; the other modules make what they are given.
+//! share no code with the proved crates; `library` calls the proved entries, `probe` and `probe_buckets`
+//! the proved functions below them; the other modules make what they are given.
 pub mod block_store;
 pub mod c_functions;
 pub mod call;
@@ -10,15 +10,13 @@ pub mod damage;
 pub mod generate;
 pub mod geobucket;
 pub mod lender;
+pub mod library;
 pub mod monomial;
 pub mod operations;
 pub mod polynomial;
 pub mod pools;
 pub mod probe;
-pub mod probe_blocks;
 pub mod probe_buckets;
-pub mod probe_reduction;
-pub mod probe_run;
 pub mod random;
 pub mod reduction;
 pub mod reduction_damage;

@@ -4,9 +4,9 @@ use second::block_store::{
     check, read as model_read, repair, Polynomial, Setting, BLOCK, MOST_TERMS, PLACES,
 };
 use second::generate::{self, places};
+use second::library;
 use second::monomial::Order;
 use second::polynomial::lent;
-use second::probe_blocks;
 use second::random::Random;
 use std::collections::BTreeSet;
 
@@ -55,7 +55,7 @@ fn size(random: &mut Random) -> usize {
 fn write(random: &mut Random, f: &Polynomial, room: usize) -> Result<Vec<u8>, u64> {
     let before: Vec<u8> = (0..room).map(|_| random.word() as u8).collect();
     let mut bytes = before.clone();
-    let answer = probe_blocks::write(f, &mut bytes);
+    let answer = library::write(f, &mut bytes);
     let expected = f.write(room);
     let count = |blocks: &Vec<u8>| (blocks.len() / BLOCK) as u64;
     assert_eq!(answer, expected.as_ref().map(count).map_err(|&r| r));
@@ -69,7 +69,7 @@ fn write(random: &mut Random, f: &Polynomial, room: usize) -> Result<Vec<u8>, u6
 fn read(random: &mut Random, bytes: &[u8], room: (usize, usize)) -> Result<Polynomial, u64> {
     let before = places(random, room.0, room.1);
     let (mut words, mut coefs) = before.clone();
-    let answer = probe_blocks::read(bytes, &mut words, &mut coefs);
+    let answer = library::read(bytes, &mut words, &mut coefs);
     let expected = model_read(bytes, room.0, room.1);
     let numbers = |f: &Polynomial| (f.setting, f.words.len() as u64);
     assert_eq!(answer, expected.as_ref().map(numbers).map_err(|&r| r));

@@ -7,10 +7,10 @@ use second::damage::Damage;
 use second::generate::up_to;
 use second::geobucket::{most_comparisons, MOST};
 use second::lender::{assert_same, Lender};
+use second::library;
 use second::monomial::{divides, quotient, Order};
 use second::polynomial::{multiple, sum, Term};
 use second::pools::setting;
-use second::probe_reduction;
 use second::random::Random;
 use second::reduction::{self, MOST_LEADS};
 use second::reduction_damage::ReductionDamage;
@@ -95,7 +95,7 @@ impl Met {
 fn both(given: &Given, limit: u64, loan: Loan, about: &str) -> (Answer, Loan) {
     let (mut expected, mut proved) = (loan.clone(), loan);
     let answer = reduction::reduce(given, limit, &mut expected);
-    let own = probe_reduction::reduce(given, limit, &mut proved);
+    let own = library::reduce(given, limit, &mut proved);
     assert_eq!(own, answer, "{about}");
     assert_same(&proved, &expected, about);
     (answer, expected)

@@ -6,10 +6,10 @@ use second::damage::Damage;
 use second::generate::up_to;
 use second::geobucket::{most_comparisons, MOST};
 use second::lender::{assert_same, Lender};
+use second::library;
 use second::monomial::Order;
 use second::polynomial::Term;
 use second::pools::setting;
-use second::probe_run;
 use second::random::Random;
 use second::run::{self, ADD, LEAD, MOST_OPERATIONS, SUM};
 use second::run_damage::RunDamage;
@@ -93,7 +93,7 @@ impl Met {
 fn both((given, operations): &Run, loan: Loan, about: &str) -> (Answer, Loan) {
     let (mut expected, mut proved) = (loan.clone(), loan);
     let answer = run::run(given, operations, &mut expected);
-    let own = probe_run::run(given, operations, &mut proved);
+    let own = library::run(given, operations, &mut proved);
     assert_eq!(own, answer, "{about}");
     assert_same(&proved, &expected, about);
     (answer, expected)

@@ -1,5 +1,5 @@
-//! The program `bucketlist` against the second program's listing of the same script. The program is
-//! `target/bin/bucketlist`, which `rt check bucketlist` makes.
+//! The program `bucketlist` and the library's listing against the second program's listing of the same
+//! script. The program is `target/bin/bucketlist`, which `rt check bucketlist` makes.
 use second::monomial::Order;
 use second::random::Random;
 use second::script::{listing, LONGEST};
@@ -30,7 +30,9 @@ fn proved(script: &[u8]) -> String {
 
 fn same(script: &[u8]) {
     let text = String::from_utf8_lossy(script);
-    assert_eq!(proved(script), listing(script), "script:\n{text}");
+    let own = listing(script);
+    assert_eq!(proved(script), own, "script:\n{text}");
+    assert_eq!(damselbuckle::listing(script), own, "script:\n{text}");
 }
 
 /// A falling polynomial with few monomials, so that much cancels.

@@ -2,5 +2,4 @@ pub mod Answering
 pub mod LendingLaws
 pub mod Moduli
 pub mod Packing
-mod Probing
-mod ProbingReductions
+mod Counts

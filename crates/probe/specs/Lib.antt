@@ -1,5 +1,3 @@
 pub mod Answers
 pub mod Lending
 pub mod States
-pub mod Runs
-pub mod Reductions

@@ -4,6 +4,4 @@
 mod geobuckets;
 mod monomials;
 mod polynomials;
-mod reduction;
 mod residues;
-mod whole;

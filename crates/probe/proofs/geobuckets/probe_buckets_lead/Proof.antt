@@ -1,5 +1,5 @@
 -- `probe::geobuckets::probe_buckets_lead` meets its contract. Assumes nothing.
-use Rattle.probe.proofs.Probing.{found-count}
+use Rattle.probe.proofs.Counts.{found-count}
 use native.Mathlib.Omega.{arith}
 use borrow.Author.Needs.{needs}
 use Rattle.probe.proofs.geobuckets.probe_buckets_lead.Statement.{statement}

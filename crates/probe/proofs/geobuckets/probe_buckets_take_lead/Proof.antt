@@ -1,5 +1,5 @@
 -- `probe::geobuckets::probe_buckets_take_lead` meets its contract. Assumes nothing.
-use Rattle.probe.proofs.Probing.{taken-count}
+use Rattle.probe.proofs.Counts.{taken-count}
 use native.Mathlib.Omega.{arith}
 use borrow.Author.Needs.{needs}
 use Rattle.probe.proofs.geobuckets.probe_buckets_take_lead.Statement.{statement}

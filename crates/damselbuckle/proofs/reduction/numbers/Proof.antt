@@ -1,0 +1,13 @@
+-- `damselbuckle::reduction::numbers` meets its contract. Assumes nothing.
+use borrow.Author.Needs.{needs}
+use Rattle.damselbuckle.proofs.reduction.numbers.Statement.{statement}
+use Rattle.damselbuckle.proofs.reduction.numbers.Tie as tie
+
+answered-requires : tie.Need-answered-requires
+answered-requires c κs = search needs
+
+returns : tie.Need-returns
+returns c = rw (c .answered .ensures)
+
+pub numbers-spec : {M : Type 1} → statement M
+numbers-spec = tie.close (tie.spec answered-requires returns)

@@ -1,0 +1,4 @@
+pub mod Runs
+pub mod Reductions
+pub mod Blocks
+pub mod Listings

@@ -1,0 +1,146 @@
+/*
+ * The library called from C: two reductions, a run, blocks written and read back, and a listing.
+ * `library/example` builds and runs it.
+ */
+#include "damselbuckle.h"
+
+#include <stdio.h>
+#include <string.h>
+
+#define P 32003
+#define MINUS_1 (P - 1)
+#define PLACES 100
+
+/* What every run and every reduction is lent. */
+static uint64_t bucket_words[DAMSELBUCKLE_BUCKET_PLACES], work_words[DAMSELBUCKLE_WORK_PLACES];
+static uint32_t bucket_coefs[DAMSELBUCKLE_BUCKET_PLACES], work_coefs[DAMSELBUCKLE_WORK_PLACES];
+static uint64_t out_words[PLACES];
+static uint32_t out_coefs[PLACES];
+static damselbuckle_tally tally;
+
+/* The word of x1^a * x2^b in the order dp. */
+static uint64_t word(uint64_t a, uint64_t b)
+{
+    return (a + b) << 48 | b << 8 | a;
+}
+
+/* Prints words of dp in two variables, with coefficients from -(P - 1)/2 up. */
+static void print(const char *name, const uint64_t *words, const uint32_t *coefs, size_t count)
+{
+    size_t i;
+    printf("%s", name);
+    if (count == 0)
+        printf(" zero");
+    for (i = 0; i < count; i++) {
+        long coef = coefs[i] > P / 2 ? (long)coefs[i] - P : (long)coefs[i];
+        printf(" %+ld*x1^%d*x2^%d", coef, (int)(words[i] & 255), (int)(words[i] >> 8 & 255));
+    }
+    printf("\n");
+}
+
+/* Reduces the closing condition of an arm, so many terms, by the joint equation x1^2 + x2^2 - 1. */
+static void reduce(const char *name, const uint64_t *condition, const uint32_t *condition_coefs, size_t count)
+{
+    uint64_t words[6];
+    uint32_t coefs[6];
+    size_t starts[3];
+    damselbuckle_reduction_answer answer;
+
+    memcpy(words, condition, count * sizeof *words);
+    memcpy(coefs, condition_coefs, count * sizeof *coefs);
+    words[count] = word(2, 0);
+    words[count + 1] = word(0, 2);
+    words[count + 2] = word(0, 0);
+    coefs[count] = 1;
+    coefs[count + 1] = 1;
+    coefs[count + 2] = MINUS_1;
+    starts[0] = 0;
+    starts[1] = count;
+    starts[2] = count + 3;
+    answer = damselbuckle_reduce(
+        &tally, P, DAMSELBUCKLE_DP_REV, 2, words, count + 3, coefs, count + 3, starts, 3, 1000,
+        bucket_words, DAMSELBUCKLE_BUCKET_PLACES, bucket_coefs, DAMSELBUCKLE_BUCKET_PLACES,
+        work_words, DAMSELBUCKLE_WORK_PLACES, work_coefs, DAMSELBUCKLE_WORK_PLACES,
+        out_words, PLACES, out_coefs, PLACES);
+    if (answer.refusal != 0) {
+        printf("%s: refused %d after %d leads\n", name, (int)answer.refusal, (int)answer.leads);
+        return;
+    }
+    printf("%s: %s\n", name, answer.terms == 0 ? "the arm closes" : "the arm does not close");
+    print("  remainder", out_words, out_coefs, answer.terms);
+    printf("  %d leads, %d comparisons for %d terms\n", (int)answer.leads, (int)tally.comparisons, (int)tally.brought);
+}
+
+/* Adds x1 - x2 twice, takes the lead and gives the rest. Then asks for a polynomial that is not there. */
+static void run(void)
+{
+    uint64_t words[2];
+    const uint32_t coefs[2] = {1, MINUS_1};
+    const size_t starts[2] = {0, 2};
+    const size_t operations[] = {DAMSELBUCKLE_ADD, 0, DAMSELBUCKLE_ADD, 0, DAMSELBUCKLE_LEAD, 0, DAMSELBUCKLE_SUM, 0};
+    const size_t wrong[] = {DAMSELBUCKLE_ADD, 1};
+    damselbuckle_run_answer answer;
+
+    words[0] = word(1, 0);
+    words[1] = word(0, 1);
+    answer = damselbuckle_run(
+        &tally, P, DAMSELBUCKLE_DP_REV, 2, words, 2, coefs, 2, starts, 2, operations, 8,
+        bucket_words, DAMSELBUCKLE_BUCKET_PLACES, bucket_coefs, DAMSELBUCKLE_BUCKET_PLACES,
+        work_words, DAMSELBUCKLE_WORK_PLACES, work_coefs, DAMSELBUCKLE_WORK_PLACES,
+        out_words, PLACES, out_coefs, PLACES);
+    printf("run: refusal %d, %d operations, %d places\n", (int)answer.refusal, (int)answer.finished, (int)answer.places);
+    print("  lead", out_words, out_coefs, 1);
+    print("  sum", out_words + 1, out_coefs + 1, answer.places - 2); /* without its zero place */
+    answer = damselbuckle_run(
+        &tally, P, DAMSELBUCKLE_DP_REV, 2, words, 2, coefs, 2, starts, 2, wrong, 2,
+        bucket_words, DAMSELBUCKLE_BUCKET_PLACES, bucket_coefs, DAMSELBUCKLE_BUCKET_PLACES,
+        work_words, DAMSELBUCKLE_WORK_PLACES, work_coefs, DAMSELBUCKLE_WORK_PLACES,
+        out_words, PLACES, out_coefs, PLACES);
+    printf("wrong run: refusal %d, %d operations; the tally still has %d terms brought in\n",
+        (int)answer.refusal, (int)answer.finished, (int)tally.brought);
+}
+
+/* Writes x1 - x2 to a block, reads it back, and reads it once more with a byte changed. */
+static void blocks(void)
+{
+    static uint8_t bytes[DAMSELBUCKLE_BLOCK_BYTES];
+    uint64_t words[2];
+    const uint32_t coefs[2] = {1, MINUS_1};
+    damselbuckle_write_answer written;
+    damselbuckle_read_answer read;
+
+    words[0] = word(1, 0);
+    words[1] = word(0, 1);
+    written = damselbuckle_write_blocks(P, DAMSELBUCKLE_DP_REV, 2, words, 2, coefs, 2, bytes, sizeof bytes);
+    printf("written: refusal %d, %d block\n", (int)written.refusal, (int)written.blocks);
+    read = damselbuckle_read_blocks(bytes, sizeof bytes, out_words, PLACES, out_coefs, PLACES);
+    printf("read: refusal %d, p %d, order %d, n %d\n", (int)read.refusal, (int)read.p, (int)read.order, (int)read.n);
+    print("  polynomial", out_words, out_coefs, read.terms);
+    bytes[20] ^= 1;
+    read = damselbuckle_read_blocks(bytes, sizeof bytes, out_words, PLACES, out_coefs, PLACES);
+    printf("read with a byte changed: refusal %d\n", (int)read.refusal);
+}
+
+static void listing(void)
+{
+    static uint8_t out[DAMSELBUCKLE_LISTING_BYTES];
+    const char *script = "prime 7\norder dp\nvars 2\nadd 3:2.0 1:1.1 1:0.2 1:1.0 1:0.1\nadd 4:2.0\nlead\nsum\n";
+    damselbuckle_listing_answer answer = damselbuckle_listing((const uint8_t *)script, strlen(script), out, sizeof out);
+
+    printf("listing: refusal %d, %d bytes\n", (int)answer.refusal, (int)answer.length);
+    fwrite(out, 1, answer.length, stdout);
+}
+
+int main(void)
+{
+    /* x1^2*x2 + x2^3 - x2, and the same without its last term */
+    const uint64_t condition[3] = {UINT64_C(3) << 48 | 1 << 8 | 2, UINT64_C(3) << 48 | 3 << 8, UINT64_C(1) << 48 | 1 << 8};
+    const uint32_t coefs[3] = {1, 1, MINUS_1};
+
+    reduce("first arm", condition, coefs, 3);
+    reduce("second arm", condition, coefs, 2);
+    run();
+    blocks();
+    listing();
+    return 0;
+}

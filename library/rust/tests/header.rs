@@ -1,0 +1,268 @@
+//! The header against the declarations in Rust, those in Rattle and the library itself: the texts of
+//! all three declare the same; a program in C that prints the layouts and calls everything; and the
+//! example.
+mod declared;
+
+use damselbuckle::raw::{self, Given, Loan, Tally};
+use damselbuckle::{Refusal, BUCKET_PLACES, LISTING_BYTES, WORK_PLACES};
+use declared::{in_c, in_rust, snake};
+use std::fmt::Write;
+use std::mem::{offset_of, size_of};
+use std::path::{Path, PathBuf};
+use std::process::Command;
+
+fn root() -> PathBuf {
+    Path::new(env!("CARGO_MANIFEST_DIR")).join("../..")
+}
+
+fn text(path: &str) -> String {
+    std::fs::read_to_string(root().join(path)).unwrap_or_else(|e| panic!("{path}: {e}"))
+}
+
+/// Compiles a program against the header and the library as the example is built, and gives what it
+/// prints.
+fn printed(source: &str, name: &str) -> String {
+    let program = Path::new(env!("CARGO_TARGET_TMPDIR")).join(name);
+    let built = Command::new("cc")
+        .args([
+            "-std=c99",
+            "-Wall",
+            "-Wextra",
+            "-Werror",
+            "-pedantic",
+            "-Ilibrary",
+            source,
+        ])
+        .args(["target/staticlib/libdamselbuckle.a", "-o"])
+        .arg(&program)
+        .current_dir(root())
+        .output()
+        .expect("cc runs");
+    let errors = String::from_utf8_lossy(&built.stderr);
+    assert!(built.status.success(), "{source}: {errors}");
+    let run = Command::new(program).output().expect("the program runs");
+    assert!(run.status.success(), "{source} ended with {}", run.status);
+    String::from_utf8(run.stdout).expect("it prints text")
+}
+
+#[test]
+fn the_example_prints_what_is_stored() {
+    let expected = text("library/example.expected");
+    assert_eq!(printed("library/example.c", "example"), expected);
+}
+
+/// A line for a struct, and one for each of its fields.
+macro_rules! layout {
+    ($lines:expr, $name:literal, $struct:ident { $($field:ident),* }) => {
+        writeln!($lines, "damselbuckle_{} {}", $name, size_of::<raw::$struct>()).unwrap();
+        $({
+            let size = size_of_field(|s: &raw::$struct| s.$field);
+            let at = offset_of!(raw::$struct, $field);
+            writeln!($lines, "  {} {at} {size}", stringify!($field)).unwrap();
+        })*
+    };
+}
+
+fn size_of_field<S, F>(_: impl Fn(&S) -> F) -> usize {
+    size_of::<F>()
+}
+
+fn layouts() -> String {
+    let mut lines = String::new();
+    layout!(
+        lines,
+        "tally",
+        Tally {
+            comparisons,
+            brought,
+            given,
+            held
+        }
+    );
+    layout!(
+        lines,
+        "run_answer",
+        RunAnswer {
+            refusal,
+            finished,
+            places
+        }
+    );
+    layout!(
+        lines,
+        "reduction_answer",
+        ReductionAnswer {
+            refusal,
+            leads,
+            terms
+        }
+    );
+    layout!(
+        lines,
+        "write_answer",
+        WriteAnswer {
+            refusal,
+            finished,
+            blocks
+        }
+    );
+    layout!(
+        lines,
+        "read_answer",
+        ReadAnswer {
+            refusal,
+            finished,
+            p,
+            order,
+            n,
+            terms
+        }
+    );
+    layout!(
+        lines,
+        "listing_answer",
+        ListingAnswer {
+            refusal,
+            finished,
+            length
+        }
+    );
+    lines
+}
+
+/// The calls of `layout.c`.
+fn calls() -> String {
+    let x = 1 << 48 | 1 << 40;
+    let (words, coefs) = (&[x, 0, x], &[1, 1, 1]);
+    let given = Given {
+        p: 5,
+        order: 1,
+        n: 1,
+        words,
+        coefs,
+        starts: &[0, 2, 3],
+    };
+    let (mut ow, mut oc, mut bytes) = ([0; 9], [0; 9], [0; 512]);
+    let (ran, t) = lending((&mut ow, &mut oc), |loan| {
+        raw::run(given, &[1, 0, 1, 1, 3, 0], loan)
+    });
+    let counts = |t: Tally| [t.comparisons, t.brought, t.given, t.held];
+    let mut lines = line("run", &[ran.refusal, ran.finished, ran.places], &counts(t));
+    let (reduced, t) = lending((&mut ow, &mut oc), |loan| raw::reduce(given, 7, loan));
+    lines += &line(
+        "reduce",
+        &[reduced.refusal, reduced.leads, reduced.terms],
+        &counts(t),
+    );
+    let w = raw::write_blocks([5, 1, 1], &words[..2], &coefs[..2], &mut bytes);
+    lines += &line("write_blocks", &[w.refusal, w.finished, w.blocks], &[]);
+    let r = raw::read_blocks(&bytes, &mut ow, &mut oc);
+    lines += &line(
+        "read_blocks",
+        &[r.refusal, r.finished, r.p, r.order, r.n, r.terms],
+        &[],
+    );
+    let l = raw::listing(b"prime 5\n", &mut vec![0; LISTING_BYTES]);
+    lines + &line("listing", &[l.refusal, l.finished, l.length], &[])
+}
+
+/// What a call answers that is lent fresh spaces, and its tally.
+fn lending<A>(output: raw::Places, call: impl FnOnce(Loan) -> A) -> (A, Tally) {
+    let mut tally = Tally::default();
+    let answer = call(Loan {
+        tally: &mut tally,
+        buckets: (&mut [0; BUCKET_PLACES], &mut [0; BUCKET_PLACES]),
+        work: (&mut [0; WORK_PLACES], &mut [0; WORK_PLACES]),
+        output,
+    });
+    (answer, tally)
+}
+
+fn line(name: &str, answer: &[u64], tally: &[u64]) -> String {
+    let numbers = answer.iter().chain(tally).map(|n| format!(" {n}"));
+    format!("{name}{}\n", numbers.collect::<String>())
+}
+
+#[test]
+fn layouts_and_answers_are_the_same_in_c() {
+    let c = printed("library/rust/tests/layout.c", "layout");
+    assert_eq!(c, layouts() + &calls());
+    assert!(c.contains("\nreduce 0 2 1 "), "x1 + 1 by x1 leaves 1");
+}
+
+#[test]
+fn header_and_rust_declare_what_rattle_exports() {
+    let header = in_c(&text("library/damselbuckle.h"));
+    let raw = text("library/rust/src/raw.rs");
+    let (declarations, _) = raw
+        .split_once("\n}\n\n/// Polynomials")
+        .expect("the extern block ends");
+    let rust = in_rust(declarations, "    pub fn ", ';');
+    let mut rattle = in_rust(&text("crates/runs/src/lib.rt"), "extern \"C\" fn ", '\n');
+    assert_eq!(rattle.structs.len(), 1, "the tally alone");
+    for name in ["run", "reduction", "store", "lister"] {
+        let path = format!("crates/damselbuckle/src/{name}.rt");
+        let more = in_rust(&text(&path), "pub extern \"C\" fn ", '\n');
+        rattle.structs.extend(more.structs);
+        rattle.functions.extend(more.functions);
+    }
+    let rattle = rattle.sorted();
+    assert_eq!((rattle.structs.len(), rattle.functions.len()), (6, 5));
+    assert_eq!(header, rattle);
+    assert_eq!(rust, rattle);
+}
+
+/// The number that the header defines for a name.
+fn defined(header: &str, name: &str) -> u64 {
+    let line = format!("#define DAMSELBUCKLE_{name} ");
+    let behind = header
+        .split_once(&line)
+        .unwrap_or_else(|| panic!("{name}"))
+        .1;
+    let number = behind
+        .lines()
+        .next()
+        .unwrap_or("")
+        .trim_start_matches("UINT64_C(");
+    let digits = number.chars().take_while(char::is_ascii_digit);
+    digits.collect::<String>().parse().expect("a number")
+}
+
+#[test]
+fn the_header_has_the_numbers() {
+    let header = text("library/damselbuckle.h");
+    for (name, number) in [
+        ("BUCKET_PLACES", BUCKET_PLACES as u64),
+        ("WORK_PLACES", WORK_PLACES as u64),
+        ("MOST_TERMS", damselbuckle::MOST_TERMS as u64),
+        ("BLOCK_BYTES", damselbuckle::BLOCK_BYTES as u64),
+        ("MOST_BLOCKS", damselbuckle::MOST_BLOCKS as u64),
+        ("MOST_OPERATIONS", damselbuckle::MOST_OPERATIONS as u64),
+        ("LARGEST_LIMIT", damselbuckle::LARGEST_LIMIT),
+        ("SCRIPT_BYTES", damselbuckle::SCRIPT_BYTES as u64),
+        ("LISTING_BYTES", LISTING_BYTES as u64),
+        ("LP", 1),
+        ("DP_LEX", 2),
+        ("DP_REV", 3),
+        ("ADD", 1),
+        ("LEAD", 2),
+        ("SUM", 3),
+    ] {
+        assert_eq!(defined(&header, name), number, "{name}");
+    }
+}
+
+#[test]
+fn refusals_have_the_names_and_numbers_of_rattle() {
+    let header = text("library/damselbuckle.h");
+    let rattle = text("crates/opening/src/refusal.rt");
+    for refusal in Refusal::ALL {
+        let name = format!("{refusal:?}");
+        let number = refusal.number();
+        assert_eq!(defined(&header, &snake(&name).to_uppercase()), number);
+        assert!(
+            rattle.contains(&format!("Refusal::{name} => {number},")),
+            "{name}"
+        );
+    }
+}

@@ -1,0 +1,97 @@
+//! The proved entries, through the library `damselbuckle`. They take any numbers and lists.
+use crate::block_store::{Polynomial, Setting};
+use crate::call::{Answer, Given, Loan, Space, Tally};
+use damselbuckle::raw;
+
+/// Does a run.
+pub fn run(given: &Given, operations: &[usize], loan: &mut Loan) -> Answer {
+    let answer = lending(loan, |lent| raw::run(polynomials(given), operations, lent));
+    Answer {
+        refusal: answer.refusal,
+        finished: answer.finished,
+        places: answer.places,
+    }
+}
+
+/// Does a reduction.
+pub fn reduce(given: &Given, limit: u64, loan: &mut Loan) -> Answer {
+    let answer = lending(loan, |lent| raw::reduce(polynomials(given), limit, lent));
+    Answer {
+        refusal: answer.refusal,
+        finished: answer.leads,
+        places: answer.terms,
+    }
+}
+
+fn polynomials(given: &Given) -> raw::Given<'_> {
+    raw::Given {
+        p: given.p,
+        order: given.order,
+        n: given.n,
+        words: &given.words,
+        coefs: &given.coefs,
+        starts: &given.starts,
+    }
+}
+
+/// Lends all of a loan to a call.
+fn lending<A>(loan: &mut Loan, call: impl FnOnce(raw::Loan) -> A) -> A {
+    let Tally {
+        comparisons,
+        brought,
+        given,
+        held,
+    } = loan.tally;
+    let mut tally = raw::Tally {
+        comparisons,
+        brought,
+        given,
+        held,
+    };
+    let answer = call(raw::Loan {
+        tally: &mut tally,
+        buckets: places(&mut loan.space),
+        work: places(&mut loan.work),
+        output: places(&mut loan.output),
+    });
+    loan.tally = Tally {
+        comparisons: tally.comparisons,
+        brought: tally.brought,
+        given: tally.given,
+        held: tally.held,
+    };
+    answer
+}
+
+fn places((words, coefs): &mut Space) -> raw::Places<'_> {
+    (words, coefs)
+}
+
+/// Writes to the first bytes of the slice: the number of blocks, or the refusal. A refusal must carry
+/// count 0.
+pub fn write(polynomial: &Polynomial, bytes: &mut [u8]) -> Result<u64, u64> {
+    let Setting { p, order, n } = polynomial.setting;
+    let (words, coefs) = (&polynomial.words, &polynomial.coefs);
+    let answer = raw::write_blocks([p, order, n], words, coefs, bytes);
+    assert_eq!(answer.finished, 0);
+    match answer.refusal {
+        0 => Ok(answer.blocks),
+        refusal => Err(refusal),
+    }
+}
+
+/// Reads to the first words and coefficients: the setting and the number of terms, or the refusal. A
+/// refusal must carry count 0.
+pub fn read(bytes: &[u8], words: &mut [u64], coefs: &mut [u32]) -> Result<(Setting, u64), u64> {
+    let answer = raw::read_blocks(bytes, words, coefs);
+    assert_eq!(answer.finished, 0);
+    let setting = Setting {
+        p: answer.p as u32,
+        order: answer.order as u32,
+        n: answer.n as u32,
+    };
+    match answer.refusal {
+        0 => Ok((setting, answer.terms)),
+        refusal => Err(refusal),
+    }
+}
