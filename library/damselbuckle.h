@@ -67,11 +67,11 @@ extern "C" {
 /*
  * ---- Refusals
  *
- * 0 is none. A refusal at the opening (1 to 9, and every one of the block store) leaves all lent memory
- * as it came, the tally too. The others stop a run or a reduction on its way: then the terms given out
- * so far are in the output, those still held in the bucket space, the work space is all 0 and the tally
- * says what was done. The opening checks go in the order 1, 2, 3, 8, 9, then for each polynomial in turn
- * the first place with 4 or 5, then 6, and at last 7.
+ * 0 is none. A refusal at the opening (1 to 9, and every one of the block store and of a listing) leaves
+ * all lent memory as it came, the tally too. The others stop a run or a reduction on its way: then the
+ * terms given out so far are in the output, those still held in the bucket space, the work space is all
+ * 0 and the tally says what was done. The opening checks go in the order 1, 2, 3, 8, 9, then for each
+ * polynomial in turn the first place with 4 or 5, then 6, and at last 7.
  */
 
 /* The problem. */

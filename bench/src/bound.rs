@@ -1,14 +1,13 @@
 //! Comparisons beside their bound 6·N·M, over many runs and reductions of the proved engine: a picture
 //! of all calls, and a table of the worst. It fails where a call is over the bound.
 use crate::given::Given;
+use crate::library;
 use crate::lists::{List, Order};
 use crate::loan::Loan;
 use crate::monomial;
 use crate::picture::Picture;
 use crate::plain_reduction::MOST_LEADS;
 use crate::plain_run::{ADD, LEAD, SUM};
-use crate::proved_reduction;
-use crate::proved_run;
 use crate::random::Random;
 use crate::reductions::{reduction, Kind};
 
@@ -105,7 +104,7 @@ impl Maker {
     fn run(&mut self, given: &Given, operations: &[usize]) -> Cost {
         let Loan { memory, output } = &mut self.loan;
         let number = Order::Lex.number();
-        let r = proved_run::run(number, given, operations, memory, output);
+        let r = library::run(number, given, operations, memory, output);
         assert!(matches!(r.refusal, 0 | 10 | 11), "refused at the opening");
         checked(r.brought, r.comparisons)
     }
@@ -164,7 +163,7 @@ impl Maker {
         };
         let Loan { memory, output } = &mut self.loan;
         let given = reduction(&f, &divisors);
-        let r = proved_reduction::reduce(order.number(), &given, limit, memory, output);
+        let r = library::reduce(order.number(), &given, limit, memory, output);
         assert!(matches!(r.refusal, 0 | 13), "refused");
         checked(r.brought, r.comparisons)
     }

@@ -5,10 +5,10 @@
 //! differ.
 use crate::buckets::P;
 use crate::given::Given;
+use crate::library;
 use crate::lists::{List, Order};
 use crate::loan::Loan;
 use crate::plain_reduction::{self, MOST_LEADS};
-use crate::proved_reduction;
 use crate::random::Random;
 use crate::reductions::{by_exponents, reduction, Kind, PLACES, VARIABLES};
 use std::io::Write;
@@ -63,7 +63,7 @@ impl Row {
             let given = reduction(f, &self.divisors);
             let Loan { memory, output } = &mut loan;
             let number = self.order.number();
-            let r = proved_reduction::reduce(number, &given, MOST_LEADS, memory, output);
+            let r = library::reduce(number, &given, MOST_LEADS, memory, output);
             assert_eq!(r.refusal, 0, "refused");
             self.leads += r.leads;
             let terms = r.given as usize;
@@ -86,7 +86,7 @@ impl Row {
             let start = Instant::now();
             for given in &calls {
                 let number = self.order.number();
-                proved_reduction::reduce(number, given, MOST_LEADS, memory, output);
+                library::reduce(number, given, MOST_LEADS, memory, output);
             }
             self.take(0, start.elapsed().as_secs_f64());
             let start = Instant::now();
