@@ -21,6 +21,7 @@ pub mod random;
 pub mod reduction;
 pub mod reduction_damage;
 pub mod reduction_lists;
+pub mod refusals;
 pub mod residue;
 pub mod run;
 pub mod run_damage;

@@ -40,8 +40,11 @@ fn files(folder: &Path) -> Vec<PathBuf> {
 /// Whether the text declares a theorem of this name.
 fn declares(text: &str, name: &str) -> bool {
     let declared = format!("{name} :");
-    text.lines()
-        .any(|l| l.trim_start().trim_start_matches("pub ").starts_with(&declared))
+    text.lines().any(|l| {
+        l.trim_start()
+            .trim_start_matches("pub ")
+            .starts_with(&declared)
+    })
 }
 
 /// A row whose last cell names files of proofs names theorems of them in its first.
@@ -75,7 +78,9 @@ fn wrong_engines_are_ruled_out() {
         all.iter().any(|p| p.ends_with(&file))
     };
     let theorem = |name: &str| {
-        let proofs = all.iter().filter(|p| p.extension().is_some_and(|e| e == "antt"));
+        let proofs = all
+            .iter()
+            .filter(|p| p.extension().is_some_and(|e| e == "antt"));
         let mut texts = proofs.map(|p| fs::read_to_string(p).expect("a proof"));
         texts.any(|t| declares(&t, name))
     };
@@ -98,8 +103,12 @@ fn wrong_engines_are_ruled_out() {
 #[test]
 fn crates_are_in_the_readme() {
     let (listed, readme) = (text("crates.txt"), text("README.md"));
-    let lines = listed.lines().filter(|l| !l.starts_with('#') && !l.is_empty());
-    let mut crates: Vec<&str> = lines.map(|l| l.split(':').next().expect("a name")).collect();
+    let lines = listed
+        .lines()
+        .filter(|l| !l.starts_with('#') && !l.is_empty());
+    let mut crates: Vec<&str> = lines
+        .map(|l| l.split(':').next().expect("a name"))
+        .collect();
     let table = readme.split("| crate |").nth(1).expect("a table of crates");
     let table = table.split("\n\n").next().expect("its rows");
     let mut named: Vec<&str> = rows(table).iter().flat_map(|r| quoted(r[0])).collect();

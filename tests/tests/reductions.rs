@@ -15,6 +15,7 @@ use second::random::Random;
 use second::reduction::{self, MOST_LEADS};
 use second::reduction_damage::ReductionDamage;
 use second::reduction_lists::{anything, combination, coprime, Made, Reductions};
+use second::refusals::Refusals;
 use second::residue;
 use second::run_lists::hostile_polynomials;
 
@@ -25,7 +26,7 @@ const CASES_PER_REDUCTION: u64 = 2;
 const CASES_PER_KIND: u64 = 500;
 
 /// The refusals that a reduction can give, and 0 for none.
-const REFUSALS: [usize; 13] = [0, 1, 2, 3, 4, 5, 6, 7, 8, 10, 11, 12, 13];
+const REFUSALS: [u64; 13] = [0, 1, 2, 3, 4, 5, 6, 7, 8, 10, 11, 12, 13];
 
 /// The opening refusals in their order, but 4, 5 and 6, which come by polynomial and place.
 const BEFORE_TERMS: [u64; 4] = [1, 2, 3, 8];
@@ -45,7 +46,7 @@ const KNOWN: Setting = (Order::DegRevLex, 2, 7);
 struct Met {
     reductions: u64,
     /// By number, from 0 for none.
-    refusals: [u64; 14],
+    refusals: Refusals,
     /// Those that were stopped by 10 to 13 after some leads.
     stopped_later: [u64; 4],
     /// Those that were finished with no lead, or with the remainder zero after some leads.
@@ -61,7 +62,7 @@ struct Met {
 impl Met {
     fn reduction(&mut self, limit: u64, answer: Answer, left: &Loan) {
         self.reductions += 1;
-        self.refusals[answer.refusal as usize] += 1;
+        self.refusals.meet(answer.refusal);
         self.leads += answer.finished;
         if !at_opening(answer) {
             self.comparisons += left.tally.comparisons;
@@ -82,9 +83,9 @@ impl Met {
     fn whole(&self) {
         println!("{self:?}");
         let kinds = [self.nothing, self.zero, self.at_limit, self.output_full];
-        let met = REFUSALS.map(|number| self.refusals[number]);
         let least = cases() / CASES_PER_KIND;
-        for often in met.iter().chain(&kinds).chain(&self.stopped_later) {
+        self.refusals.expect("reduce", &REFUSALS, least);
+        for often in kinds.iter().chain(&self.stopped_later) {
             assert!(*often >= least, "{self:?}");
         }
     }

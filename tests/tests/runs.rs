@@ -11,6 +11,7 @@ use second::monomial::Order;
 use second::polynomial::Term;
 use second::pools::setting;
 use second::random::Random;
+use second::refusals::Refusals;
 use second::run::{self, ADD, LEAD, MOST_OPERATIONS, SUM};
 use second::run_damage::RunDamage;
 use second::run_lists::{hostile, Runs};
@@ -21,8 +22,8 @@ const CASES_PER_RUN: u64 = 2;
 /// Each refusal must be given once in so many cases.
 const CASES_PER_REFUSAL: u64 = 1_000;
 
-/// The refusals that a run can give.
-const REFUSALS: [usize; 10] = [1, 2, 3, 4, 5, 6, 8, 9, 10, 11];
+/// The refusals that a run can give, and 0 for none.
+const REFUSALS: [u64; 11] = [0, 1, 2, 3, 4, 5, 6, 8, 9, 10, 11];
 
 /// The opening refusals in their order. The last three come by polynomial and place.
 const OPENING: [u64; 5] = [1, 2, 3, 8, 9];
@@ -43,8 +44,7 @@ type Run = (Given, Vec<usize>);
 #[derive(Debug, Default)]
 struct Met {
     runs: u64,
-    /// By number, from 0 for none.
-    refusals: [u64; 12],
+    refusals: Refusals,
     /// Runs that were stopped by 10 or 11 after some operations.
     stopped_by_10: u64,
     stopped_by_11: u64,
@@ -57,7 +57,7 @@ struct Met {
 impl Met {
     fn run(&mut self, answer: Answer, tally: Tally) {
         self.runs += 1;
-        self.refusals[answer.refusal as usize] += 1;
+        self.refusals.meet(answer.refusal);
         self.operations += answer.finished;
         let stopped = |number| u64::from(answer.refusal == number && answer.finished > 0);
         self.stopped_by_10 += stopped(10);
@@ -73,12 +73,8 @@ impl Met {
     fn whole(&self) {
         println!("{self:?}");
         let least = cases() / CASES_PER_REFUSAL;
-        for number in REFUSALS {
-            let often = self.refusals[number];
-            assert!(often >= least, "{number} came {often} times: {self:?}");
-        }
+        self.refusals.expect("run", &REFUSALS, least);
         let kinds = [
-            self.refusals[0],
             self.stopped_by_10,
             self.stopped_by_11,
             self.zero_places,

@@ -1,14 +1,18 @@
 //! The program `bucketlist` and the library's listing against the second program's listing of the same
 //! script. The program is `target/bin/bucketlist`, which `rt check bucketlist` makes.
+use second::cases;
 use second::monomial::Order;
 use second::random::Random;
+use second::refusals::Refusals;
 use second::script::{listing, LONGEST};
 use std::io::Write;
 use std::path::PathBuf;
 use std::process::{Command, Stdio};
 
-/// Half of these are damaged.
-const SCRIPTS: u64 = 5_000;
+/// One of so many cases is a script; half of these are damaged. Each refusal must be printed once in so
+/// many cases.
+const CASES_PER_SCRIPT: u64 = 10;
+const CASES_PER_REFUSAL: u64 = 10_000;
 
 fn program() -> PathBuf {
     PathBuf::from(env!("CARGO_MANIFEST_DIR")).join("../target/bin/bucketlist")
@@ -54,7 +58,11 @@ fn polynomial(random: &mut Random, order: Order, n: usize, p: u64) -> String {
 
 fn script(random: &mut Random) -> Vec<u8> {
     let order = random.pick(&Order::ALL);
-    let n = 1 + random.below(6) as usize;
+    // Seven variables are one too many.
+    let n = match random.below(40) {
+        0 => 7,
+        _ => 1 + random.below(6) as usize,
+    };
     let p = random.pick(&[2, 3, 7, 101, 32_003, 65_521]);
     let mut text = format!("prime {p}\norder {}\nvars {n}\n", order.name());
     for _ in 0..random.below(30) {
@@ -80,16 +88,30 @@ fn damage(random: &mut Random, script: &mut Vec<u8>) {
     }
 }
 
+/// The refusal that a listing ends with, or 0.
+fn printed(listing: &str) -> u64 {
+    let last = listing.lines().last().expect("a line");
+    let words: Vec<&str> = last.split(' ').collect();
+    match words[..] {
+        ["refused", number, "at", "0"] => number.parse().expect("a number"),
+        _ => 0,
+    }
+}
+
 #[test]
 fn generated_scripts() {
     let mut random = Random::new(8);
-    for case in 0..SCRIPTS {
+    let mut met = Refusals::default();
+    for case in 0..cases() / CASES_PER_SCRIPT {
         let mut script = script(&mut random);
         if case % 2 == 1 {
             damage(&mut random, &mut script);
         }
         same(&script);
+        met.meet(printed(&listing(&script)));
     }
+    let least = cases() / CASES_PER_REFUSAL;
+    met.expect("listing", &[0, 1, 3, 4, 5, 6, 17], least);
 }
 
 #[test]
