@@ -27,6 +27,11 @@ pub use polynomials::{Order, Polynomials, Setting, Term};
 pub use raw::Tally;
 pub use refusal::{Refusal, Refused};
 
+/// The examples of docs/INTEGRATION.md, run as tests.
+#[cfg(doctest)]
+#[doc = include_str!("../../../docs/INTEGRATION.md")]
+struct Integration;
+
 /// Places of the bucket space, for words and for coefficients.
 pub const BUCKET_PLACES: usize = 5_460;
 

@@ -283,7 +283,7 @@ fn a_listing_is_lent_enough() {
     assert_eq!((answer.refusal, answer.length), (10, 0));
 }
 
-/// The stack that the header names.
+/// The stack that the header and docs/INTEGRATION.md name. (Where it is not enough, the test breaks off.)
 #[test]
 fn calls_need_little_stack() {
     fn within(bytes: usize, call: impl FnOnce() + Send + 'static) {
@@ -296,7 +296,10 @@ fn calls_need_little_stack() {
     });
     within(100_000, || {
         assert!(reduce(&[F, G, H], 9).is_ok());
-        let block = write_blocks(&polynomials(SETTING, &[F]), 0);
+        let given = polynomials(SETTING, &[F]);
+        let operations = [Operation::Add(0), Operation::Lead, Operation::Sum];
+        assert!(Engine::new(9).run(&given, &operations).is_ok());
+        let block = write_blocks(&given, 0);
         assert!(read_blocks(&block.expect("written")).is_ok());
     });
 }
