@@ -9,6 +9,7 @@ use lib.ListN.{length, getD, take, drop, set, length-drop}
 use lib.Seq.{sets, sets-eq, take-add, take-take, drop-drop, drop-cons, take-at, drop-at, length-take-le}
 use Rattle.monomial.specs.Layout.{bytes, ofBytes}
 use Rattle.monomial.proofs.ByteLaws.{length-bytes, bytes-below, ofBytes-bytes, bytes-of}
+use Rattle.monomial.proofs.FieldLaws.{ofBytes-append}
 use Rattle.merge.specs.Lent.{part}
 use Rattle.merge.proofs.Lists.{sets-append}
 use Rattle.block.specs.Block.{numberAt}
@@ -41,12 +42,6 @@ pub part-cons : (s : List ℕ) (at n : ℕ) → at < length s → part at (suc n
 part-cons s at n h = ap (take (suc n)) (drop-cons s at 0 h ∙ ap (λ (k : ℕ). getD s at 0 ∷ drop k s) (sym (add-one at)))
 
 -- ---- numbers
-pub ofBytes-append : (xs ys : List ℕ) → ofBytes (xs ++ ys) ≡ ofBytes xs + 256 ^ length xs * ofBytes ys
-ofBytes-append [] ys = let e : ofBytes ys ≡ 0 + 256 ^ 0 * ofBytes ys = omega arith in e
-ofBytes-append (x ∷ xs) ys =
-    let e : 256 ^ suc (length xs) * ofBytes ys ≡ 256 * (256 ^ length xs * ofBytes ys) = ap (λ (m : ℕ). m * ofBytes ys) (pow-suc 256 (length xs)) ∙ omega arith in
-    omega (arith, ofBytes-append xs ys, e)
-
 -- a number's high bytes follow its low ones
 pub bytes-cut : (k x : ℕ) → bytes k (x % 256 ^ k) ≡ bytes k x
 bytes-cut k x =

@@ -13,7 +13,8 @@ use Rattle.monomial.proofs.Places.{and-both}
 use Rattle.polynomial.specs.Opening.{first}
 use Rattle.merge.specs.Lent.{part}
 use Rattle.opening.specs.Run.{unless, between}
-use Rattle.opening.proofs.Tests.{first-none, passed}
+use Rattle.polynomial.proofs.OpeningLaws.{first-none}
+use Rattle.opening.proofs.Tests.{passed}
 use Rattle.block.specs.declared.header.Setting.{Setting}
 use Rattle.block.specs.Block.{header, blockCount, same, zeros, settingIn}
 use Rattle.block_form.specs.Form.{allBelow, wholeBlocks, countIn, totalIn, hereOf, checksStand, blockStands, blocksStand, Counted, Formed, formRefusal}

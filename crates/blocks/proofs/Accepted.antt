@@ -11,6 +11,7 @@ use lib.ListN.{length, getD, take, drop, replicate, length-map}
 use lib.Seq.{take-all, take-suc, take-add, take-length, getD-take, getD-drop}
 use Rattle.monomial.specs.Layout.{bytes, ofBytes, Below}
 use Rattle.monomial.proofs.ByteLaws.{bytes-of}
+use Rattle.monomial.proofs.LayoutLaws.{below-take}
 use Rattle.monomial.proofs.Places.{and-both, true-below}
 use Rattle.monomial.proofs.Places as M
 use Rattle.monomial.specs.Exponents.{orderOf}
@@ -38,11 +39,6 @@ same-true [] [] h = refl
 same-true [] (y ∷ ys) h = let z : _≡_ {A = ℕ} 0 1 = cc in absurd (let q : ⊥ = omega arith in q)
 same-true (x ∷ xs) [] h = let z : _≡_ {A = ℕ} 0 1 = cc in absurd (let q : ⊥ = omega arith in q)
 same-true (x ∷ xs) (y ∷ ys) h = let a = and-both (eqb x y) (same xs ys) h in ap₂ _∷_ (eqb-true x y (a .0)) (same-true xs ys (a .1))
-
-below-take : (k n : ℕ) (l : List ℕ) → Below k l → Below k (take n l)
-below-take k zero l u = tt
-below-take k (suc n) [] u = tt
-below-take k (suc n) (a ∷ l) u = (u .0, below-take k n l (u .1))
 
 below-drop : (k n : ℕ) (l : List ℕ) → Below k l → Below k (drop n l)
 below-drop k zero l u = u

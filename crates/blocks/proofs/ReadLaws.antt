@@ -12,7 +12,8 @@ use Rattle.polynomial.specs.Terms.{Term, words, coefs}
 use Rattle.polynomial.specs.Opening.{first, refusalOf}
 use Rattle.opening.specs.Run.{unless, setting}
 use Rattle.opening.specs.Refusals.{refusalNamed}
-use Rattle.opening.proofs.Tests.{first-none, first-some, passed}
+use Rattle.polynomial.proofs.OpeningLaws.{first-none}
+use Rattle.opening.proofs.Tests.{first-some, passed}
 use Rattle.block.specs.declared.header.Setting.{Setting}
 use Rattle.block.specs.Block.{settingIn}
 use Rattle.blocks.specs.declared.read.Reading.the-variants as R

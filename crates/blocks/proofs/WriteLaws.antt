@@ -15,7 +15,8 @@ use Rattle.polynomial.specs.Opening.{first, refusalOf}
 use Rattle.polynomial.proofs.TermLists.{length-terms, terms-drop, terms-take}
 use Rattle.opening.specs.Run.{unless, setting}
 use Rattle.opening.specs.Refusals.{refusalNamed}
-use Rattle.opening.proofs.Tests.{first-none, first-some, passed}
+use Rattle.polynomial.proofs.OpeningLaws.{first-none}
+use Rattle.opening.proofs.Tests.{first-some, passed}
 use Rattle.opening.proofs.SettingLaws.{Set, setting-passes}
 use Rattle.block.specs.declared.header.Setting.{Setting}
 use Rattle.block.specs.Block.{block, termsOf, blockCount, firstBlocks, blocksOf}

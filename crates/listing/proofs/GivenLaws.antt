@@ -20,7 +20,7 @@ use Rattle.geobucket.proofs.LeadLaws.{sum-right}
 use Rattle.search.proofs.FindLaws.{shrunk-long}
 use Rattle.engine.specs.Runs.{Operation, adds, leads, sums, Running, begun, stopped, operate, operateAll, added, taken, summed, addedBy, takenBy, summedBy, placeOf, polynomial, operationsOf}
 use Rattle.runs.specs.Demanded.{unlessZero, nonZero}
-use Rattle.runs.proofs.Follow.{Addable, AllAddable}
+use Rattle.runs.proofs.Follow.{Addable, AllAddable, emptied-long}
 use Rattle.script.specs.Grammar.{Line, addLine, leadLine, sumLine}
 use Rattle.script.specs.Loading.{entriesIn, endsFrom, pairsFrom}
 use Rattle.listing.proofs.WholeLaws.{terms-most}
@@ -52,11 +52,6 @@ below-append p (x ∷ xs) ys h k = (h .0, below-append p xs ys (h .1) k)
 below-reduced : (p : ℕ) (xs : List (Term ℕ)) → Reduced p xs → CoefsBelow p xs
 below-reduced p [] h = tt
 below-reduced p (x ∷ xs) h = (h .0 .1, below-reduced p xs (h .1))
-
-emptied-long : (cs : List (List (Term ℕ))) → length (emptied cs) ≡ length cs
-unfolding emptied
-emptied-long [] = refl
-emptied-long (c ∷ cs) = ap suc (emptied-long cs)
 
 -- the terms of all additions
 abbrev pub toAdd : List Operation → ℕ

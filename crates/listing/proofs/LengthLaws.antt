@@ -17,7 +17,7 @@ use Rattle.monomial.specs.Words.{compareWords}
 use Rattle.monomial.specs.Layout.{bytes, fields, exponents, Below}
 use Rattle.monomial.proofs.Places.{below-true, true-below}
 use Rattle.monomial.proofs.ByteLaws.{bytes-below}
-use Rattle.monomial.proofs.LayoutLaws.{below-fields}
+use Rattle.monomial.proofs.LayoutLaws.{below-fields, below-take}
 use Rattle.monomial.proofs.OrderLaws.{words-order}
 use Rattle.polynomial.specs.Terms.{Term, term, terms, All}
 use Rattle.polynomial.specs.Terms as T
@@ -75,11 +75,6 @@ joined-most (e ∷ []) h = omega (arith, decimal-long 2 e (let z : e < 1000 = om
 joined-most (e ∷ (f ∷ es)) h =
     omega (arith, decimal-long 2 e (let z : e < 1000 = omega (arith, h .0) in z), joined-most (f ∷ es) (h .1), length-append (decimal e) (46 ∷ joined 46 (map decimal (f ∷ es))))
 
-take-below : (k n : ℕ) (es : List ℕ) → Below k es → Below k (take n es)
-take-below k zero es h = tt
-take-below k (suc n) [] h = tt
-take-below k (suc n) (e ∷ es) h = (h .0, take-below k n es (h .1))
-
 fields-small : (o : Order) (w : ℕ) → Below 256 (fields o w)
 fields-small o w = true-below 256 (fields o w) (below-fields 256 o w ∙ below-true 256 (bytes 6 w) (bytes-below 6 w))
 
@@ -93,7 +88,7 @@ term-length o n t h =
     omega (
       arith,
       decimal-long 4 (t .coef) (let z : t .coef < 100000 = omega arith in z),
-      joined-most es (take-below 256 n (fields o (t .mono)) (fields-small o (t .mono))),
+      joined-most es (below-take 256 n (fields o (t .mono)) (fields-small o (t .mono))),
       length-take n (fields o (t .mono)),
       length-append (decimal (t .coef)) (58 ∷ exponentsText o n (t .mono)),
     )

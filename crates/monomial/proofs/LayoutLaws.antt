@@ -83,7 +83,7 @@ pub below-fields : (k : ℕ) (o : Order) (w : ℕ) → below k (fields o w) ≡ 
 unfolding fields
 below-fields k o w = below-upward k o (bytes 6 w)
 
-below-take : (k n : ℕ) (α : List ℕ) → Below k α → Below k (take n α)
+pub below-take : (k n : ℕ) (α : List ℕ) → Below k α → Below k (take n α)
 below-take k zero α u = tt
 below-take k (suc n) [] u = tt
 below-take k (suc n) (a ∷ α) u = (u .0, below-take k n α (u .1))

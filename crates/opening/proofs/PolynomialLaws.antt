@@ -11,7 +11,8 @@ use Rattle.polynomial.specs.Terms.{terms}
 use Rattle.polynomial.specs.Opening.{startsGood, partOf, first, refusalOf, Within}
 use Rattle.polynomial.proofs.StartLaws.{none-bad, good-within}
 use Rattle.opening.specs.Run.{refusalAt, refusalFrom, polynomialsRefusal}
-use Rattle.opening.proofs.Tests.{first-none, first-some}
+use Rattle.polynomial.proofs.OpeningLaws.{first-none}
+use Rattle.opening.proofs.Tests.{first-some}
 
 -- good starts are not missing
 pub some-starts : (ss : List ℕ) (len : ℕ) → startsGood ss len ≡ true → 1 ≤ length ss

@@ -16,7 +16,8 @@ use Rattle.polynomial.specs.Opening.{startsGood, first}
 use Rattle.opening.specs.Run.{unless, setting, lentGood, polynomialsRefusal}
 use Rattle.opening.specs.Reduction.{reductionShape, noneZero, divisorsGood, reductionRefusal, ReductionOpened}
 use Rattle.opening.specs.ReductionJudgement.{GoodReductionShape}
-use Rattle.opening.proofs.Tests.{first-none, first-some, passed}
+use Rattle.polynomial.proofs.OpeningLaws.{first-none}
+use Rattle.opening.proofs.Tests.{first-some, passed}
 use Rattle.opening.proofs.SettingLaws.{setting-passes}
 use Rattle.opening.proofs.PolynomialLaws.{polynomials-pass}
 use Rattle.opening.proofs.ShapeLaws.{lent-passes}

@@ -7,7 +7,8 @@ use lib.ListN.{length}
 use Rattle.monomial.specs.Exponents.{orderOf}
 use Rattle.polynomial.specs.Opening.{first}
 use Rattle.opening.specs.Run.{unless, setting, shapeGood, operationsGood, polynomialsRefusal, runRefusal, Opened}
-use Rattle.opening.proofs.Tests.{first-none, first-some, passed}
+use Rattle.polynomial.proofs.OpeningLaws.{first-none}
+use Rattle.opening.proofs.Tests.{first-some, passed}
 use Rattle.opening.proofs.SettingLaws.{setting-passes}
 use Rattle.opening.proofs.PolynomialLaws.{polynomials-pass}
 use Rattle.opening.proofs.ShapeLaws.{shape-passes}

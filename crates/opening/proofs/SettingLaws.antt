@@ -10,7 +10,8 @@ use Rattle.residue.proofs.Primality.{true-prime}
 use Rattle.monomial.proofs.Places.{and-both}
 use Rattle.polynomial.specs.Opening.{first}
 use Rattle.opening.specs.Run.{unless, between, setting}
-use Rattle.opening.proofs.Tests.{first-none, passed}
+use Rattle.polynomial.proofs.OpeningLaws.{first-none}
+use Rattle.opening.proofs.Tests.{passed}
 
 module _ (p order n : ℕ) where
   pub over-limit : 65521 < p → 1 ≡ setting p order n

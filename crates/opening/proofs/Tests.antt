@@ -14,11 +14,6 @@ yes {t} e h = sym e ∙ not-false t h
 pub no : {t b : Bool} → t ≡ b → not t ≡ true → b ≡ false
 no {t} e h = sym e ∙ not-true t h
 
--- where neither of two refusals is one
-pub first-none : (r k : ℕ) → first r k ≡ 0 → (r ≡ 0) × (k ≡ 0)
-first-none zero k h = (refl, h)
-first-none (suc r) k h = absurd (let z : ⊥ = omega arith in z)
-
 -- a refusal comes first
 pub first-some : (r k : ℕ) → (r ≡ 0 → ⊥) → r ≡ first r k
 first-some zero k h = absurd (h refl)

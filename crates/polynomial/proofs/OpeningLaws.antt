@@ -169,7 +169,7 @@ falling-fall cmp [] f = refl
 falling-fall cmp (t ∷ []) f = refl
 falling-fall cmp (t ∷ (u ∷ ts)) f = ap₂ _&&_ (ap isLarger (f .0 .0)) (falling-fall cmp (u ∷ ts) (f .1))
 
-first-none : (r k : ℕ) → first r k ≡ 0 → (r ≡ 0) × (k ≡ 0)
+pub first-none : (r k : ℕ) → first r k ≡ 0 → (r ≡ 0) × (k ≡ 0)
 first-none zero k h = (refl, h)
 first-none (suc r) k h = absurd (let z : ⊥ = omega arith in z)
 

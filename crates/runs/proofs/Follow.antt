@@ -42,7 +42,7 @@ nonZero-reduced p (x ∷ xs) r = ap (unlessZero (x .coef) x) (nonZero-reduced p 
     by zero h = absurd (let z : ⊥ = omega arith in z)
     by (suc c) h = refl
 
-emptied-long : (bs : List (List (Term ℕ))) → length (emptied bs) ≡ length bs
+pub emptied-long : (bs : List (List (Term ℕ))) → length (emptied bs) ≡ length bs
 unfolding emptied
 emptied-long [] = refl
 emptied-long (b ∷ bs) = ap suc (emptied-long bs)
