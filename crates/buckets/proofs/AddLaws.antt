@@ -2,30 +2,28 @@
 use mathlib.Core.Path.{_≡_, refl, sym, ap, ap₂, _∙_, subst}
 use mathlib.Core.List.{List, [], _∷_, _++_}
 use Prim.Native.Nat.{ℕ, zero, suc, _+_, _-_, _*_, _<_, _≤_, Ordering}
-use native.Mathlib.Nat.{zero-add}
 use native.Mathlib.Omega.{arith}
 use borrow.Author.Tests.{le-leb, lt-leb}
-use lib.ListN.{length, take, drop, length-append}
+use lib.ListN.{length, length-append}
 use lib.Seq.{length-sets}
-use Rattle.residue.specs.Modular.{Modulus}
 use Rattle.monomial.specs.TotalOrder.{TotalOrder}
 use Rattle.polynomial.specs.Terms.{Term, terms, words, coefs, Canonical}
 use Rattle.polynomial.specs.Merge.{merge, compared, mergeCount}
 use Rattle.polynomial.proofs.MergeLaws.{merge-size, merge-canonical, merge-nil, count-size, count-right}
 use Rattle.polynomial.proofs.TermLists.{length-terms}
-use Rattle.merge.specs.Lent.{Poly, part}
+use Rattle.merge.specs.Lent.{part}
 use Rattle.merge.specs.Merging.{Made, Sides}
-use Rattle.merge.proofs.Lists.{length-part}
 use Rattle.geobucket.specs.Buckets.{held, Good, carry, carryCompared, place, placeCompared, add, addCompared}
 use Rattle.geobucket.proofs.AddLaws.{adds}
 use Rattle.geobucket.proofs.EventLaws.{room-six}
 use Rattle.space.specs.Space.{Buckets, headAt, lenAt, capacity, start, listFrom, rowAt, bucketAt, bucketsIn, Laid, Stands}
 use Rattle.buckets.specs.declared.level.Level.{Level}
-use Rattle.buckets.specs.declared.add.Carried.{Carried}
-use Rattle.buckets.specs.Levels.{levelAt, LevelFor}
-use Rattle.buckets.specs.Adding.{Addition, AddDone, landed, landedCompared, Carry, CarryDone, Store, Stored}
-use Rattle.space.proofs.Starts.{next-capacity, cap-zero}
-use Rattle.space.proofs.SpaceLaws.{good-at, bucket-none, row-end, row-long, bucket-long, bucket-poly, held-cons, held-append, from-same, from-next, from-split, from-at, from-long}
+use Rattle.buckets.specs.Levels.{LevelFor}
+use Rattle.buckets.specs.Adding.{Addition, AddDone, landed, landedCompared, Carry, CarryDone, MergeIn, Store, Stored}
+use Rattle.space.proofs.Starts.{next-capacity, cap-zero, next-start}
+use Rattle.space.proofs.SpaceLaws.{good-at, bucket-none, row-end, row-long, bucket-long, bucket-poly, held-cons, held-append, from-at, from-long}
+use Rattle.buckets.proofs.LevelLaws.{start-is, next-fits}
+use Rattle.buckets.proofs.StoreLaws.{stored-lists}
 use Rattle.buckets.proofs.WorkLaws.{made-terms}
 use Rattle.buckets.proofs.CarryLaws.{landed-fits, compared-fits}
 
@@ -108,7 +106,7 @@ module _ {cmp : ℕ → ℕ → Ordering} {p : ℕ} {b : Buckets} {fw fc sw sc w
   f-long : length (terms fw fc) ≡ length fw
   f-long = length-terms fw fc (a .long)
 
-  pub f-short : length fw ≤ 4096
+  f-short : length fw ≤ 4096
   f-short = omega (arith, a .room)
 
   -- the buckets of the published addition are good
@@ -128,12 +126,46 @@ module _ {cmp : ℕ → ℕ → Ordering} {p : ℕ} {b : Buckets} {fw fc sw sc w
     pub first-end : headAt b (l .bucket) + lenAt b (l .bucket) ≤ 5460
     first-end = row-end b (a .stands .laid) (l .bucket) (v .within)
 
+    pub front-short : l .start + length fw ≤ 10000
+    front-short = omega (arith, next-fits l (v .is) (v .within), f-short)
+
     -- the terms held, parted at the bucket
     parted : held (bucketsIn b sw sc) ≡ held (listFrom (bucketAt b sw sc) 0 (l .bucket)) + (length (bucketAt b sw sc (l .bucket)) + held (listFrom (bucketAt b sw sc) (suc (l .bucket)) (5 - l .bucket)))
     parted =
         ap held (from-at (bucketAt b sw sc) (l .bucket) (v .within))
         ∙ (held-append (listFrom (bucketAt b sw sc) 0 (l .bucket)) (bucketAt b sw sc (l .bucket) ∷ listFrom (bucketAt b sw sc) (suc (l .bucket)) (5 - l .bucket))
         ∙ ap (λ (n : ℕ). held (listFrom (bucketAt b sw sc) 0 (l .bucket)) + n) (held-cons (bucketAt b sw sc (l .bucket)) (listFrom (bucketAt b sw sc) (suc (l .bucket)) (5 - l .bucket))))
+
+    bucket-canonical : Canonical cmp p (bucketAt b sw sc (l .bucket))
+    bucket-canonical = good-at cmp p (bucketAt b sw sc) 6 0 4 (a .stands .good) (l .bucket) (omega arith) (omega (arith, v .within))
+
+    -- the merge of f with the bucket fits into the bucket, and lies there
+    module _ (O : TotalOrder ℕ cmp) (some : 0 < length fw) {m : List (Term ℕ)} (em : m ≡ merge cmp p (terms fw fc) (bucketAt b sw sc (l .bucket))) (short : length m ≤ capacity (l .bucket)) {cnt : ℕ} (ec : cnt ≡ mergeCount cmp (terms fw fc) (bucketAt b sw sc (l .bucket))) {sw' sc' : List ℕ} {b' : Buckets} (s : Stored b l m sw sc sw' sc' b') where
+      abbrev above : List (List (Term ℕ))
+      above = listFrom (bucketAt b sw sc) (suc (l .bucket)) (5 - l .bucket)
+
+      fitted-lists : bucketsIn b' sw' sc' ≡ add cmp p (terms fw fc) (bucketsIn b sw sc)
+      fitted-lists =
+          stored-lists (v .within) s
+          ∙ (ap (λ (x : List (List (Term ℕ))). listFrom (bucketAt b sw sc) 0 (l .bucket) ++ x) (sym (landed-fits cmp p (capacity (l .bucket)) m above short) ∙ ap (λ (x : List (Term ℕ)). landed cmp p (capacity (l .bucket)) x above) em)
+          ∙ sym (add-at cmp p (terms fw fc) (bucketAt b sw sc) l w (omega (arith, some, f-long))))
+
+      fitted-count : cnt ≡ length (addCompared cmp p (terms fw fc) (bucketsIn b sw sc))
+      fitted-count =
+          omega (
+            arith,
+            added-compared cmp p (terms fw fc) (bucketAt b sw sc) l w (omega (arith, some, f-long)),
+            ec,
+            ap length (ap (λ (x : List (Term ℕ)). landedCompared cmp p (capacity (l .bucket)) x above) (sym em) ∙ compared-fits cmp p (capacity (l .bucket)) m above short),
+          )
+
+      pub fitted : AddDone cmp p b (terms fw fc) sw sc sw' sc' b' cnt
+      fitted = record {
+        lists-are = fitted-lists;
+        count-is = fitted-count;
+        few = omega (arith, ec, count-size cmp p (terms fw fc) (bucketAt b sw sc (l .bucket)), f-long, a .room, parted);
+        stands = added-stands O (s .laid) (s .words-long) (s .coefs-long) fitted-lists;
+      }
 
     -- an empty bucket takes f as it is
     module _ (O : TotalOrder ℕ cmp) (none : lenAt b (l .bucket) ≡ 0) where
@@ -148,47 +180,46 @@ module _ {cmp : ℕ → ℕ → Ordering} {p : ℕ} {b : Buckets} {fw fc sw sc w
         coefs-long = a .stands .coefs-long;
       }
 
-      module _ (some : 0 < length fw) {sw' sc' : List ℕ} {b' : Buckets} (s : Stored b l (terms fw fc) sw sc sw' sc' b') where
-        unmerged : merge cmp p (terms fw fc) (bucketAt b sw sc (l .bucket)) ≡ terms fw fc
-        unmerged = ap (merge cmp p (terms fw fc)) (bucket-none b (l .bucket) (a .stands .laid) (v .within) sw sc none) ∙ merge-nil cmp p (terms fw fc)
+      pub straight-done : 0 < length fw → {sw' sc' : List ℕ} {b' : Buckets} → Stored b l (terms fw fc) sw sc sw' sc' b' → AddDone cmp p b (terms fw fc) sw sc sw' sc' b' 0
+      straight-done some s =
+          let e : bucketAt b sw sc (l .bucket) ≡ [] = bucket-none b (l .bucket) (a .stands .laid) (v .within) sw sc none in
+          fitted O some (sym (ap (merge cmp p (terms fw fc)) e ∙ merge-nil cmp p (terms fw fc))) (w .fits) (sym (ap (mergeCount cmp (terms fw fc)) e ∙ count-right cmp (terms fw fc))) s
 
-        straight-lists : bucketsIn b' sw' sc' ≡ add cmp p (terms fw fc) (bucketsIn b sw sc)
-        straight-lists =
-            let k = l .bucket in
-            let g' = bucketAt b' sw' sc' in
-            let h = bucketAt b sw sc in
-            let above = listFrom h (suc k) (5 - k) in
-            from-at g' k (v .within)
-            ∙ (ap₂ (λ (x : List (List (Term ℕ))) (y : List (Term ℕ)). x ++ (y ∷ listFrom g' (suc k) (5 - k))) (from-same g' h 0 k (λ j x y. s .others j (omega (arith, v .within)) (λ q. let z : ⊥ = omega arith in z))) (s .here)
-            ∙ (ap (λ (x : List (List (Term ℕ))). listFrom h 0 k ++ (terms fw fc ∷ x)) (from-same g' h (suc k) (5 - k) (λ j x y. s .others j (omega (arith, v .within)) (λ q. let z : ⊥ = omega arith in z)))
-            ∙ (ap (λ (x : List (List (Term ℕ))). listFrom h 0 k ++ x) (sym (landed-fits cmp p (capacity k) (terms fw fc) above (w .fits)) ∙ ap (λ (x : List (Term ℕ)). landed cmp p (capacity k) x above) (sym unmerged))
-            ∙ sym (add-at cmp p (terms fw fc) h l w (omega (arith, some, f-long))))))
+    -- f fits in front of the bucket
+    module _ (O : TotalOrder ℕ cmp) (front : l .start + length fw ≤ headAt b (l .bucket)) where
+      pub place-asks : MergeIn p b l fw fc sw sc
+      place-asks =
+          let s = a .stands in
+          record {
+            modulus = s .modulus;
+            laid = s .laid;
+            level-is = v .is;
+            within = v .within;
+            lent = record { long = a .long; reduced = a .canonical .reduced };
+            there = bucket-poly b (s .laid) (l .bucket) (v .within) p cmp sw sc (s .words-long) (s .coefs-long) bucket-canonical;
+            room = omega (arith, front, start-is l (v .is));
+            words-long = s .words-long;
+            coefs-long = s .coefs-long;
+          }
 
-        straight-count : 0 ≡ length (addCompared cmp p (terms fw fc) (bucketsIn b sw sc))
-        straight-count =
-            let k = l .bucket in
-            let h = bucketAt b sw sc in
-            let above = listFrom h (suc k) (5 - k) in
-            omega (
-              arith,
-              added-compared cmp p (terms fw fc) h l w (omega (arith, some, f-long)),
-              ap (mergeCount cmp (terms fw fc)) (bucket-none b k (a .stands .laid) (v .within) sw sc none),
-              count-right cmp (terms fw fc),
-              ap length (ap (λ (x : List (Term ℕ)). landedCompared cmp p (capacity k) x above) unmerged ∙ compared-fits cmp p (capacity k) (terms fw fc) above (w .fits)),
-            )
+      placed-fits : length (merge cmp p (terms fw fc) (bucketAt b sw sc (l .bucket))) ≤ capacity (l .bucket)
+      placed-fits =
+          let s = a .stands in
+          omega (
+            arith,
+            merge-size cmp p (terms fw fc) (bucketAt b sw sc (l .bucket)),
+            f-long,
+            bucket-long b (s .laid) (l .bucket) (v .within) sw sc (s .words-long) (s .coefs-long),
+            s .laid .high (l .bucket) (v .within),
+            next-start (l .bucket),
+            start-is l (v .is),
+            front,
+          )
 
-        pub straight-done : AddDone cmp p b (terms fw fc) sw sc sw' sc' b' 0
-        straight-done = record {
-          lists-are = straight-lists;
-          count-is = straight-count;
-          few = omega arith;
-          stands = added-stands O (s .laid) (s .words-long) (s .coefs-long) straight-lists;
-        }
+      pub place-done : 0 < length fw → {cnt : ℕ} {sw' sc' : List ℕ} {b' : Buckets} → cnt ≡ mergeCount cmp (terms fw fc) (bucketAt b sw sc (l .bucket)) → Stored b l (merge cmp p (terms fw fc) (bucketAt b sw sc (l .bucket))) sw sc sw' sc' b' → AddDone cmp p b (terms fw fc) sw sc sw' sc' b' cnt
+      place-done some ec s = fitted O some refl placed-fits ec s
 
     module _ {bw bc : List ℕ} (ew : bw ≡ rowAt b sw (l .bucket)) (ec : bc ≡ rowAt b sc (l .bucket)) where
-      bucket-canonical : Canonical cmp p (bucketAt b sw sc (l .bucket))
-      bucket-canonical = good-at cmp p (bucketAt b sw sc) 6 0 4 (a .stands .good) (l .bucket) (omega arith) (omega (arith, v .within))
-
       both-long : length fw + length bw ≤ 4096
       both-long =
           let s = a .stands in
@@ -244,54 +275,23 @@ module _ {cmp : ℕ → ℕ → Ordering} {p : ℕ} {b : Buckets} {fw fc sw sc w
           few = omega (arith, cnt-is, count-size cmp p (terms fw fc) (bucketAt b sw sc (l .bucket)), f-long, a .room, parted);
         }
 
-        module _ {b₁ : Buckets} {ww'' wc'' : List ℕ} (r : Carried) (e : CarryDone cmp p b l sw sc ww' wc' len cnt b₁ ww'' wc'' r) (lw : length ww'' ≡ 8192) (lc : length wc'' ≡ 8192)
-            {tw tc : List ℕ} (etw : tw ≡ part (r .from) (r .len) ww'') (etc : tc ≡ part (r .from) (r .len) wc'') where
-          tw-long : length tw ≡ r .len
-          tw-long = ap length etw ∙ length-part (r .from) (r .len) ww'' (omega (arith, e .in-work, lw))
+        module _ (some : 0 < length fw) {sw' sc' : List ℕ} {b' : Buckets} {r : ℕ} (e : CarryDone cmp p b l sw sc ww' wc' len cnt b' sw' sc' r) where
+          lists : bucketsIn b' sw' sc' ≡ add cmp p (terms fw fc) (bucketsIn b sw sc)
+          lists =
+              e .lists-are
+              ∙ (ap (λ (x : List (Term ℕ)). listFrom (bucketAt b sw sc) 0 (l .bucket) ++ landed cmp p (capacity (l .bucket)) x (listFrom (bucketAt b sw sc) (suc (l .bucket)) (5 - l .bucket))) read
+              ∙ sym (add-at cmp p (terms fw fc) (bucketAt b sw sc) l w (omega (arith, some, f-long))))
 
-          tc-long : length tc ≡ r .len
-          tc-long = ap length etc ∙ length-part (r .from) (r .len) wc'' (omega (arith, e .in-work, lc))
+          count : r ≡ length (addCompared cmp p (terms fw fc) (bucketsIn b sw sc))
+          count =
+              e .count-is
+              ∙ (ap₂ (λ (n : ℕ) (x : List (Term ℕ)). n + length (landedCompared cmp p (capacity (l .bucket)) x (listFrom (bucketAt b sw sc) (suc (l .bucket)) (5 - l .bucket)))) cnt-is read
+              ∙ sym (added-compared cmp p (terms fw fc) (bucketAt b sw sc) l w (omega (arith, some, f-long))))
 
-          pub store-asks : Store b₁ (r .level) tw tc sw sc
-          store-asks = record {
-            laid = e .laid;
-            level-is = e .level-is;
-            within = e .within;
-            long = tc-long ∙ sym tw-long;
-            fits = omega (arith, tw-long, e .fits);
-            words-long = a .stands .words-long;
-            coefs-long = a .stands .coefs-long;
+          pub add-done : AddDone cmp p b (terms fw fc) sw sc sw' sc' b' r
+          add-done = record {
+            lists-are = lists;
+            count-is = count;
+            few = e .few;
+            stands = added-stands O (e .laid) (e .words-long) (e .coefs-long) lists;
           }
-
-          module _ (some : 0 < length fw) {sw' sc' : List ℕ} {b' : Buckets} (s : Stored b₁ (r .level) (terms tw tc) sw sc sw' sc' b') where
-            k : ℕ
-            k = r .level .bucket
-
-            lists : bucketsIn b' sw' sc' ≡ add cmp p (terms fw fc) (bucketsIn b sw sc)
-            unfolding k
-            lists =
-                let g' = bucketAt b' sw' sc' in
-                let h = bucketAt b₁ sw sc in
-                let here : g' k ≡ terms (part (r .from) (r .len) ww'') (part (r .from) (r .len) wc'') = s .here ∙ ap₂ terms etw etc in
-                let below : listFrom g' 0 k ≡ listFrom h 0 k = from-same g' h 0 k (λ j x y. s .others j (omega (arith, e .within)) (λ q. let z : ⊥ = omega arith in z)) in
-                let above : listFrom g' (suc k) (5 - k) ≡ listFrom h (suc k) (5 - k) = from-same g' h (suc k) (5 - k) (λ j x y. s .others j (omega (arith, e .within)) (λ q. let z : ⊥ = omega arith in z)) in
-                from-at g' k (e .within)
-                ∙ (ap₂ (λ (x : List (List (Term ℕ))) (y : List (Term ℕ)). x ++ (y ∷ listFrom g' (suc k) (5 - k))) below here
-                ∙ (ap (λ (x : List (List (Term ℕ))). listFrom h 0 k ++ (terms (part (r .from) (r .len) ww'') (part (r .from) (r .len) wc'') ∷ x)) above
-                ∙ (e .lists-are
-                ∙ (ap (λ (x : List (Term ℕ)). listFrom (bucketAt b sw sc) 0 (l .bucket) ++ landed cmp p (capacity (l .bucket)) x (listFrom (bucketAt b sw sc) (suc (l .bucket)) (5 - l .bucket))) read
-                ∙ sym (add-at cmp p (terms fw fc) (bucketAt b sw sc) l w (omega (arith, some, f-long)))))))
-
-            count : r .comparisons ≡ length (addCompared cmp p (terms fw fc) (bucketsIn b sw sc))
-            count =
-                e .count-is
-                ∙ (ap₂ (λ (n : ℕ) (x : List (Term ℕ)). n + length (landedCompared cmp p (capacity (l .bucket)) x (listFrom (bucketAt b sw sc) (suc (l .bucket)) (5 - l .bucket)))) cnt-is read
-                ∙ sym (added-compared cmp p (terms fw fc) (bucketAt b sw sc) l w (omega (arith, some, f-long))))
-
-            pub add-done : AddDone cmp p b (terms fw fc) sw sc sw' sc' b' (r .comparisons)
-            add-done = record {
-              lists-are = lists;
-              count-is = count;
-              few = e .few;
-              stands = added-stands O (s .laid) (s .words-long) (s .coefs-long) lists;
-            }

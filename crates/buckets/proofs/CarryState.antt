@@ -1,30 +1,29 @@
 -- A carry under way in the spaces: what each turn of the loop asks and leaves. Assumes nothing.
 use mathlib.Core.Path.{_≡_, refl, sym, ap, ap₂, _∙_, subst}
-use mathlib.Core.List.{List, [], _∷_, _++_}
-use mathlib.Core.Logic.{_⊎_, inl, inr, ⊎-elim}
-use Prim.Native.Nat.{ℕ, zero, suc, _+_, _-_, _*_, _<_, _≤_, Ordering}
-use native.Mathlib.Decide.{decLe}
+use mathlib.Core.List.{List, [], _++_}
+use mathlib.Core.Logic.{inl}
+use Prim.Native.Nat.{ℕ, suc, _+_, _-_, _*_, _<_, _≤_, Ordering}
 use native.Mathlib.Omega.{arith}
-use lib.ListN.{length, take, drop, length-set}
-use lib.Seq.{length-sets}
+use lib.ListN.{length}
+use lib.Seq.{getD-set-other}
 use Rattle.residue.specs.Modular.{Modulus}
 use Rattle.monomial.specs.TotalOrder.{TotalOrder}
-use Rattle.polynomial.specs.Terms.{Term, terms, words, coefs, Canonical}
-use Rattle.polynomial.specs.Merge.{merge, compared, mergeCount}
+use Rattle.polynomial.specs.Terms.{Term, terms, Canonical}
+use Rattle.polynomial.specs.Merge.{merge, mergeCount}
 use Rattle.polynomial.proofs.MergeLaws.{merge-size, merge-nil, count-right}
 use Rattle.polynomial.proofs.TermLists.{length-terms}
-use Rattle.merge.specs.Lent.{Poly, part, Apart}
+use Rattle.merge.specs.Lent.{part}
 use Rattle.merge.specs.Merging.{Made, Within}
 use Rattle.merge.proofs.Lists.{length-part}
-use Rattle.geobucket.specs.Buckets.{held, Good}
-use Rattle.space.specs.Space.{Buckets, headAt, lenAt, capacity, start, listFrom, rowAt, bucketAt, bucketsIn, Laid, Stands}
+use Rattle.space.specs.Space.{Buckets, headAt, lenAt, capacity, start, listFrom, rowAt, bucketAt, Laid}
 use Rattle.buckets.specs.declared.level.Level.{Level}
-use Rattle.buckets.specs.declared.add.Carried.{Carried}
 use Rattle.buckets.specs.Levels.{levelAt}
-use Rattle.buckets.specs.Adding.{landed, landedCompared, Carry, CarryDone}
+use Rattle.buckets.specs.Adding.{landed, landedCompared, Carry, CarryDone, MergeIn, Store, Stored}
+use Rattle.space.proofs.Starts.{next-start}
 use Rattle.space.proofs.SpaceLaws.{good-at, bucket-none, row-end, row-long, bucket-long, bucket-poly}
-use Rattle.buckets.proofs.LevelLaws.{cap-is}
-use Rattle.buckets.proofs.WorkLaws.{InHalf, in-work, terms-long, half-within, other-half, other-terms}
+use Rattle.buckets.proofs.LevelLaws.{start-is, cap-is, next-fits}
+use Rattle.buckets.proofs.WorkLaws.{InHalf, in-work, same-long, terms-long, half-within, other-half, other-terms}
+use Rattle.buckets.proofs.StoreLaws.{stored-lists}
 use Rattle.buckets.proofs.CarryLaws.{Carrying, up, same-carrying, pair-room, pair-count, carry-on, carry-ends, carry-count, without, without-laid, without-other, without-here}
 
 -- ---- the loop
@@ -51,6 +50,9 @@ module _ {cmp : ℕ → ℕ → Ordering} {p : ℕ} {G : List (List (Term ℕ))}
     pub next-end : headAt b (k .bucket) + lenAt b (k .bucket) ≤ 5460
     next-end = row-end b (v .laid) (k .bucket) next-six
 
+    pub next-sum : k .start + len ≤ 10000
+    next-sum = omega (arith, next-fits k (ek ∙ ap levelAt (sym next-bucket)) next-six, v .work .short)
+
     next-room : len + length (bucketAt b sw sc (k .bucket)) ≤ 4096
     next-room = omega (arith, pair-room (v .state) over-long, terms-long (v .work), ap (λ (x : ℕ). length (bucketAt b sw sc x)) next-bucket)
 
@@ -69,6 +71,67 @@ module _ {cmp : ℕ → ℕ → Ordering} {p : ℕ} {G : List (List (Term ℕ))}
           work = v .work;
           state = same-carrying on next-bucket (sym (ap (merge cmp p m) none ∙ merge-nil cmp p m)) (omega (arith, ap (mergeCount cmp m) none, count-right cmp m));
         }
+
+    -- where there is room in front of the bucket, the merge stays there
+    module _ (room : k .start + len ≤ headAt b (k .bucket)) {tw tc : List ℕ} (etw : tw ≡ part from len ww) (etc : tc ≡ part from len wc) where
+      next-level : k ≡ levelAt (k .bucket)
+      next-level = ek ∙ ap levelAt (sym next-bucket)
+
+      next-same : bucketAt (without b (l .bucket)) sw sc (k .bucket) ≡ bucketAt b sw sc (k .bucket)
+      next-same = without-other b (l .bucket) (v .laid) (v .state .in-six) sw sc (k .bucket) next-six (λ q. let z : ⊥ = omega (arith, next-bucket) in z)
+
+      next-head : headAt (without b (l .bucket)) (k .bucket) ≡ headAt b (k .bucket)
+      next-head = getD-set-other b (6 + l .bucket) (k .bucket) 0 0 (λ q. let z : ⊥ = omega (arith, next-six) in z)
+
+      tw-long : length tw ≡ len
+      tw-long = ap length etw ∙ length-part from len ww (omega (arith, in-work (v .work), v .work .work-words))
+
+      pub place-asks : MergeIn p (without b (l .bucket)) k tw tc sw sc
+      place-asks =
+          let lw = without-laid b (l .bucket) (v .laid) (v .state .in-six) in
+          record {
+            modulus = v .modulus;
+            laid = lw;
+            level-is = next-level;
+            within = next-six;
+            lent = rw (etw, etc) (record { long = same-long (v .work); reduced = v .state .canonical .reduced });
+            there = bucket-poly (without b (l .bucket)) lw (k .bucket) next-six p cmp sw sc (v .words-long) (v .coefs-long) (subst (λ (x : List (Term ℕ)). Canonical cmp p x) (sym next-same) (v .state .ahead (k .bucket) (omega (arith, next-bucket)) next-six));
+            room = omega (arith, room, tw-long, next-head, start-is k next-level);
+            words-long = v .words-long;
+            coefs-long = v .coefs-long;
+          }
+
+      abbrev placed : List (Term ℕ)
+      placed = merge cmp p (terms tw tc) (bucketAt (without b (l .bucket)) sw sc (k .bucket))
+
+      pair-is : placed ≡ merge cmp p (terms (part from len ww) (part from len wc)) (bucketAt b sw sc (suc (l .bucket)))
+      pair-is = ap₂ (merge cmp p) (ap₂ terms etw etc) (next-same ∙ ap (bucketAt b sw sc) next-bucket)
+
+      pub placed-fits : length placed ≤ capacity (k .bucket)
+      placed-fits =
+          omega (
+            arith,
+            merge-size cmp p (terms (part from len ww) (part from len wc)) (bucketAt b sw sc (k .bucket)),
+            ap length (pair-is ∙ ap (λ (x : ℕ). merge cmp p (terms (part from len ww) (part from len wc)) (bucketAt b sw sc x)) (sym next-bucket)),
+            terms-long (v .work),
+            bucket-long b (v .laid) (k .bucket) next-six sw sc (v .words-long) (v .coefs-long),
+            v .laid .high (k .bucket) next-six,
+            next-start (k .bucket),
+            start-is k next-level,
+            room,
+          )
+
+      module _ {cnt : ℕ} (count : cnt ≡ mergeCount cmp (terms tw tc) (bucketAt (without b (l .bucket)) sw sc (k .bucket))) where
+        cnt-is : n + cnt ≡ n + mergeCount cmp (terms (part from len ww) (part from len wc)) (bucketAt b sw sc (suc (l .bucket)))
+        cnt-is = ap (λ (x : ℕ). n + x) (count ∙ ap₂ (mergeCount cmp) (ap₂ terms etw etc) (next-same ∙ ap (bucketAt b sw sc) next-bucket))
+
+        pub placed-count : n + cnt ≤ 4096 * 8
+        placed-count = omega (arith, cnt-is, pair-count (v .state) over-long, up (v .state) over-long)
+
+        pub placed-state : Carrying cmp p G N (bucketAt (without b (l .bucket)) sw sc) (k .bucket) placed (n + cnt)
+        placed-state =
+            same-carrying (carry-on (v .state) over-long O (omega (arith, v .modulus .two)) (bucketAt (without b (l .bucket)) sw sc) (without-here b (l .bucket) (v .laid) (v .state .in-six) sw sc) (without-other b (l .bucket) (v .laid) (v .state .in-six) sw sc))
+            next-bucket pair-is cnt-is
 
     module _ (bw bc : List ℕ) (ew : bw ≡ rowAt b sw (k .bucket)) (ec : bc ≡ rowAt b sc (k .bucket)) where
       next-long : len + length bw ≤ 4096
@@ -136,16 +199,37 @@ module _ {cmp : ℕ → ℕ → Ordering} {p : ℕ} {b : Buckets} {l : Level} {s
     };
   }
 
-  pub carries-end : {b' : Buckets} {l' : Level} {ww' wc' : List ℕ} {from' len' n' : ℕ} → Carries cmp p whole cost sw sc b' l' ww' wc' from' len' n' → len' ≤ l' .cap → CarryDone cmp p b l sw sc ww wc len n b' ww' wc' (record { level = l'; from = from'; len = len'; comparisons = n' })
-  carries-end {b'} {l'} {ww'} {wc'} {from'} {len'} v h =
-      let fits : length (terms (part from' len' ww') (part from' len' wc')) ≤ capacity (l' .bucket) = omega (arith, h, cap-is l' (v .level-is), terms-long (v .work)) in
-      record {
-        laid = v .laid;
-        level-is = v .level-is;
-        within = v .state .in-six;
-        fits = omega (arith, h, cap-is l' (v .level-is));
-        in-work = in-work (v .work);
-        few = omega (arith, v .state .few, v .state .in-six);
-        lists-are = carry-ends (v .state) fits;
-        count-is = carry-count (v .state) fits;
-      }
+  -- the merge lies in the bucket that it fits into
+  pub carried : {sw₁ sc₁ : List ℕ} {b' : Buckets} {l' : Level} {m : List (Term ℕ)} {n' : ℕ} {sw' sc' : List ℕ} {b'' : Buckets} → Carrying cmp p whole cost (bucketAt b' sw₁ sc₁) (l' .bucket) m n' → length m ≤ capacity (l' .bucket) → Stored b' l' m sw₁ sc₁ sw' sc' b'' → CarryDone cmp p b l sw sc ww wc len n b'' sw' sc' n'
+  carried st fits s = record {
+    laid = s .laid;
+    words-long = s .words-long;
+    coefs-long = s .coefs-long;
+    few = omega (arith, st .few, st .in-six);
+    lists-are = stored-lists (st .in-six) s ∙ carry-ends st fits;
+    count-is = carry-count st fits;
+  }
+
+  module _ {sw₁ sc₁ : List ℕ} {b' : Buckets} {l' : Level} {ww' wc' : List ℕ} {from' len' n' : ℕ} (v : Carries cmp p whole cost sw₁ sc₁ b' l' ww' wc' from' len' n') (h : len' ≤ l' .cap) {tw tc : List ℕ} (etw : tw ≡ part from' len' ww') (etc : tc ≡ part from' len' wc') where
+    words-end : length tw ≡ len'
+    words-end = ap length etw ∙ length-part from' len' ww' (omega (arith, in-work (v .work), v .work .work-words))
+
+    coefs-end : length tc ≡ len'
+    coefs-end = ap length etc ∙ length-part from' len' wc' (omega (arith, in-work (v .work), v .work .work-coefs))
+
+    pub store-asks : Store b' l' tw tc sw₁ sc₁
+    store-asks = record {
+      laid = v .laid;
+      level-is = v .level-is;
+      within = v .state .in-six;
+      long = coefs-end ∙ sym words-end;
+      fits = omega (arith, words-end, h, cap-is l' (v .level-is));
+      words-long = v .words-long;
+      coefs-long = v .coefs-long;
+    }
+
+    pub carries-end : {sw' sc' : List ℕ} {b'' : Buckets} → Stored b' l' (terms tw tc) sw₁ sc₁ sw' sc' b'' → CarryDone cmp p b l sw sc ww wc len n b'' sw' sc' n'
+    carries-end s =
+        carried (same-carrying (v .state) refl (ap₂ terms etw etc) refl)
+        (omega (arith, length-terms tw tc (coefs-end ∙ sym words-end), words-end, h, cap-is l' (v .level-is)))
+        s

@@ -5,3 +5,4 @@ pub mod CarryLaws
 pub mod CarryState
 pub mod AddLaws
 pub mod SumLaws
+pub mod InBucketLaws

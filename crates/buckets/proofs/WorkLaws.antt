@@ -1,8 +1,8 @@
 -- A polynomial in one half of the work space, and its merge with a bucket into the other half. Assumes nothing.
-use mathlib.Core.Path.{_≡_, refl, sym, ap, ap₂, _∙_}
+use mathlib.Core.Path.{_≡_, sym, ap, ap₂, _∙_}
 use mathlib.Core.List.{List, _++_}
 use mathlib.Core.Logic.{_⊎_, inl, inr, ⊎-elim}
-use Prim.Native.Nat.{ℕ, _+_, _-_, _<_, _≤_, Ordering}
+use Prim.Native.Nat.{ℕ, _+_, _-_, _≤_, Ordering}
 use native.Mathlib.Omega.{arith}
 use lib.ListN.{length, length-map}
 use lib.Seq.{length-sets}
@@ -39,7 +39,7 @@ module _ {ww wc : List ℕ} {from len : ℕ} (v : InHalf ww wc from len) where
   coefs-part : length (part from len wc) ≡ len
   coefs-part = length-part from len wc (omega (arith, in-work, v .work-coefs))
 
-  same-long : length (part from len wc) ≡ length (part from len ww)
+  pub same-long : length (part from len wc) ≡ length (part from len ww)
   same-long = coefs-part ∙ sym words-part
 
   pub terms-long : length (termsAt ww wc from len) ≡ len

@@ -6,11 +6,11 @@ use mathlib.Core.List.{List, [], _∷_, _++_}
 use lib.Dec.{leb}
 use lib.ListN.{length}
 use Rattle.polynomial.specs.Terms.{Term, terms, Canonical}
-use Rattle.merge.specs.Lent.{part}
+use Rattle.residue.specs.Modular.{Modulus}
+use Rattle.merge.specs.Lent.{Poly, part}
 use Rattle.geobucket.specs.Buckets.{held, carry, carryCompared, add, addCompared}
-use Rattle.space.specs.Space.{Buckets, capacity, start, listFrom, bucketAt, bucketsIn, Laid, Stands}
+use Rattle.space.specs.Space.{Buckets, headAt, capacity, start, listFrom, rowAt, bucketAt, bucketsIn, Laid, Stands}
 use Rattle.buckets.specs.declared.level.Level.{Level}
-use Rattle.buckets.specs.declared.add.Carried.{Carried}
 use Rattle.buckets.specs.Levels.{levelAt}
 
 -- a polynomial f to be added, and no more terms in all than the geobucket takes
@@ -48,18 +48,26 @@ pub record Carry (cmp : ℕ → ℕ → Ordering) (p : ℕ) (b : Buckets) (l : L
   pub room : len + held (listFrom (bucketAt b sw sc) (suc (l .bucket)) (5 - l .bucket)) ≤ 4096
   pub few : comparisons ≤ 4096
 
--- the result m lies in the work space, and fits into the bucket that it goes to: with m in it, the buckets are those of the published carry
-pub record CarryDone (cmp : ℕ → ℕ → Ordering) (p : ℕ) (b : Buckets) (l : Level) (sw sc ww wc : List ℕ) (len comparisons : ℕ) (b' : Buckets) (ww' wc' : List ℕ) (r : Carried) : Type 0 where
+-- the buckets are those of the published carry, with its comparisons
+pub record CarryDone (cmp : ℕ → ℕ → Ordering) (p : ℕ) (b : Buckets) (l : Level) (sw sc ww wc : List ℕ) (len comparisons : ℕ) (b' : Buckets) (sw' sc' : List ℕ) (r : ℕ) : Type 0 where
   pub laid : Laid b'
-  pub level-is : r .level ≡ levelAt (r .level .bucket)
-  pub within : r .level .bucket < 6
-  pub fits : r .len ≤ capacity (r .level .bucket)
-  pub in-work : r .from + r .len ≤ 8192
-  pub few : r .comparisons ≤ 50000
-  pub lists-are :
-      listFrom (bucketAt b' sw sc) 0 (r .level .bucket) ++ (terms (part (r .from) (r .len) ww') (part (r .from) (r .len) wc') ∷ listFrom (bucketAt b' sw sc) (suc (r .level .bucket)) (5 - r .level .bucket))
-      ≡ listFrom (bucketAt b sw sc) 0 (l .bucket) ++ landed cmp p (capacity (l .bucket)) (terms (part 0 len ww) (part 0 len wc)) (listFrom (bucketAt b sw sc) (suc (l .bucket)) (5 - l .bucket))
-  pub count-is : r .comparisons ≡ comparisons + length (landedCompared cmp p (capacity (l .bucket)) (terms (part 0 len ww) (part 0 len wc)) (listFrom (bucketAt b sw sc) (suc (l .bucket)) (5 - l .bucket)))
+  pub words-long : length sw' ≡ 5460
+  pub coefs-long : length sc' ≡ 5460
+  pub few : r ≤ 50000
+  pub lists-are : bucketsIn b' sw' sc' ≡ listFrom (bucketAt b sw sc) 0 (l .bucket) ++ landed cmp p (capacity (l .bucket)) (terms (part 0 len ww) (part 0 len wc)) (listFrom (bucketAt b sw sc) (suc (l .bucket)) (5 - l .bucket))
+  pub count-is : r ≡ comparisons + length (landedCompared cmp p (capacity (l .bucket)) (terms (part 0 len ww) (part 0 len wc)) (listFrom (bucketAt b sw sc) (suc (l .bucket)) (5 - l .bucket)))
+
+-- a polynomial f, and room for it in front of the terms of bucket l
+pub record MergeIn (p : ℕ) (b : Buckets) (l : Level) (fw fc sw sc : List ℕ) : Type 0 where
+  pub modulus : Modulus p
+  pub laid : Laid b
+  pub level-is : l ≡ levelAt (l .bucket)
+  pub within : l .bucket < 6
+  pub lent : Poly p fw fc
+  pub there : Poly p (rowAt b sw (l .bucket)) (rowAt b sc (l .bucket))
+  pub room : start (l .bucket) + length fw ≤ headAt b (l .bucket)
+  pub words-long : length sw ≡ 5460
+  pub coefs-long : length sc ≡ 5460
 
 -- terms that a bucket takes
 pub record Store (b : Buckets) (l : Level) (tw tc sw sc : List ℕ) : Type 0 where

@@ -3,25 +3,19 @@ use crate::level::Level;
 use crate::level::level_for;
 use merge::copy::put_coefs;
 use merge::copy::put_words;
+use merge_in::in_place::merge_into;
 use merges::merging::merge;
 use merges::within::merge_within;
 use monomial::order::Order;
+ghost use mathlib.Core.Path.{_≡_};
 ghost use Rattle.monomial.specs.Words.{compareWords};
 ghost use Rattle.polynomial.specs.Terms.{terms};
-ghost use Rattle.merge.specs.Lent.{part};
-ghost use Rattle.buckets.specs.Adding.{Addition, AddDone, Carry, CarryDone, Store, Stored};
-
-// What a carry leaves: where the result lies in the work space and goes to. The buckets below are
-// emptied.
-pub struct Carried {
-    pub level: Level,
-    pub from: usize,
-    pub len: usize,
-    pub comparisons: u64,
-}
+ghost use Rattle.polynomial.specs.Merge.{merge, mergeCount};
+ghost use Rattle.space.specs.Space.{bucketAt};
+ghost use Rattle.buckets.specs.Adding.{Addition, AddDone, Carry, CarryDone, MergeIn, Store, Stored};
 
 // Adds the polynomial f, and gives the comparisons. A zero f changes nothing and costs nothing, and
-// an empty bucket takes f as it is.
+// an empty bucket takes f as it is. Where f fits in front of a bucket, the merge fits into the bucket.
 pub fn add<'a>(
     order: Order,
     p: u32,
@@ -47,31 +41,31 @@ pub fn add<'a>(
         store(b, l, &fw[..], &fc[..], sw, sc);
         return 0;
     }
+    if l.start + fw.len() <= h {
+        return merge_bucket(order, p, b, l, &fw[..], &fc[..], sw, sc);
+    }
     let e = h + n;
     let m = merge(order, p, &fw[..], &fc[..], &sw[h..e], &sc[h..e], ww, wc);
-    let r = carry(order, p, b, l, sw, sc, ww, wc, m.len, m.comparisons);
-    let from = r.from;
-    let end = from + r.len;
-    store(b, r.level, &ww[from..end], &wc[from..end], sw, sc);
-    r.comparisons
+    carry(order, p, b, l, sw, sc, ww, wc, m.len, m.comparisons)
 }
 
 // The merge with bucket l lies at the front of the work space. While it is larger than the bucket,
-// the bucket is emptied and the next one merged in, from one half of the work space to the other.
+// the bucket is emptied and the next one merged in: in place, where there is room in front of it, and
+// the merge stays there; else from one half of the work space to the other.
 fn carry(
     order: Order,
     p: u32,
     b: &mut [usize],
     first: Level,
-    sw: &[u64],
-    sc: &[u32],
+    sw: &mut [u64],
+    sc: &mut [u32],
     ww: &mut [u64],
     wc: &mut [u32],
     terms: usize,
     comparisons: u64,
-) -> Carried
+) -> u64
     requires { ⌜ Carry (compareWords order) p (now b) first (now sw) (now sc) (now ww) (now wc) terms comparisons ⌝ }
-    ensures { λ r. ⌜ CarryDone (compareWords order) p (now (b .entry)) first (now (sw .entry)) (now (sc .entry)) (now (ww .entry)) (now (wc .entry)) terms comparisons (now (b .exit)) (now (ww .exit)) (now (wc .exit)) r ⌝ }
+    ensures { λ r. ⌜ CarryDone (compareWords order) p (now (b .entry)) first (now (sw .entry)) (now (sc .entry)) (now (ww .entry)) (now (wc .entry)) terms comparisons (now (b .exit)) (now (sw .exit)) (now (sc .exit)) r ⌝ }
 {
     let mut l = first;
     let mut from = 0;
@@ -84,6 +78,10 @@ fn carry(
         let h = b[i];
         let held = b[6 + i];
         b[6 + full] = 0;
+        if l.start + len <= h {
+            let end = from + len;
+            return n + merge_bucket(order, p, b, l, &ww[from..end], &wc[from..end], sw, sc);
+        }
         if held != 0 {
             let e = h + held;
             let to = 4096 - from;
@@ -93,22 +91,43 @@ fn carry(
             n += m.comparisons;
         }
     }
-    Carried {
-        level: l,
-        from,
-        len,
-        comparisons: n,
-    }
+    let end = from + len;
+    store(b, l, &ww[from..end], &wc[from..end], sw, sc);
+    n
 }
 
-// Puts the terms into a bucket in place of what it held.
+// Merges the polynomial f into a bucket in place, and gives the comparisons.
+fn merge_bucket(
+    order: Order,
+    p: u32,
+    b: &mut [usize],
+    l: Level,
+    fw: &[u64],
+    fc: &[u32],
+    sw: &mut [u64],
+    sc: &mut [u32],
+) -> u64
+    requires { ⌜ MergeIn p (now b) l (now fw) (now fc) (now sw) (now sc) ⌝ }
+    ensures { λ r. ⌜ Stored (now (b .entry)) l (merge (compareWords order) p (terms (now (fw .entry)) (now (fc .entry))) (bucketAt (now (b .entry)) (now (sw .entry)) (now (sc .entry)) (l .bucket))) (now (sw .entry)) (now (sc .entry)) (now (sw .exit)) (now (sc .exit)) (now (b .exit)) × (r ≡ mergeCount (compareWords order) (terms (now (fw .entry)) (now (fc .entry))) (bucketAt (now (b .entry)) (now (sw .entry)) (now (sc .entry)) (l .bucket))) ⌝ }
+{
+    let i = l.bucket;
+    let h = b[i];
+    let e = h + b[6 + i];
+    let m = merge_into(order, p, fw, fc, sw, sc, h, e);
+    b[i] = m.head;
+    b[6 + i] = m.len;
+    m.comparisons
+}
+
+// Puts the terms into a bucket in place of what it held, to its end: the room is in front of them.
 fn store(b: &mut [usize], l: Level, tw: &[u64], tc: &[u32], sw: &mut [u64], sc: &mut [u32])
     requires { ⌜ Store (now b) l (now tw) (now tc) (now sw) (now sc) ⌝ }
     ensures { λ _. ⌜ Stored (now (b .entry)) l (terms (now (tw .entry)) (now (tc .entry))) (now (sw .entry)) (now (sc .entry)) (now (sw .exit)) (now (sc .exit)) (now (b .exit)) ⌝ }
 {
-    put_words(tw, sw, l.start);
-    put_coefs(tc, sc, l.start);
+    let at = l.start + (l.cap - tw.len());
+    put_words(tw, sw, at);
+    put_coefs(tc, sc, at);
     let i = l.bucket;
-    b[i] = l.start;
+    b[i] = at;
     b[6 + i] = tw.len();
 }

@@ -1,0 +1,45 @@
+// Terms moved up within a space.
+ghost use mathlib.Core.Path.{_≡_};
+ghost use Prim.Native.Nat.{_+_, _-_, _≤_};
+ghost use lib.ListN.{length};
+ghost use lib.Seq.{sets};
+ghost use Rattle.merge.specs.Lent.{part};
+
+// Moves the terms at places `from` up to k so that they end at place j, and gives their new place.
+pub fn close_gap(sw: &mut [u64], sc: &mut [u32], from: usize, k: usize, j: usize) -> usize
+    requires { ⌜ (from ≤ k) × (k ≤ j) × (j ≤ length (now sw)) × (j ≤ length (now sc)) ⌝ }
+    ensures { λ r. ⌜ (r ≡ from + (j - k)) × (now (sw .exit) ≡ sets (now (sw .entry)) r (part from (k - from) (now (sw .entry)))) × (now (sc .exit) ≡ sets (now (sc .entry)) r (part from (k - from) (now (sc .entry)))) ⌝ }
+{
+    let gap = j - k;
+    if gap == 0 {
+        return from;
+    }
+    let head = from + gap;
+    shift_words(sw, from, head, k - from);
+    shift_coefs(sc, from, head, k - from);
+    head
+}
+
+// Puts the n words from place `from` on also from `to` on, the last one first: the places may overlap.
+fn shift_words(s: &mut [u64], from: usize, to: usize, n: usize)
+    requires { ⌜ (from ≤ to) × (to + n ≤ length (now s)) ⌝ }
+    ensures { λ _. ⌜ now (s .exit) ≡ sets (now (s .entry)) to (part from n (now (s .entry))) ⌝ }
+{
+    let mut i = n;
+    while i > 0 {
+        i -= 1;
+        s[to + i] = s[from + i];
+    }
+}
+
+// The same for coefficients.
+fn shift_coefs(s: &mut [u32], from: usize, to: usize, n: usize)
+    requires { ⌜ (from ≤ to) × (to + n ≤ length (now s)) ⌝ }
+    ensures { λ _. ⌜ now (s .exit) ≡ sets (now (s .entry)) to (part from n (now (s .entry))) ⌝ }
+{
+    let mut i = n;
+    while i > 0 {
+        i -= 1;
+        s[to + i] = s[from + i];
+    }
+}
