@@ -1,4 +1,5 @@
 pub mod DivisorLaws
+pub mod InverseLaws
 pub mod BeginLaws
 pub mod TailLaws
 pub mod DivideLaws

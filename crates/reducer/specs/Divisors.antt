@@ -1,5 +1,5 @@
 -- The divisors as they are lent: "Polynomial 0 is added first; the others are divisors." What the search for a fitting one and the inverse of its lead coefficient ask and give. Assumes nothing.
-use Prim.Native.Nat.{ℕ, _+_, _-_, _*_, _<_, _≤_}
+use Prim.Native.Nat.{ℕ, _+_, _-_, _*_, _/_, _%_, _<_, _≤_}
 use mathlib.Core.Path.{_≡_}
 use mathlib.Core.Bool.{true, false}
 use mathlib.Core.List.{List}
@@ -7,7 +7,6 @@ use mathlib.Core.Logic.{_⊎_}
 use lib.ListN.{length, getD}
 use Rattle.residue.specs.Modular.{Modulus, inverseOf}
 use Rattle.residue.specs.Prime.{Prime}
-use Rattle.residue.specs.Share.{shareOf}
 use Rattle.monomial.specs.declared.order.Order.{Order}
 use Rattle.monomial.specs.Layout.{Layout}
 use Rattle.monomial.specs.Words.{compareWords, Packed, dividesWord}
@@ -80,9 +79,17 @@ pub record Scannable (leads : List ℕ) (n α : ℕ) : Type 0 where
   pub packed : (j : ℕ) → j < n → Packed (getD leads j 0)
   pub word : Packed α
 
--- a factor modulo p in one number: its share, and its value below 2 ^ 16
+-- a number below p in one number with its share of p in parts of 2 ^ 48
 abbrev pub inOne : (p value : ℕ) → ℕ
-inOne p value = shareOf p value * 65536 + value
+inOne p value = value * 281474976710656 / p * 65536 + value
+
+-- such a number, and one to multiply it by
+pub record Multiplying (p x inverse : ℕ) : Type 0 where
+  pub modulus : Modulus p
+  pub short : p ≤ 65536
+  pub small : x < p
+  pub below : inverse % 65536 < p
+  pub share-is : inverse / 65536 ≡ inverse % 65536 * 281474976710656 / p
 
 -- the inverses of the lead coefficients of the first 1,024 divisors, as far as they were asked for
 pub record Inverses (p : ℕ) (coefs starts inverses : List ℕ) : Type 0 where

@@ -1,5 +1,6 @@
 // A step that divides its lead.
-use crate::divisor::lead_inverse;
+use crate::inverse::factor_by;
+use crate::inverse::lead_inverse;
 use crate::state::State;
 use buckets::add::add;
 use monomial::order::Order;
@@ -28,7 +29,7 @@ pub fn divide<'a>(
     k: usize,
     s: State,
     lead: Candidate,
-    inverses: &mut [u32],
+    inverses: &mut [u64],
     b: &mut [usize],
     bw: &mut [u64],
     bc: &mut [u32],
@@ -52,7 +53,7 @@ pub fn divide<'a>(
         return s.halt(11);
     }
     let inverse = lead_inverse(p, coefs, starts, k, inverses);
-    let factor = Factor::new(inverse.times(negate(lead.coef, p)), p);
+    let factor = factor_by(p, negate(lead.coef, p), inverse);
     remove_lead(b, lead.bucket);
     let r = s.remove();
     add_tail(order, p, factor, q, tw, tc, r, b, bw, bc, ww, wc, mw, mc)

@@ -19,7 +19,7 @@ pub fn step<'a>(
     leads: &[u64],
     limit: u64,
     s: State,
-    inverses: &mut [u32],
+    inverses: &mut [u64],
     b: &mut [usize],
     bw: &mut [u64],
     bc: &mut [u32],

@@ -31,7 +31,7 @@ pub fn reduce_all<'a>(
     ensures { λ r. ⌜ Reduced order p (now (words .entry)) (now (coefs .entry)) (now (starts .entry)) limit (now (ow .entry)) (now (oc .entry)) r (now (b .exit)) (now (bw .exit)) (now (bc .exit)) (now (ow .exit)) (now (oc .exit)) ⌝ }
 {
     let mut leads = [0u64; 1024];
-    let mut inverses = [0u32; 1024];
+    let mut inverses = [0u64; 1024];
     let mut mw = [0u64; 4096];
     let mut mc = [0u32; 4096];
     keep_leads(words, starts, &mut leads);

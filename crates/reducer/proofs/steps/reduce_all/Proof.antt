@@ -2,7 +2,7 @@
 use mathlib.Core.Path.{sym, ap, _∙_}
 use Prim.Native.Nat.{ℕ, _-_}
 use lib.ListN.{length, length-replicate}
-use Rattle.reducer.proofs.DivisorLaws.{none-kept}
+use Rattle.reducer.proofs.InverseLaws.{none-kept}
 use Rattle.reducer.proofs.FirstLaws.{leads-there}
 use Rattle.reducer.proofs.ReduceLaws.{leftBy, Turning, first-words, first-coefs, addend, beginning, turn-start, turn-asks, turn-on, turn-less, turn-end}
 use Rattle.reducer.proofs.steps.reduce_all.Statement.{statement}
