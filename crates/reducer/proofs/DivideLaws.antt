@@ -30,10 +30,11 @@ use Rattle.division.proofs.TailLaws.{multiplier-good, Added, tail-added}
 use Rattle.division.proofs.WordOperations.{word-operations}
 use Rattle.engine.specs.Runs.{polynomial}
 use Rattle.reducer.specs.declared.state.State.{State}
-use Rattle.reducer.specs.Divisors.{leadWord, leadCoef, OfLayout, Checked, inOne, Inverses, Inverting, Multiplying}
+use Rattle.divisors.specs.Divisors.{leadWord, leadCoef, inOne, Inverses, Inverting, Multiplying}
+use Rattle.reducer.specs.Divisors.{OfLayout, Checked}
 use Rattle.reducer.specs.States.{halted, removed, added}
 use Rattle.reducer.specs.Dividing.{TailAddition, TailAdded, tailOf, Dividing, toAdd, DividedTo, over, many, divided, Divided}
-use Rattle.reducer.proofs.InverseLaws.{multiplying}
+use Rattle.divisors.proofs.InverseLaws.{multiplying}
 
 -- ---- "anyOver" of words is "anyTooLarge" of terms
 pub over-terms : (q : ℕ) (ws cs : List ℕ) → length cs ≡ length ws → anyTooLarge overWord q (terms ws cs) ≡ anyOver q ws

@@ -1,5 +1,3 @@
-pub mod DivisorLaws
-pub mod InverseLaws
 pub mod BeginLaws
 pub mod TailLaws
 pub mod DivideLaws

@@ -1,8 +1,8 @@
 // A step that divides its lead.
-use crate::inverse::factor_by;
-use crate::inverse::lead_inverse;
 use crate::state::State;
 use buckets::add::add;
+use divisors::inverse::factor_by;
+use divisors::inverse::lead_inverse;
 use monomial::order::Order;
 use monomial::word::quotient;
 use multiple::multiple::any_over;

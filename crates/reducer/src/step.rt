@@ -1,7 +1,7 @@
 // One step of a reduction.
 use crate::divide::divide;
-use crate::divisor::first_fit;
 use crate::state::State;
+use divisors::divisor::first_fit;
 use monomial::order::Order;
 use search::candidate::Candidate;
 use search::lead::find_lead;

@@ -1,8 +1,8 @@
 // The steps of a reduction in turn.
-use crate::divisor::keep_leads;
 use crate::state::State;
 use crate::step::step;
 use buckets::add::add;
+use divisors::divisor::keep_leads;
 use monomial::order::Order;
 use polynomial::part::coefs_of;
 use polynomial::part::words_of;

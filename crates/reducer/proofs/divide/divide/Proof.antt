@@ -5,7 +5,7 @@ use Prim.Native.Nat.{ℕ, _-_, _≤_}
 use native.Mathlib.Omega.{arith}
 use denote.Ref.{now}
 use lib.ListN.{length, take, drop}
-use Rattle.reducer.specs.Divisors.{leadWord, leadCoef}
+use Rattle.divisors.specs.Divisors.{leadWord, leadCoef}
 use Rattle.reducer.specs.Dividing.{over, many, tailOf}
 use Rattle.reducer.proofs.DivideLaws.{words-part, coefs-part, words-cons, coefs-cons, quotient-le, quotient-packed, tail-packed, inverting, multiplier-small, held-is, tail-addition, divided-done, part-some, part-lead, part-tail, any-asks, over-done, not-over, many-done, few-held, held-some, held-few, factor-asks, multiplier-is}
 use borrow.Author.Needs.{needs}
@@ -18,8 +18,8 @@ use Rattle.monomial.proofs.word.quotient.Reads as quotient-reads
 use Rattle.polynomial.proofs.part.coefs_of.Reads as coefs-of-reads
 use Rattle.polynomial.proofs.part.words_of.Reads as words-of-reads
 use Rattle.reducer.proofs.divide.add_tail.Reads as add-tail-reads
-use Rattle.reducer.proofs.inverse.factor_by.Reads as factor-by-reads
-use Rattle.reducer.proofs.inverse.lead_inverse.Reads as lead-inverse-reads
+use Rattle.divisors.proofs.inverse.factor_by.Reads as factor-by-reads
+use Rattle.divisors.proofs.inverse.lead_inverse.Reads as lead-inverse-reads
 use Rattle.reducer.proofs.state.State.halt.Reads as halt-reads
 use Rattle.reducer.proofs.state.State.remove.Reads as remove-reads
 use Rattle.residue.proofs.arithmetic.negate.Reads as negate-reads

@@ -1,12 +1,12 @@
--- `reducer::inverse::lead_inverse` meets its contract. Assumes nothing.
+-- `divisors::inverse::lead_inverse` meets its contract. Assumes nothing.
 use borrow.Author.Needs.{needs}
-use Rattle.reducer.proofs.InverseLaws.{one-asks, one-is, kept-is, kept-now}
-use Rattle.reducer.proofs.inverse.lead_inverse.Statement.{statement}
-use Rattle.reducer.proofs.inverse.lead_inverse.Tie as tie
-use Rattle.reducer.proofs.inverse.lead_inverse.Reads as reads
-use Rattle.reducer.proofs.inverse.lead_inverse.Lts as lts
+use Rattle.divisors.proofs.InverseLaws.{one-asks, one-is, kept-is, kept-now}
+use Rattle.divisors.proofs.inverse.lead_inverse.Statement.{statement}
+use Rattle.divisors.proofs.inverse.lead_inverse.Tie as tie
+use Rattle.divisors.proofs.inverse.lead_inverse.Reads as reads
+use Rattle.divisors.proofs.inverse.lead_inverse.Lts as lts
 use Rattle.residue.proofs.inverse.invert.Reads as invert-reads
-use Rattle.reducer.proofs.inverse.in_one.Reads as in-one-reads
+use Rattle.divisors.proofs.inverse.in_one.Reads as in-one-reads
 
 mul-c : tie.Need-mul-c
 mul-c c = search needs

@@ -1,12 +1,12 @@
--- `reducer::inverse::factor_by` meets its contract: the estimate, corrected, is the quotient of 2 ^ 16 products by p, whose two digits are the quotient of the product and the share of its remainder. Assumes nothing.
+-- `divisors::inverse::factor_by` meets its contract: the estimate, corrected, is the quotient of 2 ^ 16 products by p, whose two digits are the quotient of the product and the share of its remainder. Assumes nothing.
 use native.Mathlib.Omega.{arith}
 use borrow.Author.Needs.{needs}
-use Rattle.reducer.proofs.InverseLaws.{whole-fits, wide-fits, correct-asks, quotient-fits, value-small, factor-is}
-use Rattle.reducer.proofs.inverse.factor_by.Statement.{statement}
-use Rattle.reducer.proofs.inverse.factor_by.Tie as tie
-use Rattle.reducer.proofs.inverse.factor_by.Reads as reads
-use Rattle.reducer.proofs.inverse.factor_by.Lts as lts
-use Rattle.reducer.proofs.inverse.correct.Reads as correct-reads
+use Rattle.divisors.proofs.InverseLaws.{whole-fits, wide-fits, correct-asks, quotient-fits, value-small, factor-is}
+use Rattle.divisors.proofs.inverse.factor_by.Statement.{statement}
+use Rattle.divisors.proofs.inverse.factor_by.Tie as tie
+use Rattle.divisors.proofs.inverse.factor_by.Reads as reads
+use Rattle.divisors.proofs.inverse.factor_by.Lts as lts
+use Rattle.divisors.proofs.inverse.correct.Reads as correct-reads
 
 mul-whole : tie.Need-mul-whole
 mul-whole c = omega (arith, whole-fits (c .pre))

@@ -9,7 +9,7 @@ use native.Mathlib.Omega.{arith}
 use lib.ListN.{length, getD, set, length-set}
 use lib.Seq.{getD-set-same, getD-set-other}
 use Rattle.monomial.specs.Words.{Packed, dividesWord}
-use Rattle.reducer.specs.Divisors.{leadWord, Leads, FirstFit, FirstOf, KeptLeads, KeptCount, Scannable}
+use Rattle.divisors.specs.Divisors.{leadWord, Leads, FirstFit, FirstOf, KeptLeads, KeptCount, Scannable}
 
 -- ---- the leads from `from` on and before k do not divide α
 pub record Scanned (lead : ℕ → ℕ) (α from past k : ℕ) : Type 0 where

@@ -13,8 +13,8 @@ use Rattle.residue.specs.Modular.{Modulus, product, inverseOf}
 use Rattle.residue.specs.Share.{shareOf, FactorOf}
 use Rattle.residue.proofs.Inverses.{inverse-below}
 use Rattle.residue.proofs.Shoup.{estimate}
-use Rattle.reducer.specs.Divisors.{leadCoef, inOne, Inverses, Inverting, Multiplying}
-use Rattle.reducer.proofs.DivisorLaws.{same-or-not}
+use Rattle.divisors.specs.Divisors.{leadCoef, inOne, Inverses, Inverting, Multiplying}
+use Rattle.divisors.proofs.DivisorLaws.{same-or-not}
 
 -- ---- a quotient from its estimate
 module _ (n e p : ℕ) (low : e * p ≤ n) where

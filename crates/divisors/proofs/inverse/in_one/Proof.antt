@@ -1,12 +1,12 @@
--- `reducer::inverse::in_one` meets its contract. Assumes nothing.
+-- `divisors::inverse::in_one` meets its contract. Assumes nothing.
 use mathlib.Core.Path.{refl}
 use native.Mathlib.Omega.{arith}
 use borrow.Author.Needs.{needs}
-use Rattle.reducer.proofs.InverseLaws.{wide-below}
-use Rattle.reducer.proofs.inverse.in_one.Statement.{statement}
-use Rattle.reducer.proofs.inverse.in_one.Tie as tie
-use Rattle.reducer.proofs.inverse.in_one.Reads as reads
-use Rattle.reducer.proofs.inverse.in_one.Lts as lts
+use Rattle.divisors.proofs.InverseLaws.{wide-below}
+use Rattle.divisors.proofs.inverse.in_one.Statement.{statement}
+use Rattle.divisors.proofs.inverse.in_one.Tie as tie
+use Rattle.divisors.proofs.inverse.in_one.Reads as reads
+use Rattle.divisors.proofs.inverse.in_one.Lts as lts
 
 mul-result : tie.Need-mul-result
 mul-result c = omega (arith, c .pre .1, c .pre .2)

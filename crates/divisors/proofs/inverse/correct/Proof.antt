@@ -1,10 +1,10 @@
--- `reducer::inverse::correct` meets its contract. Assumes nothing.
+-- `divisors::inverse::correct` meets its contract. Assumes nothing.
 use native.Mathlib.Omega.{arith}
-use Rattle.reducer.proofs.InverseLaws.{right, one-more, more-fits}
-use Rattle.reducer.proofs.inverse.correct.Statement.{statement}
-use Rattle.reducer.proofs.inverse.correct.Tie as tie
-use Rattle.reducer.proofs.inverse.correct.Reads as reads
-use Rattle.reducer.proofs.inverse.correct.Lts as lts
+use Rattle.divisors.proofs.InverseLaws.{right, one-more, more-fits}
+use Rattle.divisors.proofs.inverse.correct.Statement.{statement}
+use Rattle.divisors.proofs.inverse.correct.Tie as tie
+use Rattle.divisors.proofs.inverse.correct.Reads as reads
+use Rattle.divisors.proofs.inverse.correct.Lts as lts
 
 mul-if1 : tie.Need-mul-if1
 mul-if1 c = omega (arith, c .pre .0, c .good)

@@ -4,7 +4,7 @@ ghost use mathlib.Core.Path.{_≡_};
 ghost use Prim.Native.Nat.{_+_, _-_, _<_, _≤_};
 ghost use lib.ListN.{length, getD};
 ghost use Rattle.monomial.specs.Words.{Packed};
-ghost use Rattle.reducer.specs.Divisors.{leadWord, Leads, FirstFit, FirstOf, KeptLeads, KeptCount, Scannable};
+ghost use Rattle.divisors.specs.Divisors.{leadWord, Leads, FirstFit, FirstOf, KeptLeads, KeptCount, Scannable};
 
 // Puts the lead monomials of the first 1,024 divisors into `leads`.
 pub fn keep_leads(words: &[u64], starts: &[usize], leads: &mut [u64])

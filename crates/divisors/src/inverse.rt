@@ -6,7 +6,7 @@ ghost use mathlib.Core.Path.{_≡_};
 ghost use Prim.Native.Nat.{_+_, _*_, _/_, _%_, _<_, _≤_};
 ghost use Rattle.residue.specs.Modular.{Modulus, product, inverseOf};
 ghost use Rattle.residue.specs.Share.{FactorOf};
-ghost use Rattle.reducer.specs.Divisors.{leadCoef, inOne, Inverting, Inverses, Multiplying};
+ghost use Rattle.divisors.specs.Divisors.{leadCoef, inOne, Inverting, Inverses, Multiplying};
 
 const HALF: u64 = 65536;
 
