@@ -3,16 +3,14 @@ use mathlib.Core.Path.{_≡_, refl, sym, ap, ap₂, _∙_, subst}
 use mathlib.Core.Bool.{Bool, true, false}
 use mathlib.Core.List.{List, [], _∷_}
 use Prim.Native.Nat.{ℕ, zero, suc, _+_, _-_, _%_, _<_, _≤_}
-use native.Mathlib.Nat.{mul-comm}
 use native.Mathlib.Omega.{arith}
 use lib.ListN.{length, getD, take, drop, length-drop}
 use lib.Seq.{length-take-le, take-all, drop-cons}
 use Rattle.residue.specs.declared.factor.Factor.{Factor}
-use Rattle.residue.specs.Share.{shareOf, FactorOf, Prepared}
+use Rattle.residue.specs.Share.{shareOf, FactorOf}
 use Rattle.residue.specs.Modular.{Modulus, negative, product, inverseOf}
 use Rattle.residue.proofs.Modular.{negative-below}
 use Rattle.residue.proofs.Inverses.{inverse-below}
-use Rattle.residue.proofs.Shoup.{prepared, times-product}
 use Rattle.monomial.specs.declared.order.Order.{Order}
 use Rattle.monomial.specs.Words.{compareWords, Packed, dividesWord}
 use Rattle.monomial.proofs.LayoutLaws.{layout-packed}
@@ -32,9 +30,11 @@ use Rattle.division.proofs.TailLaws.{multiplier-good, Added, tail-added}
 use Rattle.division.proofs.WordOperations.{word-operations}
 use Rattle.engine.specs.Runs.{polynomial}
 use Rattle.reducer.specs.declared.state.State.{State}
-use Rattle.reducer.specs.Divisors.{leadWord, leadCoef, OfLayout, Checked, Inverses, Inverting}
+use Rattle.divisors.specs.Divisors.{leadWord, leadCoef, inOne, Inverses, Inverting, Multiplying}
+use Rattle.reducer.specs.Divisors.{OfLayout, Checked}
 use Rattle.reducer.specs.States.{halted, removed, added}
 use Rattle.reducer.specs.Dividing.{TailAddition, TailAdded, tailOf, Dividing, toAdd, DividedTo, over, many, divided, Divided}
+use Rattle.divisors.proofs.InverseLaws.{multiplying}
 
 -- ---- "anyOver" of words is "anyTooLarge" of terms
 pub over-terms : (q : ℕ) (ws cs : List ℕ) → length cs ≡ length ws → anyTooLarge overWord q (terms ws cs) ≡ anyOver q ws
@@ -221,20 +221,15 @@ module _ {o : Order} {p : ℕ} {words coefs starts : List ℕ} {k : ℕ} {s : St
     held-few = omega (arith, a .room, held-is a)
 
   -- ---- −c divided by the lead coefficient
-  module _ {x : ℕ} (ex : x ≡ negative p (lead .coef)) {i : Factor} (ei : FactorOf p (inverseOf p (leadCoef coefs starts k)) i) where
-    pub times-asks : Prepared i × (x < i .prime)
-    times-asks = (prepared p _ i (a .checked .modulus) (a .checked .short) (inverse-below p (leadCoef coefs starts k) (a .checked .prime) (valid a .canonical .reduced .0 .0) (valid a .canonical .reduced .0 .1)) ei, omega (arith, ex, negative-below p pos (lead .coef), ei .prime-is))
+  module _ {x : ℕ} (ex : x ≡ negative p (lead .coef)) {i : ℕ} (ei : i ≡ inOne p (inverseOf p (leadCoef coefs starts k))) where
+    asked : Multiplying p x i × (i % 65536 ≡ inverseOf p (leadCoef coefs starts k))
+    asked = multiplying (a .checked .modulus) (a .checked .short) (inverse-below p (leadCoef coefs starts k) (a .checked .prime) (valid a .canonical .reduced .0 .0) (valid a .canonical .reduced .0 .1)) (omega (arith, ex, negative-below p pos (lead .coef))) ei
       where
         pos : 0 < p
         pos = omega (arith, a .checked .modulus .two)
 
-    module _ {v : ℕ} (ev : v ≡ product (i .prime) (i .value) x) where
-      pub multiplier-is : v ≡ product p (negative p (lead .coef)) (inverseOf p (leadCoef coefs starts k))
-      multiplier-is =
-          ev
-          ∙ (times-product p (inverseOf p (leadCoef coefs starts k)) x i ei
-          ∙ (ap (product p (inverseOf p (leadCoef coefs starts k))) ex
-          ∙ ap (λ (n : ℕ). n % p) (mul-comm (inverseOf p (leadCoef coefs starts k)) (negative p (lead .coef)))))
+    pub factor-asks : Multiplying p x i
+    factor-asks = asked .0
 
-      pub factor-asks : Modulus p × (p ≤ 65536) × (v < p)
-      factor-asks = (a .checked .modulus, a .checked .short, omega (arith, multiplier-is, multiplier-small a))
+    pub multiplier-is : product p x (i % 65536) ≡ product p (negative p (lead .coef)) (inverseOf p (leadCoef coefs starts k))
+    multiplier-is = ap₂ (product p) ex (asked .1)

@@ -16,7 +16,8 @@ use Rattle.division.specs.Division.{Fit, unfit, fits, firstFit}
 use Rattle.division.specs.Divisors.{Valid}
 use Rattle.division.proofs.FitLaws.{first-none, first-here, first-later}
 use Rattle.engine.specs.Runs.{polynomial}
-use Rattle.reducer.specs.Divisors.{leadWord, leadCoef, divisorsOf, OfLayout, Checked, Leads, FirstFit}
+use Rattle.divisors.specs.Divisors.{leadWord, leadCoef, Leads, FirstFit}
+use Rattle.reducer.specs.Divisors.{divisorsOf, OfLayout, Checked}
 use Rattle.reducer.specs.Dividing.{tailOf}
 use Rattle.reducer.proofs.DivideLaws.{part-cons}
 

@@ -1,4 +1,3 @@
-pub mod DivisorLaws
 pub mod BeginLaws
 pub mod TailLaws
 pub mod DivideLaws

@@ -25,7 +25,8 @@ use Rattle.division.proofs.Endings.{begins, begins-not}
 use Rattle.engine.specs.Runs.{polynomial}
 use Rattle.engine.specs.States.{Addend, Lent, Output, Work}
 use Rattle.reducer.specs.declared.state.State.{State}
-use Rattle.reducer.specs.Divisors.{divisorsOf, OfLayout, Checked, KeptLeads, Inverses}
+use Rattle.divisors.specs.Divisors.{KeptLeads, Inverses}
+use Rattle.reducer.specs.Divisors.{divisorsOf, OfLayout, Checked}
 use Rattle.reducer.specs.Stepping.{Counts, Ended, Going, Reaches, Sound, Stepping, Stepped, Beginning, Begun, refused, begun, Reducible, Reduced}
 use Rattle.reducer.proofs.DivideLaws.{part-long}
 use Rattle.reducer.proofs.StepLaws.{false-true, of-every}

@@ -42,7 +42,8 @@ use Rattle.division.proofs.StepLaws.{step-none, step-limit, step-kept, step-ful
 use Rattle.engine.specs.States.{Output}
 use Rattle.engine.proofs.OutputLaws.{written-long, grown, grown-output, words-past, coefs-past}
 use Rattle.reducer.specs.declared.state.State.{State}
-use Rattle.reducer.specs.Divisors.{leadWord, leadCoef, divisorsOf, OfLayout, Checked, Leads, FirstFit, KeptLeads, Inverses}
+use Rattle.divisors.specs.Divisors.{leadWord, leadCoef, Leads, FirstFit, KeptLeads, Inverses}
+use Rattle.reducer.specs.Divisors.{divisorsOf, OfLayout, Checked}
 use Rattle.reducer.specs.States.{searched, halted, removed, added, kept}
 use Rattle.reducer.specs.Dividing.{Dividing, DividedTo, over, many, divided, Divided, tailOf}
 use Rattle.reducer.specs.Stepping.{Keeping, Kept, full, put, Counts, remainderIn, Ended, Going, Reaches, Sound, Stepping, Stepped}

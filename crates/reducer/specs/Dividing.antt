@@ -19,7 +19,8 @@ use Rattle.buckets.specs.Adding.{AddDone}
 use Rattle.division.specs.Division.{tailMultiple}
 use Rattle.engine.specs.States.{Work}
 use Rattle.reducer.specs.declared.state.State.{State}
-use Rattle.reducer.specs.Divisors.{leadWord, leadCoef, OfLayout, Checked, Inverses}
+use Rattle.divisors.specs.Divisors.{leadWord, leadCoef, Inverses}
+use Rattle.reducer.specs.Divisors.{OfLayout, Checked}
 use Rattle.reducer.specs.States.{halted, removed, added}
 
 -- ---- the multiple of a tail is added

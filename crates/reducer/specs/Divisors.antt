@@ -1,28 +1,18 @@
--- The divisors as they are lent: "Polynomial 0 is added first; the others are divisors." What the search for a fitting one and the inverse of its lead coefficient ask and give. Assumes nothing.
-use Prim.Native.Nat.{ℕ, _+_, _-_, _*_, _<_, _≤_}
+-- The divisors as they are lent: "Polynomial 0 is added first; the others are divisors." Assumes nothing.
+use Prim.Native.Nat.{ℕ, _+_, _-_, _<_, _≤_}
 use mathlib.Core.Path.{_≡_}
-use mathlib.Core.Bool.{true, false}
 use mathlib.Core.List.{List}
-use mathlib.Core.Logic.{_⊎_}
 use lib.ListN.{length, getD}
-use Rattle.residue.specs.Modular.{Modulus, inverseOf}
+use Rattle.residue.specs.Modular.{Modulus}
 use Rattle.residue.specs.Prime.{Prime}
-use Rattle.residue.specs.Share.{shareOf}
 use Rattle.monomial.specs.declared.order.Order.{Order}
 use Rattle.monomial.specs.Layout.{Layout}
-use Rattle.monomial.specs.Words.{compareWords, Packed, dividesWord}
+use Rattle.monomial.specs.Words.{compareWords}
 use Rattle.polynomial.specs.Terms.{Term}
 use Rattle.polynomial.specs.Opening.{Within}
 use Rattle.space.specs.Space.{listFrom}
 use Rattle.division.specs.Divisors.{Valid}
 use Rattle.engine.specs.Runs.{polynomial}
-
--- the lead of polynomial k
-abbrev pub leadWord : (words starts : List ℕ) → ℕ → ℕ
-leadWord words starts k = getD words (getD starts k 0) 0
-
-abbrev pub leadCoef : (coefs starts : List ℕ) → ℕ → ℕ
-leadCoef coefs starts k = getD coefs (getD starts k 0) 0
 
 -- the polynomials from 1 on
 abbrev pub divisorsOf : (words coefs starts : List ℕ) → List (List (Term ℕ))
@@ -42,60 +32,3 @@ pub record Checked (o : Order) (p : ℕ) (words coefs starts : List ℕ) : Type 
   pub parts : (k : ℕ) → k + 1 < length starts → Within starts k (length words)
   pub valid : (k : ℕ) → k + 1 < length starts → Valid (compareWords o) p (OfLayout o) (polynomial words coefs starts k)
   pub not-zero : (k : ℕ) → 1 ≤ k → k + 1 < length starts → getD starts k 0 < getD starts (k + 1) 0
-
--- the leads of the divisors are there
-pub record Leads (words starts : List ℕ) : Type 0 where
-  pub some : 1 < length starts
-  pub there : (k : ℕ) → 1 ≤ k → k + 1 < length starts → getD starts k 0 < length words
-  pub packed : (k : ℕ) → 1 ≤ k → k + 1 < length starts → Packed (leadWord words starts k)
-
--- "The first divisor in the list whose lead monomial divides α"
-pub record FirstFit (words starts : List ℕ) (α k : ℕ) : Type 0 where
-  pub low : 1 ≤ k
-  pub high : k + 1 ≤ length starts
-  pub before : (j : ℕ) → 1 ≤ j → j < k → dividesWord (leadWord words starts j) α ≡ false
-  pub here : k + 1 < length starts → dividesWord (leadWord words starts k) α ≡ true
-
--- the first place from `from` on and before `past` whose lead divides α, or `past` where there is none
-pub record FirstOf (lead : ℕ → ℕ) (α from past k : ℕ) : Type 0 where
-  pub low : from ≤ k
-  pub high : k ≤ past
-  pub before : (j : ℕ) → from ≤ j → j < k → dividesWord (lead j) α ≡ false
-  pub here : k < past → dividesWord (lead k) α ≡ true
-
--- the lead monomials of the first 1,024 divisors, from place 0 on
-pub record KeptLeads (words starts leads : List ℕ) : Type 0 where
-  pub long : length leads ≡ 1024
-  pub each : (j : ℕ) → j < 1024 → j + 2 < length starts → getD leads j 0 ≡ leadWord words starts (j + 1)
-
--- how many those are, from the number of starts
-pub record KeptCount (m n : ℕ) : Type 0 where
-  pub few : n ≤ 1024
-  pub high : n + 2 ≤ m
-  pub all : n < 1024 → n + 2 ≡ m
-
--- n words, and one that they may divide
-pub record Scannable (leads : List ℕ) (n α : ℕ) : Type 0 where
-  pub there : n ≤ length leads
-  pub packed : (j : ℕ) → j < n → Packed (getD leads j 0)
-  pub word : Packed α
-
--- a factor modulo p in one number: its share, and its value below 2 ^ 16
-abbrev pub inOne : (p value : ℕ) → ℕ
-inOne p value = shareOf p value * 65536 + value
-
--- the inverses of the lead coefficients of the first 1,024 divisors, as far as they were asked for
-pub record Inverses (p : ℕ) (coefs starts inverses : List ℕ) : Type 0 where
-  pub long : length inverses ≡ 1024
-  pub each : (j : ℕ) → j < 1024 → (getD inverses j 0 ≡ 0) ⊎ (getD inverses j 0 ≡ inOne p (inverseOf p (leadCoef coefs starts (j + 1))))
-
-pub record Inverting (p : ℕ) (coefs starts : List ℕ) (k : ℕ) (inverses : List ℕ) : Type 0 where
-  pub modulus : Modulus p
-  pub short : p ≤ 65536
-  pub prime : Prime p
-  pub low : 1 ≤ k
-  pub there : k < length starts
-  pub inside : getD starts k 0 < length coefs
-  pub pos : 0 < leadCoef coefs starts k
-  pub small : leadCoef coefs starts k < p
-  pub kept : Inverses p coefs starts inverses

@@ -20,7 +20,8 @@ use Rattle.division.specs.Steps.{Reduction, stepsFrom, overWord, reductionOfWor
 use Rattle.engine.specs.Runs.{polynomial}
 use Rattle.engine.specs.States.{Work, Output}
 use Rattle.reducer.specs.declared.state.State.{State}
-use Rattle.reducer.specs.Divisors.{divisorsOf, OfLayout, Checked, KeptLeads, Inverses}
+use Rattle.divisors.specs.Divisors.{KeptLeads, Inverses}
+use Rattle.reducer.specs.Divisors.{divisorsOf, OfLayout, Checked}
 use Rattle.reducer.specs.States.{halted, kept}
 
 -- ---- the lead goes to the remainder

@@ -1,7 +1,8 @@
 // A step that divides its lead.
-use crate::divisor::lead_inverse;
 use crate::state::State;
 use buckets::add::add;
+use divisors::inverse::factor_by;
+use divisors::inverse::lead_inverse;
 use monomial::order::Order;
 use monomial::word::quotient;
 use multiple::multiple::any_over;
@@ -28,7 +29,7 @@ pub fn divide<'a>(
     k: usize,
     s: State,
     lead: Candidate,
-    inverses: &mut [u32],
+    inverses: &mut [u64],
     b: &mut [usize],
     bw: &mut [u64],
     bc: &mut [u32],
@@ -52,7 +53,7 @@ pub fn divide<'a>(
         return s.halt(11);
     }
     let inverse = lead_inverse(p, coefs, starts, k, inverses);
-    let factor = Factor::new(inverse.times(negate(lead.coef, p)), p);
+    let factor = factor_by(p, negate(lead.coef, p), inverse);
     remove_lead(b, lead.bucket);
     let r = s.remove();
     add_tail(order, p, factor, q, tw, tc, r, b, bw, bc, ww, wc, mw, mc)

@@ -1,6 +1,5 @@
 // Reductions in lent space: the normal form of one polynomial by others.
 pub mod divide; // a step that divides its lead
-pub mod divisor; // the divisor that a lead is divided by, and the inverse of its lead coefficient
 pub mod state; // what a reduction keeps between its steps
 pub mod step; // one step
 pub mod steps; // the steps in turn

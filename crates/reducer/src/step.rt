@@ -1,7 +1,7 @@
 // One step of a reduction.
 use crate::divide::divide;
-use crate::divisor::first_fit;
 use crate::state::State;
+use divisors::divisor::first_fit;
 use monomial::order::Order;
 use search::candidate::Candidate;
 use search::lead::find_lead;
@@ -19,7 +19,7 @@ pub fn step<'a>(
     leads: &[u64],
     limit: u64,
     s: State,
-    inverses: &mut [u32],
+    inverses: &mut [u64],
     b: &mut [usize],
     bw: &mut [u64],
     bc: &mut [u32],

@@ -1,8 +1,8 @@
 // The steps of a reduction in turn.
-use crate::divisor::keep_leads;
 use crate::state::State;
 use crate::step::step;
 use buckets::add::add;
+use divisors::divisor::keep_leads;
 use monomial::order::Order;
 use polynomial::part::coefs_of;
 use polynomial::part::words_of;
@@ -31,7 +31,7 @@ pub fn reduce_all<'a>(
     ensures { λ r. ⌜ Reduced order p (now (words .entry)) (now (coefs .entry)) (now (starts .entry)) limit (now (ow .entry)) (now (oc .entry)) r (now (b .exit)) (now (bw .exit)) (now (bc .exit)) (now (ow .exit)) (now (oc .exit)) ⌝ }
 {
     let mut leads = [0u64; 1024];
-    let mut inverses = [0u32; 1024];
+    let mut inverses = [0u64; 1024];
     let mut mw = [0u64; 4096];
     let mut mc = [0u32; 4096];
     keep_leads(words, starts, &mut leads);

@@ -60,6 +60,10 @@ module _ (v x p B : ℕ) (pos : 0 < p) (above : 0 < B) (small : x ≤ B) where
       let l : v * x - q * p - p < p = omega (arith, high) in
       sym (ap (λ (n : ℕ). n % p) e ∙ digits-mod (q + 1) l)
 
+-- the estimate, for any value and any B above x
+pub estimate : (v x p B : ℕ) → 0 < p → 0 < B → x ≤ B → (v * B / p * x / B * p ≤ v * x) × (v * x < v * B / p * x / B * p + p + p)
+estimate v x p B pos above small = (low v x p B pos above small, high v x p B pos above small)
+
 -- a share is at most B
 share-small : (v p B : ℕ) → v < p → 0 < B → v * B / p ≤ B
 share-small v p B h above =

@@ -8,7 +8,7 @@ use Rattle.reducer.proofs.step.step.Tie as tie
 use Rattle.reducer.proofs.step.step.Reads as reads
 use Rattle.reducer.proofs.step.step.Lts as lts
 use Rattle.reducer.proofs.divide.divide.Reads as divide-reads
-use Rattle.reducer.proofs.divisor.first_fit.Reads as first-fit-reads
+use Rattle.divisors.proofs.divisor.first_fit.Reads as first-fit-reads
 use Rattle.reducer.proofs.state.State.halt.Reads as halt-reads
 use Rattle.reducer.proofs.state.State.search.Reads as search-reads
 use Rattle.reducer.proofs.step.keep.Reads as keep-reads

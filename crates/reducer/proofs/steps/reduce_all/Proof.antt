@@ -2,7 +2,7 @@
 use mathlib.Core.Path.{sym, ap, _∙_}
 use Prim.Native.Nat.{ℕ, _-_}
 use lib.ListN.{length, length-replicate}
-use Rattle.reducer.proofs.DivisorLaws.{none-kept}
+use Rattle.divisors.proofs.InverseLaws.{none-kept}
 use Rattle.reducer.proofs.FirstLaws.{leads-there}
 use Rattle.reducer.proofs.ReduceLaws.{leftBy, Turning, first-words, first-coefs, addend, beginning, turn-start, turn-asks, turn-on, turn-less, turn-end}
 use Rattle.reducer.proofs.steps.reduce_all.Statement.{statement}
@@ -11,7 +11,7 @@ use Rattle.reducer.proofs.steps.reduce_all.Reads as reads
 use Rattle.reducer.proofs.steps.reduce_all.Lts as lts
 use Rattle.polynomial.proofs.part.coefs_of.Reads as coefs-of-reads
 use Rattle.polynomial.proofs.part.words_of.Reads as words-of-reads
-use Rattle.reducer.proofs.divisor.keep_leads.Reads as keep-leads-reads
+use Rattle.divisors.proofs.divisor.keep_leads.Reads as keep-leads-reads
 use Rattle.reducer.proofs.step.step.Reads as step-reads
 use Rattle.reducer.proofs.steps.begin.Reads as begin-reads
 

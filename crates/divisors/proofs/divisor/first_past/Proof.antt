@@ -1,14 +1,14 @@
--- `reducer::divisor::first_past` meets its contract: after each turn the divisors from `from` on and before k do not fit. Assumes nothing.
+-- `divisors::divisor::first_past` meets its contract: after each turn the divisors from `from` on and before k do not fit. Assumes nothing.
 use mathlib.Core.Path.{sym, _∙_}
 use Prim.Native.Nat.{_+_, _-_}
 use native.Mathlib.Omega.{arith}
 use lib.ListN.{length}
-use Rattle.reducer.specs.Divisors.{leadWord}
-use Rattle.reducer.proofs.DivisorLaws.{Scanned, scan-start, scan-fits, scan-none, scan-next}
-use Rattle.reducer.proofs.divisor.first_past.Statement.{statement}
-use Rattle.reducer.proofs.divisor.first_past.Tie as tie
-use Rattle.reducer.proofs.divisor.first_past.Reads as reads
-use Rattle.reducer.proofs.divisor.first_past.Lts as lts
+use Rattle.divisors.specs.Divisors.{leadWord}
+use Rattle.divisors.proofs.DivisorLaws.{Scanned, scan-start, scan-fits, scan-none, scan-next}
+use Rattle.divisors.proofs.divisor.first_past.Statement.{statement}
+use Rattle.divisors.proofs.divisor.first_past.Tie as tie
+use Rattle.divisors.proofs.divisor.first_past.Reads as reads
+use Rattle.divisors.proofs.divisor.first_past.Lts as lts
 use Rattle.monomial.proofs.word.divides.Reads as divides-reads
 
 abbrev Inv-loop : tie.InvT-loop

@@ -1,14 +1,14 @@
--- `reducer::divisor::first_kept` meets its contract: after each turn the leads before k do not divide the word. Assumes nothing.
+-- `divisors::divisor::first_kept` meets its contract: after each turn the leads before k do not divide the word. Assumes nothing.
 use mathlib.Core.Path.{sym, _∙_}
 use Prim.Native.Nat.{ℕ, zero-le, _-_}
 use native.Mathlib.Omega.{arith}
 use borrow.Author.Needs.{needs}
 use lib.ListN.{getD}
-use Rattle.reducer.proofs.DivisorLaws.{Scanned, scan-start, scan-fits, scan-none, scan-next}
-use Rattle.reducer.proofs.divisor.first_kept.Statement.{statement}
-use Rattle.reducer.proofs.divisor.first_kept.Tie as tie
-use Rattle.reducer.proofs.divisor.first_kept.Reads as reads
-use Rattle.reducer.proofs.divisor.first_kept.Lts as lts
+use Rattle.divisors.proofs.DivisorLaws.{Scanned, scan-start, scan-fits, scan-none, scan-next}
+use Rattle.divisors.proofs.divisor.first_kept.Statement.{statement}
+use Rattle.divisors.proofs.divisor.first_kept.Tie as tie
+use Rattle.divisors.proofs.divisor.first_kept.Reads as reads
+use Rattle.divisors.proofs.divisor.first_kept.Lts as lts
 use Rattle.monomial.proofs.word.divides.Reads as divides-reads
 
 abbrev Inv-loop : tie.InvT-loop

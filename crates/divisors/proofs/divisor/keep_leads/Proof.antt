@@ -1,15 +1,15 @@
--- `reducer::divisor::keep_leads` meets its contract: after each turn the leads before i are put. Assumes nothing.
+-- `divisors::divisor::keep_leads` meets its contract: after each turn the leads before i are put. Assumes nothing.
 use mathlib.Core.Path.{refl, sym, _∙_}
 use Prim.Native.Nat.{_+_, _-_}
 use native.Mathlib.Omega.{arith}
 use borrow.Author.Needs.{needs}
 use lib.ListN.{length}
-use Rattle.reducer.proofs.DivisorLaws.{LeadsPut, put-none, put-more, put-all}
-use Rattle.reducer.proofs.divisor.keep_leads.Statement.{statement}
-use Rattle.reducer.proofs.divisor.keep_leads.Tie as tie
-use Rattle.reducer.proofs.divisor.keep_leads.Reads as reads
-use Rattle.reducer.proofs.divisor.keep_leads.Lts as lts
-use Rattle.reducer.proofs.divisor.count_kept.Reads as count-kept-reads
+use Rattle.divisors.proofs.DivisorLaws.{LeadsPut, put-none, put-more, put-all}
+use Rattle.divisors.proofs.divisor.keep_leads.Statement.{statement}
+use Rattle.divisors.proofs.divisor.keep_leads.Tie as tie
+use Rattle.divisors.proofs.divisor.keep_leads.Reads as reads
+use Rattle.divisors.proofs.divisor.keep_leads.Lts as lts
+use Rattle.divisors.proofs.divisor.count_kept.Reads as count-kept-reads
 
 abbrev Inv-loop : tie.InvT-loop
 Inv-loop words starts leads₀ n i₀ leads i = LeadsPut words starts n leads i

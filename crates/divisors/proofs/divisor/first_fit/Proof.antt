@@ -1,13 +1,13 @@
--- `reducer::divisor::first_fit` meets its contract: none of the kept leads fits where none is found among them. Assumes nothing.
+-- `divisors::divisor::first_fit` meets its contract: none of the kept leads fits where none is found among them. Assumes nothing.
 use borrow.Author.Needs.{needs}
-use Rattle.reducer.proofs.DivisorLaws.{scannable, fit-kept, fit-past}
-use Rattle.reducer.proofs.divisor.first_fit.Statement.{statement}
-use Rattle.reducer.proofs.divisor.first_fit.Tie as tie
-use Rattle.reducer.proofs.divisor.first_fit.Reads as reads
-use Rattle.reducer.proofs.divisor.first_fit.Lts as lts
-use Rattle.reducer.proofs.divisor.count_kept.Reads as count-kept-reads
-use Rattle.reducer.proofs.divisor.first_kept.Reads as first-kept-reads
-use Rattle.reducer.proofs.divisor.first_past.Reads as first-past-reads
+use Rattle.divisors.proofs.DivisorLaws.{scannable, fit-kept, fit-past}
+use Rattle.divisors.proofs.divisor.first_fit.Statement.{statement}
+use Rattle.divisors.proofs.divisor.first_fit.Tie as tie
+use Rattle.divisors.proofs.divisor.first_fit.Reads as reads
+use Rattle.divisors.proofs.divisor.first_fit.Lts as lts
+use Rattle.divisors.proofs.divisor.count_kept.Reads as count-kept-reads
+use Rattle.divisors.proofs.divisor.first_kept.Reads as first-kept-reads
+use Rattle.divisors.proofs.divisor.first_past.Reads as first-past-reads
 
 count-kept-requires : tie.Need-count-kept-requires
 count-kept-requires c κs = search needs

@@ -1,16 +1,10 @@
 // The divisor that a lead is divided by.
 use monomial::word::divides;
-use residue::factor::Factor;
-use residue::inverse::invert;
 ghost use mathlib.Core.Path.{_≡_};
 ghost use Prim.Native.Nat.{_+_, _-_, _<_, _≤_};
 ghost use lib.ListN.{length, getD};
-ghost use Rattle.residue.specs.Modular.{inverseOf};
-ghost use Rattle.residue.specs.Share.{FactorOf};
 ghost use Rattle.monomial.specs.Words.{Packed};
-ghost use Rattle.reducer.specs.Divisors.{leadWord, leadCoef, Leads, FirstFit, FirstOf, KeptLeads, KeptCount, Scannable, Inverting, Inverses};
-
-const HALF: u32 = 65536;
+ghost use Rattle.divisors.specs.Divisors.{leadWord, Leads, FirstFit, FirstOf, KeptLeads, KeptCount, Scannable};
 
 // Puts the lead monomials of the first 1,024 divisors into `leads`.
 pub fn keep_leads(words: &[u64], starts: &[usize], leads: &mut [u64])
@@ -79,33 +73,4 @@ fn first_past(words: &[u64], starts: &[usize], from: usize, word: u64) -> usize
         k += 1;
     }
     k
-}
-
-// The inverse of the lead coefficient of divisor k, as a factor. Those of the first 1,024 divisors are
-// kept, value and share in one number, and 0 stands for one that was not asked for yet.
-pub fn lead_inverse(
-    p: u32,
-    coefs: &[u32],
-    starts: &[usize],
-    k: usize,
-    inverses: &mut [u32],
-) -> Factor
-    requires { ⌜ Inverting p (now coefs) (now starts) k (now inverses) ⌝ }
-    ensures { λ r. ⌜ FactorOf p (inverseOf p (leadCoef (now (coefs .entry)) (now (starts .entry)) k)) r × Inverses p (now (coefs .entry)) (now (starts .entry)) (now (inverses .exit)) ⌝ }
-{
-    let c = coefs[starts[k]];
-    if k > 1024 {
-        return Factor::new(invert(c, p), p);
-    }
-    let kept = inverses[k - 1];
-    if kept != 0 {
-        return Factor {
-            value: kept % HALF,
-            share: kept / HALF,
-            prime: p,
-        };
-    }
-    let inverse = Factor::new(invert(c, p), p);
-    inverses[k - 1] = inverse.share * HALF + inverse.value;
-    inverse
 }

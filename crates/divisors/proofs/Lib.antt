@@ -1,0 +1,2 @@
+pub mod DivisorLaws
+pub mod InverseLaws

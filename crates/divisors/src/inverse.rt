@@ -1,0 +1,68 @@
+// The inverses of the divisors' lead coefficients, and the factors that they make, with no division
+// for each. An inverse stands in one number: itself in the low 16 bits, its share of p above.
+use residue::factor::Factor;
+use residue::inverse::invert;
+ghost use mathlib.Core.Path.{_≡_};
+ghost use Prim.Native.Nat.{_+_, _*_, _/_, _%_, _<_, _≤_};
+ghost use Rattle.residue.specs.Modular.{Modulus, product, inverseOf};
+ghost use Rattle.residue.specs.Share.{FactorOf};
+ghost use Rattle.divisors.specs.Divisors.{leadCoef, inOne, Inverting, Inverses, Multiplying};
+
+const HALF: u64 = 65536;
+
+const WORD: u64 = 4294967296;
+
+// The inverse of the lead coefficient of divisor k, in one number. Those of the first 1,024 divisors
+// are kept, and 0 stands for one that was not asked for yet.
+pub fn lead_inverse(p: u32, coefs: &[u32], starts: &[usize], k: usize, inverses: &mut [u64]) -> u64
+    requires { ⌜ Inverting p (now coefs) (now starts) k (now inverses) ⌝ }
+    ensures { λ r. ⌜ (r ≡ inOne p (inverseOf p (leadCoef (now (coefs .entry)) (now (starts .entry)) k))) × Inverses p (now (coefs .entry)) (now (starts .entry)) (now (inverses .exit)) ⌝ }
+{
+    let c = coefs[starts[k]];
+    if k > 1024 {
+        return in_one(invert(c, p), p);
+    }
+    let kept = inverses[k - 1];
+    if kept != 0 {
+        return kept;
+    }
+    let inverse = in_one(invert(c, p), p);
+    inverses[k - 1] = inverse;
+    inverse
+}
+
+// The factor x times the inverse. With the share in parts of 2^48 one product gives the quotient and
+// the factor's share at once.
+pub fn factor_by(p: u32, x: u32, inverse: u64) -> Factor
+    requires { ⌜ Multiplying p x inverse ⌝ }
+    ensures { λ r. ⌜ FactorOf p (product p x (inverse % 65536)) r ⌝ }
+{
+    let whole = x as u64 * (inverse % HALF);
+    let estimate = inverse / HALF * x as u64 / WORD;
+    let share = correct(whole * HALF, estimate, p as u64);
+    Factor {
+        value: (whole - share / HALF * p as u64) as u32,
+        share: (share % HALF) as u32,
+        prime: p,
+    }
+}
+
+// A number below p in one number with its share: the one division.
+fn in_one(value: u32, p: u32) -> u64
+    requires { ⌜ Modulus p × (p ≤ 65536) × (value < p) ⌝ }
+    ensures { λ r. ⌜ r ≡ inOne p value ⌝ }
+{
+    value as u64 * 281474976710656 / p as u64 * HALF + value as u64
+}
+
+// n divided by p, from an estimate that is right or one too small.
+fn correct(n: u64, estimate: u64, p: u64) -> u64
+    requires { ⌜ (estimate * p ≤ n) × (n < estimate * p + p + p) × (0 < p) ⌝ }
+    ensures { λ r. ⌜ r ≡ n / p ⌝ }
+{
+    if n - estimate * p < p {
+        estimate
+    } else {
+        estimate + 1
+    }
+}
