@@ -14,6 +14,7 @@ use Rattle.residue.specs.Modular.{Modulus}
 use Rattle.monomial.specs.TotalOrder.{TotalOrder}
 use Rattle.polynomial.specs.Terms.{Term, terms, Canonical}
 use Rattle.polynomial.specs.Opening.{partOf, Within}
+use Rattle.polynomial.proofs.StartLaws.{part-long}
 use Rattle.merge.specs.Lent.{part}
 use Rattle.geobucket.specs.Buckets.{empty, held}
 use Rattle.space.specs.Space.{Buckets, bucketsIn, Stands, noBuckets}
@@ -23,9 +24,6 @@ use Rattle.engine.specs.Runs.{Operation, adds, leads, sums, Running, beg
 use Rattle.engine.specs.States.{standsFor, Counting, Output, Work, Addend, Operated, AddOperated, Operable, Loaded, Lent, initial, RanAll}
 
 -- ---- the part that is polynomial k
-part-long : (starts : List ℕ) (k : ℕ) (l : List ℕ) → Within starts k (length l) → length (partOf starts k l) ≡ getD starts (k + 1) 0 - getD starts k 0
-part-long starts k l w = length-take-le (getD starts (k + 1) 0 - getD starts k 0) (drop (getD starts k 0) l) (let e = w .ends in omega (arith, w .rise, length-drop (getD starts k 0) l))
-
 module _ {cmp : ℕ → ℕ → Ordering} {p : ℕ} {words coefs starts : List ℕ} {code k : ℕ} {s : State} {b : Buckets} {bw bc ww wc ow oc : List ℕ} (a : Operable cmp p words coefs starts code k s b bw bc ww wc ow oc) where
   module _ (one : code ≡ 1) where
     pub words-there : Within starts k (length words)

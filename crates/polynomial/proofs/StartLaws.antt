@@ -8,10 +8,10 @@ use native.Mathlib.Numerals.{add-one}
 use native.Mathlib.Omega.{arith}
 use borrow.Author.Tests.{le-leb, lt-leb, eq-eqb, ne-eqb, leb-true, eqb-true}
 use lib.Dec.{leb, eqb}
-use lib.ListN.{length, getD, drop, drop-of-length-le}
-use lib.Seq.{drop-cons}
+use lib.ListN.{length, getD, take, drop, length-drop, drop-of-length-le}
+use lib.Seq.{drop-cons, length-take-le}
 use Rattle.monomial.proofs.Places.{and-both}
-use Rattle.polynomial.specs.Opening.{riseTo, startsGood, Within}
+use Rattle.polynomial.specs.Opening.{riseTo, startsGood, partOf, Within}
 
 pub none-bad : (ss : List ℕ) (len : ℕ) → length ss ≡ 0 → false ≡ startsGood ss len
 unfolding startsGood
@@ -75,3 +75,7 @@ good-within (s ∷ ss) len h k l =
     let e = rise-within s ss len (and-both (eqb s 0) (riseTo s ss len) h .1) k (let m : k < length ss = omega arith in m) in
     let q : getD (s ∷ ss) (k + 1) 0 ≡ getD ss k 0 = ap (λ (n : ℕ). getD (s ∷ ss) n 0) (add-one k) in
     record { there = l; rise = omega (arith, e .0); ends = omega (arith, e .1) }
+
+-- the terms of polynomial k
+pub part-long : (starts : List ℕ) (k : ℕ) (l : List ℕ) → Within starts k (length l) → length (partOf starts k l) ≡ getD starts (k + 1) 0 - getD starts k 0
+part-long starts k l w = length-take-le (getD starts (k + 1) 0 - getD starts k 0) (drop (getD starts k 0) l) (let e = w .ends in omega (arith, w .rise, length-drop (getD starts k 0) l))

@@ -17,6 +17,7 @@ use Rattle.monomial.proofs.LayoutLaws.{layout-packed}
 use Rattle.polynomial.specs.Terms.{Term, term, terms, All, Canonical}
 use Rattle.polynomial.specs.Multiple.{multiple}
 use Rattle.polynomial.specs.Opening.{partOf, Within}
+use Rattle.polynomial.proofs.StartLaws.{part-long}
 use Rattle.multiple.specs.Multiplying.{AllPacked, anyOver}
 use Rattle.geobucket.specs.Buckets.{held}
 use Rattle.space.specs.Space.{Buckets, bucketsIn, heldIn, dropped}
@@ -49,9 +50,6 @@ all-packed o (w ∷ ws) [] e a = absurd (let z : ⊥ = omega arith in z)
 all-packed o (w ∷ ws) (c ∷ cs) e a = (layout-packed o 6 w (omega arith) (a .0), all-packed o ws cs (let z : length cs ≡ length ws = omega arith in z) (a .1))
 
 -- ---- the polynomial of a divisor is its lead and its tail
-pub part-long : (starts : List ℕ) (k : ℕ) (l : List ℕ) → Within starts k (length l) → length (partOf starts k l) ≡ getD starts (k + 1) 0 - getD starts k 0
-part-long starts k l w = length-take-le (getD starts (k + 1) 0 - getD starts k 0) (drop (getD starts k 0) l) (let e = w .ends in omega (arith, w .rise, length-drop (getD starts k 0) l))
-
 pub part-cons : (starts : List ℕ) (k : ℕ) (l : List ℕ) → Within starts k (length l) → getD starts k 0 < getD starts (k + 1) 0 → partOf starts k l ≡ getD l (getD starts k 0) 0 ∷ tailOf starts k l
 part-cons starts k l w rises = by (getD starts (k + 1) 0 - getD starts k 0) (let z : 0 < getD starts (k + 1) 0 - getD starts k 0 = omega arith in z)
   where

@@ -11,6 +11,7 @@ use Rattle.monomial.specs.Words.{compareWords, dividesWord}
 use Rattle.monomial.proofs.OrderLaws.{words-order}
 use Rattle.polynomial.specs.Terms.{Term, All, terms}
 use Rattle.polynomial.specs.Opening.{partOf, Within}
+use Rattle.polynomial.proofs.StartLaws.{part-long}
 use Rattle.geobucket.specs.Buckets.{empty, held, Good, add, addCompared}
 use Rattle.geobucket.specs.Events as events
 use Rattle.geobucket.proofs.AddLaws.{adds}
@@ -28,7 +29,6 @@ use Rattle.reducer.specs.declared.state.State.{State}
 use Rattle.divisors.specs.Divisors.{KeptLeads, Inverses}
 use Rattle.reducer.specs.Divisors.{divisorsOf, OfLayout, Checked}
 use Rattle.reducer.specs.Stepping.{Counts, Ended, Going, Reaches, Sound, Stepping, Stepped, Beginning, Begun, refused, begun, Reducible, Reduced}
-use Rattle.reducer.proofs.DivideLaws.{part-long}
 use Rattle.reducer.proofs.StepLaws.{false-true, of-every}
 
 -- the steps that may still come
