@@ -1,7 +1,9 @@
 //! Merges, geobuckets, runs, reductions and the block store for the benchmark: the proved ones through
 //! the static libraries `probe` and `damselbuckle`, and others in plain Rust. `lists` makes what they
-//! merge; `buckets` times geobuckets, `runs` and `reductions` whole calls, `workload` calls from a
-//! file, and `blocks` the block store.
+//! merge; `buckets` times geobuckets, `runs` and `reductions` whole calls, `singular` reductions beside
+//! Singular, `workload` calls from a file, `beside` the same beside another engine, and `blocks` the
+//! block store; `bound` sets comparisons beside their bound, and `picture` draws them.
+pub mod beside;
 pub mod blocks;
 pub mod bound;
 pub mod buckets;

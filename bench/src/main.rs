@@ -1,6 +1,8 @@
 //! Times the proved functions beside the same in plain Rust, and prints the table that is asked for
-//! by its name; or does the calls of a workload's file: `calls FILE`, `time FILE SECONDS` or
-//! `passes FILE N`. It fails only where results differ.
+//! by its name; or does the calls of a workload's file: `calls FILE`, `time FILE SECONDS`,
+//! `passes FILE N` or `beside ENGINE ROUNDS FILE ..`; or sets comparisons beside their bound: `bound
+//! PICTURE`. It fails only where results differ.
+use bench::beside::beside;
 use bench::blocks::blocks;
 use bench::bound::bound;
 use bench::buckets;
@@ -48,10 +50,13 @@ fn main() {
         ["singular"] => singular(),
         ["blocks"] => blocks(),
         ["bound", file] => bound(file),
+        ["beside", engine, rounds, ref files @ ..] => {
+            beside(engine, rounds.parse().expect("rounds"), files)
+        }
         ["calls", file] => workload(file).calls(),
         ["time", file, seconds] => workload(file).time(seconds.parse().expect("seconds")),
         ["passes", file, passes] => workload(file).passes(passes.parse().expect("passes")),
-        _ => panic!("merges, buckets, leads, settling, runs, reductions, singular, blocks, bound, calls, time or passes"),
+        _ => panic!("merges, buckets, leads, settling, runs, reductions, singular, blocks, bound, beside, calls, time or passes"),
     }
 }
 
