@@ -30,7 +30,10 @@ impl Row<'_> {
         let [own, other] = self.best;
         println!(
             "| {} | {:.1} | {:.1} | {:.3} | {:.3} |",
-            Path::new(self.file).file_stem().unwrap_or_default().display(),
+            Path::new(self.file)
+                .file_stem()
+                .unwrap_or_default()
+                .display(),
             own * 1e6,
             other * 1e6,
             own / other,

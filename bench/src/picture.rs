@@ -32,7 +32,9 @@ impl Picture {
         }
         for (k, (family, colour)) in families.iter().zip(COLOURS).enumerate() {
             let (x, y) = (LEFT + 20.0, TOP + 55.0 + 18.0 * k as f64);
-            picture.line(format!("<circle cx=\"{x}\" cy=\"{y}\" r=\"4\" fill=\"{colour}\"/>"));
+            picture.line(format!(
+                "<circle cx=\"{x}\" cy=\"{y}\" r=\"4\" fill=\"{colour}\"/>"
+            ));
             picture.text_at(x + 10.0, y + 4.0, "start", family.name);
         }
         picture

@@ -85,7 +85,12 @@ pub(crate) fn in_layout(allowed: u64, word: u64) -> bool {
 
 /// Whether a polynomial is not refused. There is no branch on the terms.
 #[inline(always)]
-pub(crate) fn polynomial_good(key: impl Fn(u64) -> u64, p: u32, allowed: u64, (words, coefs): Terms) -> bool {
+pub(crate) fn polynomial_good(
+    key: impl Fn(u64) -> u64,
+    p: u32,
+    allowed: u64,
+    (words, coefs): Terms,
+) -> bool {
     let mut good = true;
     for (&word, &coef) in words.iter().zip(coefs) {
         good &= coef.wrapping_sub(1) < p - 1;
