@@ -18,7 +18,7 @@ ghost use mathlib.Core.List.{[]};
 ghost use Rattle.polynomial.specs.Terms.{terms};
 ghost use Rattle.geobucket.specs.Buckets.{addCompared, sumCompared};
 ghost use Rattle.geobucket.specs.Search.{search};
-ghost use Rattle.space.specs.Space.{Stands, AtReturn, bucketsIn};
+ghost use Rattle.space.specs.Space.{Stands, AtReturn, bucketsIn, noBuckets, dropped};
 ghost use Rattle.buckets.specs.Adding.{Addition};
 ghost use Rattle.buckets.specs.Summing.{Summation};
 ghost use Rattle.search.specs.Searching.{Removal};
@@ -39,6 +39,7 @@ fn put_number(s: &mut [u64], i: usize, n: u64)
 #[no_mangle]
 pub extern "C" fn probe_buckets_empty(state: &mut [usize])
     requires { ⌜ length (now state) ≡ 12 ⌝ }
+    ensures { λ _. ⌜ now (state .exit) ≡ noBuckets ⌝ }
 {
     clear(state);
 }
@@ -106,6 +107,7 @@ pub extern "C" fn probe_buckets_take_lead(
 #[no_mangle]
 pub extern "C" fn probe_buckets_take(state: &mut [usize], bucket: usize)
     requires { ⌜ Removal (now state) bucket ⌝ }
+    ensures { λ _. ⌜ now (state .exit) ≡ dropped (now (state .entry)) bucket ⌝ }
 {
     remove_lead(state, bucket);
 }

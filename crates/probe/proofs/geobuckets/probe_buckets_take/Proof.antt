@@ -1,4 +1,4 @@
--- `probe::geobuckets::probe_buckets_take` is safe and ends. Assumes nothing.
+-- `probe::geobuckets::probe_buckets_take` meets its contract. Assumes nothing.
 use borrow.Author.Needs.{needs}
 use Rattle.probe.proofs.geobuckets.probe_buckets_take.Statement.{statement}
 use Rattle.probe.proofs.geobuckets.probe_buckets_take.Tie as tie
