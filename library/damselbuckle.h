@@ -31,7 +31,11 @@
 extern "C" {
 #endif
 
-/* ---- Sizes */
+/* ---- Limits, each once */
+
+/* The largest prime, and the most variables. */
+#define DAMSELBUCKLE_LARGEST_PRIME 65521
+#define DAMSELBUCKLE_MOST_VARIABLES 6
 
 /* Places of the bucket space and of the work space, for words and for coefficients. */
 #define DAMSELBUCKLE_BUCKET_PLACES 5460
@@ -40,13 +44,13 @@ extern "C" {
 /* The most terms that the buckets hold, and that are written to blocks. */
 #define DAMSELBUCKLE_MOST_TERMS 4096
 
+/* The most operations of a run, and the largest step limit of a reduction. */
+#define DAMSELBUCKLE_MOST_OPERATIONS 16777216
+#define DAMSELBUCKLE_MOST_STEPS UINT64_C(8796093022208)
+
 /* The bytes of a block, and the most blocks of a polynomial. */
 #define DAMSELBUCKLE_BLOCK_BYTES 512
 #define DAMSELBUCKLE_MOST_BLOCKS 100
-
-/* The most operations of a run, and the largest step limit of a reduction. */
-#define DAMSELBUCKLE_MOST_OPERATIONS 16777216
-#define DAMSELBUCKLE_LARGEST_LIMIT UINT64_C(8796093022208)
 
 /* The most bytes of a script, and the bytes that a listing must be lent. */
 #define DAMSELBUCKLE_SCRIPT_BYTES 16384
@@ -67,51 +71,77 @@ extern "C" {
 /*
  * ---- Refusals
  *
- * 0 is none. A refusal at the opening (1 to 9, and every one of the block store and of a listing) leaves
- * all lent memory as it came, the tally too. The others stop a run or a reduction on its way: then the
- * terms given out so far are in the output, those still held in the bucket space, the work space is all
- * 0 and the tally says what was done. The opening checks go in the order 1, 2, 3, 8, 9, then for each
- * polynomial in turn the first place with 4 or 5, then 6, and at last 7.
+ * 0 is none. A refusal at the opening leaves all lent memory as it came, the tally too. One that stops a
+ * run or a reduction on its way leaves what was given out so far in the output, as many places as the
+ * answer says, the terms still held in the bucket space, the work space all 0, and the tally says what
+ * was done. A run is stopped before the refused operation. A reduction is stopped before the lead is
+ * removed: it stays in the buckets, like terms added up.
+ *
+ * The opening checks go in the order 1, 2, 3, 8, 9, then for each polynomial in turn the first place with
+ * 4 or 5, then 6, and at last 7.
+ *
+ * The shape (8): words and coefficients, of the input and of the output, have equal lengths; the spaces
+ * have the sizes above; the starts begin with 0, do not fall and end with the number of words; operations
+ * are whole pairs, and not too many; the step limit is not too large; a reduction has a polynomial 0.
+ *
+ * Room (10): a lead or a term of the remainder needs one free output place, a full sum one more than the
+ * terms held, the block store all of its places, a listing DAMSELBUCKLE_LISTING_BYTES bytes.
+ *
+ * Too many terms (11): those held and those to add together; in a reduction the lead that is divided is
+ * not counted. Where polynomial 0 of a reduction has too many by itself, no lead is removed, and the
+ * spaces and the tally are all 0.
+ *
+ * Below, `write` and `read` are those of blocks; `print` is what a listing's text says, `refused R at K`,
+ * while its call answers 0.
  */
 
-/* The problem. */
-#define DAMSELBUCKLE_NOT_PRIME 1 /* p is not a prime from 2 to 65,521 */
-#define DAMSELBUCKLE_BAD_ORDER 2 /* the order is not 1, 2 or 3 */
-#define DAMSELBUCKLE_BAD_VARIABLES 3 /* the number n of variables is not 1 to 6 */
-
-/* A polynomial. */
-#define DAMSELBUCKLE_BAD_COEFFICIENT 4 /* a coefficient is 0, or not below p */
-#define DAMSELBUCKLE_BAD_LAYOUT 5 /* a word is not of the layout above */
-#define DAMSELBUCKLE_NOT_FALLING 6 /* the terms do not fall strictly in the order */
-#define DAMSELBUCKLE_ZERO_DIVISOR 7 /* in a reduction, a polynomial but the first is zero */
-
-/* The call. */
-/* Words and coefficients, of the input or of the output, have unequal lengths; the bucket space or the
- * work space has another size than above; starts are missing, do not begin with 0, fall, or do not end
- * with the number of words; operations are not whole pairs, or too many; the step limit is too large; or
- * a reduction has no polynomial 0. */
+/* made from refusals.txt by make_refusals: begin */
+/* What each call gives
+ * run: 1, 2, 3, 4, 5, 6, 8, 9, 10, 11
+ * reduce: 1, 2, 3, 4, 5, 6, 7, 8, 10, 11, 12, 13
+ * write: 1, 2, 3, 4, 5, 6, 8, 10, 11
+ * read: 1, 2, 3, 4, 5, 6, 8, 10, 14, 15, 16
+ * print: 1, 3, 4, 5, 6, 17
+ * listing: 10 */
+/* p is not a prime from 2 to 65,521. After it: all as it came. */
+#define DAMSELBUCKLE_NOT_PRIME 1
+/* the order is not 1, 2 or 3. After it: all as it came. */
+#define DAMSELBUCKLE_BAD_ORDER 2
+/* the number n of variables is not 1 to 6. After it: all as it came. */
+#define DAMSELBUCKLE_BAD_VARIABLES 3
+/* a coefficient is 0, or not below p. After it: all as it came. */
+#define DAMSELBUCKLE_BAD_COEFFICIENT 4
+/* a word is not of the layout: an exponent over 127, a wrong degree, or a variable past the n-th.
+ * After it: all as it came. */
+#define DAMSELBUCKLE_BAD_LAYOUT 5
+/* the terms of a polynomial do not fall strictly in the order. After it: all as it came. */
+#define DAMSELBUCKLE_NOT_FALLING 6
+/* a divisor is zero. After it: all as it came. */
+#define DAMSELBUCKLE_ZERO_DIVISOR 7
+/* lengths, sizes, starts, number of operations or step limit are wrong, or a reduction has no
+ * polynomial 0. After it: all as it came. */
 #define DAMSELBUCKLE_BAD_SHAPE 8
-#define DAMSELBUCKLE_BAD_OPERATION 9 /* an operation is none of the three, k is not there, or its 0 is not 0 */
-/* There is too little room: a lead or a term of the remainder needs one free output place, a full sum
- * one more than its terms held, the block store all of its places, a listing 65,536 bytes. A run stops
- * before the operation, a reduction before the lead is removed: it stays in the buckets, like terms
- * added up. */
+/* an operation is unknown, names a polynomial that is not there, or has a second number that is not
+ * 0. After it: all as it came. */
+#define DAMSELBUCKLE_BAD_OPERATION 9
+/* there is too little room for the output. After it: stopped in run and reduce, else all as it came. */
 #define DAMSELBUCKLE_NO_OUTPUT 10
-
-/* The course of the work. */
-/* The terms held and those to add would be more than 4,096 (in a reduction the lead that is divided is
- * not counted); or that many are to be written to blocks. A run stops before the addition, a reduction
- * as for 10. Where polynomial 0 of a reduction has more terms than that, no lead is removed, and the
- * spaces and the tally are all 0. */
+/* over 4,096 terms would be held, or are to be written. After it: stopped in run and reduce, else
+ * all as it came. */
 #define DAMSELBUCKLE_TOO_MANY_TERMS 11
-#define DAMSELBUCKLE_EXPONENT_OVER 12 /* in a reduction a product has an exponent over 127; left as for 10 */
-#define DAMSELBUCKLE_STEP_LIMIT 13 /* as many leads as the limit says are removed, and one is left; as for 10 */
-
-/* Blocks and scripts. */
-#define DAMSELBUCKLE_NOT_BLOCKS 14 /* the bytes are not 1 to 100 whole blocks */
-#define DAMSELBUCKLE_BAD_CHECK 15 /* the check of a block is wrong */
-#define DAMSELBUCKLE_BAD_BLOCK 16 /* a block's numbers or filler are not what writing would put there */
-#define DAMSELBUCKLE_BAD_SCRIPT 17 /* a script is not of the form; it is only printed, in a listing */
+/* a product has an exponent over 127. After it: stopped. */
+#define DAMSELBUCKLE_EXPONENT_OVER 12
+/* the step limit is reached, and a lead is left. After it: stopped. */
+#define DAMSELBUCKLE_STEP_LIMIT 13
+/* the bytes are not 1 to 100 whole blocks. After it: all as it came. */
+#define DAMSELBUCKLE_NOT_BLOCKS 14
+/* the check of a block is wrong. After it: all as it came. */
+#define DAMSELBUCKLE_BAD_CHECK 15
+/* a block's numbers or filler are not what writing would put there. After it: all as it came. */
+#define DAMSELBUCKLE_BAD_BLOCK 16
+/* the script is not of the form. After it: the listing `refused 17 at 0`. */
+#define DAMSELBUCKLE_BAD_SCRIPT 17
+/* made from refusals.txt by make_refusals: end */
 
 /* ---- What the functions answer and set */
 
@@ -124,25 +154,25 @@ typedef struct damselbuckle_tally {
 } damselbuckle_tally;
 
 typedef struct damselbuckle_run_answer {
-    uint64_t refusal; /* 0, or 1 to 6 or 8 to 11 */
+    uint64_t refusal; /* 0, or one that run gives */
     uint64_t finished; /* operations done; where refused, before it */
-    uint64_t places; /* output places written; where refused, 0 */
+    uint64_t places; /* output places written; where refused, before it */
 } damselbuckle_run_answer;
 
 typedef struct damselbuckle_reduction_answer {
-    uint64_t refusal; /* 0, or 1 to 8 or 10 to 13 */
+    uint64_t refusal; /* 0, or one that reduce gives */
     uint64_t leads; /* leads removed; where refused, before it */
-    uint64_t terms; /* terms of the remainder; where refused, 0 */
+    uint64_t terms; /* terms of the remainder that are in the output; where refused, before it */
 } damselbuckle_reduction_answer;
 
 typedef struct damselbuckle_write_answer {
-    uint64_t refusal; /* 0, or 1 to 6, 8, 10 or 11 */
+    uint64_t refusal; /* 0, or one that write gives */
     uint64_t finished; /* always 0 */
     uint64_t blocks; /* blocks written; where refused, 0 */
 } damselbuckle_write_answer;
 
 typedef struct damselbuckle_read_answer {
-    uint64_t refusal; /* 0, or 1 to 6, 8, 10 or 14 to 16; where it is not 0, all numbers below are */
+    uint64_t refusal; /* 0, or one that read gives; where it is not 0, all numbers below are */
     uint64_t finished; /* always 0 */
     uint64_t p; /* the prime */
     uint64_t order; /* the order's number */
@@ -151,7 +181,7 @@ typedef struct damselbuckle_read_answer {
 } damselbuckle_read_answer;
 
 typedef struct damselbuckle_listing_answer {
-    uint64_t refusal; /* 0, or 10 */
+    uint64_t refusal; /* 0, or one that listing gives */
     uint64_t finished; /* always 0 */
     uint64_t length; /* bytes of the listing; where refused, 0 */
 } damselbuckle_listing_answer;
@@ -167,18 +197,18 @@ typedef struct damselbuckle_listing_answer {
  * elsewhere; the work space is all 0; output past the places written is as it was.
  */
 damselbuckle_run_answer damselbuckle_run(
-    damselbuckle_tally *tally, /* the counts, set at return but not by a refusal at the opening */
-    uint32_t p, /* a prime from 2 to 65,521 */
+    damselbuckle_tally *tally, /* the counts, in memory that can be written: a refusal at the opening writes back those that came */
+    uint32_t p, /* a prime, at most DAMSELBUCKLE_LARGEST_PRIME */
     uint32_t order, /* 1, 2 or 3 */
-    uint32_t n, /* the number of variables, 1 to 6 */
+    uint32_t n, /* the number of variables, 1 to DAMSELBUCKLE_MOST_VARIABLES */
     const uint64_t *words, size_t words_len, /* the words of all polynomials, one behind the other */
     const uint32_t *coefs, size_t coefs_len, /* their coefficients; as many */
     const size_t *starts, size_t starts_len, /* polynomial k runs from start k to before start k + 1 */
     const size_t *ops, size_t ops_len, /* the operations: two numbers each */
-    uint64_t *bw, size_t bw_len, /* bucket space, words: 5,460 places */
-    uint32_t *bc, size_t bc_len, /* bucket space, coefficients: 5,460 places */
-    uint64_t *ww, size_t ww_len, /* work space, words: 8,192 places */
-    uint32_t *wc, size_t wc_len, /* work space, coefficients: 8,192 places */
+    uint64_t *bw, size_t bw_len, /* bucket space, words: DAMSELBUCKLE_BUCKET_PLACES */
+    uint32_t *bc, size_t bc_len, /* bucket space, coefficients; as many */
+    uint64_t *ww, size_t ww_len, /* work space, words: DAMSELBUCKLE_WORK_PLACES */
+    uint32_t *wc, size_t wc_len, /* work space, coefficients; as many */
     uint64_t *ow, size_t ow_len, /* output, words */
     uint32_t *oc, size_t oc_len); /* output, coefficients; as many */
 
@@ -192,32 +222,32 @@ damselbuckle_run_answer damselbuckle_run(
  * left as by a run.
  */
 damselbuckle_reduction_answer damselbuckle_reduce(
-    damselbuckle_tally *tally, /* the counts, set at return but not by a refusal at the opening */
-    uint32_t p, /* a prime from 2 to 65,521 */
+    damselbuckle_tally *tally, /* the counts, in memory that can be written: a refusal at the opening writes back those that came */
+    uint32_t p, /* a prime, at most DAMSELBUCKLE_LARGEST_PRIME */
     uint32_t order, /* 1, 2 or 3 */
-    uint32_t n, /* the number of variables, 1 to 6 */
+    uint32_t n, /* the number of variables, 1 to DAMSELBUCKLE_MOST_VARIABLES */
     const uint64_t *words, size_t words_len, /* the words of all polynomials, one behind the other */
     const uint32_t *coefs, size_t coefs_len, /* their coefficients; as many */
     const size_t *starts, size_t starts_len, /* polynomial k runs from start k to before start k + 1 */
-    uint64_t limit, /* the most leads to remove, at most 8,796,093,022,208 */
-    uint64_t *bw, size_t bw_len, /* bucket space, words: 5,460 places */
-    uint32_t *bc, size_t bc_len, /* bucket space, coefficients: 5,460 places */
-    uint64_t *ww, size_t ww_len, /* work space, words: 8,192 places */
-    uint32_t *wc, size_t wc_len, /* work space, coefficients: 8,192 places */
+    uint64_t limit, /* the most leads to remove, at most DAMSELBUCKLE_MOST_STEPS */
+    uint64_t *bw, size_t bw_len, /* bucket space, words: DAMSELBUCKLE_BUCKET_PLACES */
+    uint32_t *bc, size_t bc_len, /* bucket space, coefficients; as many */
+    uint64_t *ww, size_t ww_len, /* work space, words: DAMSELBUCKLE_WORK_PLACES */
+    uint32_t *wc, size_t wc_len, /* work space, coefficients; as many */
     uint64_t *ow, size_t ow_len, /* output, words: the remainder */
     uint32_t *oc, size_t oc_len); /* output, coefficients; as many */
 
 /*
- * Writes a polynomial to blocks of 512 bytes, 41 terms to a block; zero is one block. Bytes past the
+ * Writes a polynomial to blocks, 41 terms to a block; zero is one block. Bytes past the
  * blocks are as they were. Refusals are judged in the order 1 to 3, 8, 4 to 6, 11, 10.
  */
 damselbuckle_write_answer damselbuckle_write_blocks(
-    uint32_t p, /* a prime from 2 to 65,521 */
+    uint32_t p, /* a prime, at most DAMSELBUCKLE_LARGEST_PRIME */
     uint32_t order, /* 1, 2 or 3 */
-    uint32_t n, /* the number of variables, 1 to 6 */
-    const uint64_t *words, size_t words_len, /* the polynomial's words, at most 4,096 */
+    uint32_t n, /* the number of variables, 1 to DAMSELBUCKLE_MOST_VARIABLES */
+    const uint64_t *words, size_t words_len, /* the polynomial's words, at most DAMSELBUCKLE_MOST_TERMS */
     const uint32_t *coefs, size_t coefs_len, /* its coefficients; as many */
-    uint8_t *bytes, size_t bytes_len); /* where the blocks go; 51,200 bytes are always enough */
+    uint8_t *bytes, size_t bytes_len); /* where the blocks go; room for DAMSELBUCKLE_MOST_BLOCKS is always enough */
 
 /*
  * Reads the polynomial that blocks hold. Accepted are exactly the bytes that writing a polynomial makes.
@@ -226,16 +256,16 @@ damselbuckle_write_answer damselbuckle_write_blocks(
  */
 damselbuckle_read_answer damselbuckle_read_blocks(
     const uint8_t *bytes, size_t bytes_len, /* the blocks, and nothing behind them */
-    uint64_t *words, size_t words_len, /* where the words go; 4,096 places are always enough */
+    uint64_t *words, size_t words_len, /* where the words go; DAMSELBUCKLE_MOST_TERMS are always enough */
     uint32_t *coefs, size_t coefs_len); /* where the coefficients go; as many */
 
 /*
  * Writes the listing of a script, as the program bucketlist prints it. A script that is refused has a
- * listing too, the line `refused R at K`. The call takes about 360,000 bytes of stack.
+ * listing too, the line `refused R at K`. Give it 400,000 bytes of stack: 360,000 are too few.
  */
 damselbuckle_listing_answer damselbuckle_listing(
     const uint8_t *script, size_t script_len, /* the script, any bytes */
-    uint8_t *out, size_t out_len); /* where the listing goes: at least 65,536 bytes */
+    uint8_t *out, size_t out_len); /* where the listing goes: at least DAMSELBUCKLE_LISTING_BYTES */
 
 #ifdef __cplusplus
 }

@@ -3,8 +3,9 @@
 use crate::buckets::{in_turn, Best, ROUNDS};
 use crate::library;
 use crate::lists::{list, words, List, Order};
-use crate::plain_blocks::{self, Setting};
+use crate::plain_blocks::{self, Setting, BLOCK_TERMS};
 use crate::random::Random;
+use damselbuckle::{BLOCK_BYTES, MOST_BLOCKS, MOST_TERMS};
 use std::hint::black_box;
 
 const P: u32 = 32_003;
@@ -32,7 +33,8 @@ impl Row {
             n: 6,
         };
         let len = terms.words.len() as u64;
-        let mut bytes = [vec![1; 51_200], vec![1; 51_200]];
+        let most = MOST_BLOCKS * BLOCK_BYTES;
+        let mut bytes = [vec![1; most], vec![1; most]];
         let [a, b] = &mut bytes;
         let (times, blocks) = in_turn(
             round,
@@ -43,8 +45,8 @@ impl Row {
         );
         assert!(bytes[0] == bytes[1], "blocks differ");
         self.write.take(times, TIMES as u64 * len);
-        let blocks = &bytes[0][..512 * blocks as usize];
-        let mut lists = [List::of(4_096), List::of(4_096)];
+        let blocks = &bytes[0][..BLOCK_BYTES * blocks as usize];
+        let mut lists = [List::of(MOST_TERMS), List::of(MOST_TERMS)];
         let [a, b] = &mut lists;
         let (times, read) = in_turn(
             round,
@@ -73,7 +75,7 @@ fn repeat(mut f: impl FnMut() -> u64) -> u64 {
 pub fn blocks() {
     let mut rows = Vec::new();
     for order in [Order::DegRevLex, Order::Lex] {
-        for terms in [41, 4_096] {
+        for terms in [BLOCK_TERMS, MOST_TERMS] {
             rows.push(Row {
                 order,
                 terms,

@@ -6,10 +6,10 @@ use crate::lists::{List, Order};
 use crate::loan::Loan;
 use crate::monomial;
 use crate::picture::Picture;
-use crate::plain_reduction::MOST_LEADS;
 use crate::plain_run::{ADD, LEAD, SUM};
 use crate::random::Random;
 use crate::reductions::{reduction, Kind};
+use damselbuckle::{MOST_STEPS, MOST_TERMS};
 
 const P: u32 = 32_003;
 
@@ -135,7 +135,7 @@ impl Maker {
     /// every term of the bucket; then all leads are taken. All this once, or several times.
     fn falling_run(&mut self) -> Cost {
         let size = 1 + self.below(5);
-        let most = self.random.pick(&[5, 20, 90, 400, 4_096]);
+        let most = self.random.pick(&[5, 20, 90, 400, MOST_TERMS as u64]);
         let additions = 1 + self.below(most / size);
         let mut given = Given::new(P, 2);
         let mut operations = Vec::new();
@@ -159,7 +159,7 @@ impl Maker {
         let divisors = kind.divisors(&mut self.random, order);
         let limit = match self.below(3) {
             0 => self.below(200),
-            _ => MOST_LEADS,
+            _ => MOST_STEPS,
         };
         let Loan { memory, output } = &mut self.loan;
         let given = reduction(&f, &divisors);

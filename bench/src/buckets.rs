@@ -1,9 +1,10 @@
 //! Times the proved geobucket beside the one in plain Rust: lists of operations, leads, and emptying
 //! with settling. Each function prints a table, and fails only where results differ.
-use crate::geobucket::{Geobucket, Lead, Memory, Plain, BUCKETS, CAPACITIES, MOST};
+use crate::geobucket::{Geobucket, Lead, Memory, Plain, BUCKETS, CAPACITIES};
 use crate::lists::{list, words, List, Order};
 use crate::proved_buckets::Proved;
 use crate::random::Random;
+use damselbuckle::MOST_TERMS;
 use std::hint::black_box;
 use std::time::Instant;
 
@@ -149,7 +150,7 @@ impl Maker {
                 0 => Some(self.addition(random)),
                 _ => None,
             };
-            match f.filter(|f| memory.held() + f.words.len() <= MOST) {
+            match f.filter(|f| memory.held() + f.words.len() <= MOST_TERMS) {
                 Some(f) => {
                     Plain::add(self.order, P, &mut memory, f.terms());
                     operations.push(Operation::Add(f));

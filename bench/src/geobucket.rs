@@ -2,19 +2,15 @@
 //! in `merge`, and the order taken out of the loops.
 use crate::lists::{deg_rev_lex_key, lex_key, List, Order, Places, Terms};
 use crate::merge::best_by;
+use damselbuckle::{BUCKET_PLACES, WORK_PLACES};
 
 /// The buckets, counted from 0: how many there are, and the most terms and the first place of each.
 pub const BUCKETS: usize = 6;
 pub const CAPACITIES: [usize; BUCKETS] = [4, 16, 64, 256, 1_024, 4_096];
 const STARTS: [usize; BUCKETS] = [0, 4, 20, 84, 340, 1_364];
 
-/// The most terms that are held.
-pub const MOST: usize = 4_096;
-
-/// The places of the bucket space and of the work space, which has two halves.
-const SPACE: usize = 5_460;
-const WORK: usize = 8_192;
-const HALF: usize = WORK / 2;
+/// The work space has two halves.
+const HALF: usize = WORK_PLACES / 2;
 
 /// What a geobucket works on: the six heads and then the six lengths, and the spaces.
 #[derive(Clone, PartialEq, Eq)]
@@ -60,8 +56,8 @@ impl Memory {
     pub fn new() -> Self {
         Memory {
             state: [0; 2 * BUCKETS],
-            space: List::of(SPACE),
-            work: List::of(WORK),
+            space: List::of(BUCKET_PLACES),
+            work: List::of(WORK_PLACES),
         }
     }
 

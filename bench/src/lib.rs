@@ -3,6 +3,8 @@
 //! merge; `buckets` times geobuckets, `runs` and `reductions` whole calls, `singular` reductions beside
 //! Singular, `workload` calls from a file, `beside` the same beside another engine, and `blocks` the
 //! block store; `bound` sets comparisons beside their bound, and `picture` draws them.
+#![allow(clippy::manual_is_multiple_of)] // the method is missing in older compilers
+
 pub mod beside;
 pub mod blocks;
 pub mod bound;

@@ -1,15 +1,15 @@
 //! The block store in plain Rust, with the order taken out of the loops.
 use crate::lists::{deg_rev_lex_key, lex_key, List};
-use crate::plain_opening::{exponents, in_layout, is_prime, polynomial_good, polynomial_refusal};
-use crate::plain_opening::{DEGREE, LARGEST_PRIME};
+use crate::plain_opening::{
+    exponents, in_layout, is_prime, polynomial_good, polynomial_refusal, DEGREE,
+};
 use damselbuckle::raw::{ReadAnswer, WriteAnswer};
+use damselbuckle::{BLOCK_BYTES, LARGEST_PRIME, MOST_BLOCKS, MOST_TERMS};
 
-const BLOCK: usize = 512;
 const HEADER: usize = 16;
 const PLACE: usize = 12;
-const PLACES: usize = 41;
-const MOST_BLOCKS: usize = 100;
-const MOST_TERMS: usize = 4_096;
+/// Terms of a block.
+pub(crate) const BLOCK_TERMS: usize = 41;
 
 /// What a header says of the problem.
 #[derive(Clone, Copy)]
@@ -48,21 +48,21 @@ pub fn write(setting: Setting, terms: &List, bytes: &mut [u8]) -> WriteAnswer {
         };
     }
     let count = blocks_for(terms.words.len());
-    let blocks = bytes.chunks_exact_mut(BLOCK);
-    let mut words = terms.words.chunks(PLACES);
-    let mut coefs = terms.coefs.chunks(PLACES);
+    let blocks = bytes.chunks_exact_mut(BLOCK_BYTES);
+    let mut words = terms.words.chunks(BLOCK_TERMS);
+    let mut coefs = terms.coefs.chunks(BLOCK_TERMS);
     for (number, block) in blocks.take(count).enumerate() {
         let words = words.next().unwrap_or_default();
         let coefs = coefs.next().unwrap_or_default();
         block[..HEADER].copy_from_slice(&header(number, count, words.len(), setting));
-        let (used, unused) = block[HEADER..BLOCK - 4].split_at_mut(PLACE * words.len());
+        let (used, unused) = block[HEADER..BLOCK_BYTES - 4].split_at_mut(PLACE * words.len());
         for ((place, word), coef) in used.chunks_exact_mut(PLACE).zip(words).zip(coefs) {
             place[..8].copy_from_slice(&word.to_le_bytes());
             place[8..].copy_from_slice(&coef.to_le_bytes());
         }
         unused.fill(0);
         let check = check(block);
-        block[BLOCK - 4..].copy_from_slice(&check.to_le_bytes());
+        block[BLOCK_BYTES - 4..].copy_from_slice(&check.to_le_bytes());
     }
     WriteAnswer {
         blocks: count as u64,
@@ -90,7 +90,7 @@ fn write_refusal(setting: Setting, terms: &List, room: usize) -> u64 {
     if terms.words.len() > MOST_TERMS {
         return 11;
     }
-    if room < BLOCK * blocks_for(terms.words.len()) {
+    if room < BLOCK_BYTES * blocks_for(terms.words.len()) {
         return 10;
     }
     0
@@ -127,12 +127,12 @@ fn judged(bytes: &[u8], out: &List) -> (u64, Setting, usize) {
     if out.words.len() != out.coefs.len() {
         return (8, none, 0);
     }
-    let count = bytes.len() / BLOCK;
-    if bytes.len() % BLOCK != 0 || count == 0 || count > MOST_BLOCKS {
+    let count = bytes.len() / BLOCK_BYTES;
+    if bytes.len() % BLOCK_BYTES != 0 || count == 0 || count > MOST_BLOCKS {
         return (14, none, 0);
     }
-    let checked = |block: &[u8]| block[BLOCK - 4..] == check(block).to_le_bytes();
-    if !bytes.chunks_exact(BLOCK).all(checked) {
+    let checked = |block: &[u8]| block[BLOCK_BYTES - 4..] == check(block).to_le_bytes();
+    if !bytes.chunks_exact(BLOCK_BYTES).all(checked) {
         return (15, none, 0);
     }
     let setting = Setting {
@@ -141,13 +141,13 @@ fn judged(bytes: &[u8], out: &List) -> (u64, Setting, usize) {
         n: bytes[9].into(),
     };
     let last = count - 1;
-    let terms = PLACES * last + two(&bytes[BLOCK * last + 4..]) as usize;
+    let terms = BLOCK_TERMS * last + two(&bytes[BLOCK_BYTES * last + 4..]) as usize;
     if blocks_for(terms) != count || terms > MOST_TERMS {
         return (16, none, 0);
     }
-    for (number, block) in bytes.chunks_exact(BLOCK).enumerate() {
-        let here = PLACES.min(terms - PLACES * number);
-        let unused = &block[HEADER + PLACE * here..BLOCK - 4];
+    for (number, block) in bytes.chunks_exact(BLOCK_BYTES).enumerate() {
+        let here = BLOCK_TERMS.min(terms - BLOCK_TERMS * number);
+        let unused = &block[HEADER + PLACE * here..BLOCK_BYTES - 4];
         let right = block[..HEADER] == header(number, count, here, setting);
         if !right || unused.iter().any(|&b| b != 0) {
             return (16, none, 0);
@@ -195,8 +195,8 @@ fn terms_refusal(key: impl Fn(u64) -> u64, setting: Setting, bytes: &[u8], terms
 /// The first terms in blocks, so many.
 #[inline(always)]
 fn terms_in(bytes: &[u8], terms: usize) -> impl Iterator<Item = (u64, u32)> + '_ {
-    let blocks = bytes.chunks_exact(BLOCK);
-    let places = blocks.flat_map(|block| block[HEADER..BLOCK - 4].chunks_exact(PLACE));
+    let blocks = bytes.chunks_exact(BLOCK_BYTES);
+    let places = blocks.flat_map(|block| block[HEADER..BLOCK_BYTES - 4].chunks_exact(PLACE));
     let term = |place: &[u8]| {
         let word = u64::from_le_bytes(place[..8].try_into().expect("8 bytes"));
         let coef = u32::from_le_bytes(place[8..].try_into().expect("4 bytes"));
@@ -206,7 +206,7 @@ fn terms_in(bytes: &[u8], terms: usize) -> impl Iterator<Item = (u64, u32)> + '_
 }
 
 fn blocks_for(terms: usize) -> usize {
-    terms.div_ceil(PLACES).max(1)
+    terms.div_ceil(BLOCK_TERMS).max(1)
 }
 
 fn header(number: usize, count: usize, here: usize, setting: Setting) -> [u8; HEADER] {
@@ -220,7 +220,7 @@ fn header(number: usize, count: usize, here: usize, setting: Setting) -> [u8; HE
 }
 
 fn check(block: &[u8]) -> u32 {
-    let words = block[..BLOCK - 4].chunks_exact(4);
+    let words = block[..BLOCK_BYTES - 4].chunks_exact(4);
     let word = |w: &[u8]| u32::from_le_bytes(w.try_into().expect("4 bytes"));
     words.map(word).fold(1, u32::wrapping_add)
 }

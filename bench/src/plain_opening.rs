@@ -2,12 +2,7 @@
 use crate::geobucket::Memory;
 use crate::given::Given;
 use crate::lists::{List, Terms};
-
-pub(crate) const LARGEST_PRIME: u32 = 65_521;
-
-/// The places of the bucket space and of the work space.
-const SPACE: usize = 5_460;
-const WORK: usize = 8_192;
+use damselbuckle::{BUCKET_PLACES, LARGEST_PRIME, WORK_PLACES};
 
 /// The degree of a word, and the exponents of all six fields.
 pub(crate) const DEGREE: u64 = 0xffff << 48;
@@ -66,8 +61,8 @@ pub fn sizes_good(given: &Given, memory: &Memory, output: &List) -> bool {
     let starts = &given.starts;
     words == coefs
         && output.words.len() == output.coefs.len()
-        && lens(&memory.space) == (SPACE, SPACE)
-        && lens(&memory.work) == (WORK, WORK)
+        && lens(&memory.space) == (BUCKET_PLACES, BUCKET_PLACES)
+        && lens(&memory.work) == (WORK_PLACES, WORK_PLACES)
         && starts.first() == Some(&0)
         && starts.last() == Some(&words)
         && starts.windows(2).all(|pair| pair[0] <= pair[1])

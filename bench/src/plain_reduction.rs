@@ -1,15 +1,13 @@
 //! A reduction in plain Rust: the opening checks, the steps on the geobucket of `geobucket`, and
 //! settling, with the order taken out of the loops. The buckets hold keys, which are compared as
 //! numbers; they become words again when they leave.
-use crate::geobucket::{add_by, lead_by, Geobucket, Lead, Memory, Plain, BUCKETS, MOST};
+use crate::geobucket::{add_by, lead_by, Geobucket, Lead, Memory, Plain, BUCKETS};
 use crate::given::Given;
 use crate::lists::{deg_rev_lex_key, lex_key, List, Order, Terms};
 use crate::plain_opening::{polynomials_refusal, setting_refusal, sizes_good};
 use crate::results::ReductionResult;
+use damselbuckle::{MOST_STEPS, MOST_TERMS};
 use std::marker::PhantomData;
-
-/// The largest step limit.
-pub const MOST_LEADS: u64 = 8_796_093_022_208;
 
 /// The six fields of a word, and the top bit of each.
 const FIELDS: u64 = 0xffff_ffff_ffff;
@@ -104,9 +102,6 @@ fn reduce_by<K: Keys>(
     let mut result = reduction.steps(given.polynomial(0), limit);
     result.given = result.terms;
     result.held = memory.held() as u64;
-    if result.refusal != 0 {
-        result.terms = 0;
-    }
     Plain::settle(memory);
     if result.held > 0 {
         words_again::<K>(&mut memory.space);
@@ -129,7 +124,7 @@ fn opening<K: Keys>(given: &Given, limit: u64, memory: &Memory, output: &List) -
     if refusal != 0 {
         return refusal;
     }
-    if !sizes_good(given, memory, output) || limit > MOST_LEADS || given.count() == 0 {
+    if !sizes_good(given, memory, output) || limit > MOST_STEPS || given.count() == 0 {
         return 8;
     }
     match polynomials_refusal(K::key, K::FIRST_BELOW, given) {
@@ -202,15 +197,14 @@ impl<'a, K: Keys> Reduction<'a, K> {
             divisors: divisors().map(|f| Divisor::new(given.p, f)).collect(),
             memory,
             output,
-            product: List::of(MOST),
+            product: List::of(MOST_TERMS),
         }
     }
 
-    /// Adds f and does the steps. The terms are those of the remainder, also where it is refused; the
-    /// terms given out and held are not counted.
+    /// Adds f and does the steps. The terms given out and held are not counted.
     fn steps(&mut self, f: Terms, limit: u64) -> ReductionResult {
         let mut result = ReductionResult::default();
-        if f.0.len() > MOST {
+        if f.0.len() > MOST_TERMS {
             result.refusal = 11;
             return result;
         }
@@ -264,7 +258,7 @@ impl<'a, K: Keys> Reduction<'a, K> {
         if (divisor.largest + (quotient & FIELDS)) & TOPS != 0 {
             return 12;
         }
-        if self.memory.held() - 1 + tail.0.len() > MOST {
+        if self.memory.held() - 1 + tail.0.len() > MOST_TERMS {
             return 11;
         }
         let factor = lead.coef * divisor.inverse % self.p;

@@ -1,17 +1,16 @@
 //! A run in plain Rust: the opening checks, the operations on the geobucket of `geobucket`, and
 //! settling, with the order taken out of the loops.
-use crate::geobucket::{add_by, lead_by, sum_by, Geobucket, Memory, Plain, BUCKETS, MOST};
+use crate::geobucket::{add_by, lead_by, sum_by, Geobucket, Memory, Plain, BUCKETS};
 use crate::given::Given;
 use crate::lists::{deg_rev_lex_key, lex_key, List, Order};
 use crate::plain_opening::{polynomials_refusal, setting_refusal, sizes_good};
 use crate::results::RunResult;
+use damselbuckle::{MOST_OPERATIONS, MOST_TERMS};
 
 /// The codes of the operations.
 pub const ADD: usize = 1;
 pub const LEAD: usize = 2;
 pub const SUM: usize = 3;
-
-const MOST_OPERATIONS: usize = 16_777_216;
 
 /// Does a run. The tally of one that is refused at the opening is 0.
 pub fn run(
@@ -55,9 +54,6 @@ pub fn run_by(
     Plain::empty(memory);
     let mut result = operate(key, given, operations, memory, output);
     result.held = memory.held() as u64;
-    if result.refusal != 0 {
-        result.places = 0;
-    }
     Plain::settle(memory);
     result
 }
@@ -94,8 +90,7 @@ fn operations_known(operations: &[usize], polynomials: usize) -> bool {
     })
 }
 
-/// Does the operations up to the first refused one. The places are those written, also where refused,
-/// and the terms held are not counted.
+/// Does the operations up to the first refused one. The terms held are not counted.
 #[inline(always)]
 fn operate(
     key: impl Fn(u64) -> u64 + Copy,
@@ -111,7 +106,7 @@ fn operate(
         match pair[0] {
             ADD => {
                 let f = given.polynomial(pair[1]);
-                if memory.held() + f.0.len() > MOST {
+                if memory.held() + f.0.len() > MOST_TERMS {
                     result.refusal = 11;
                     break;
                 }

@@ -3,8 +3,9 @@ use crate::c_functions::{
     probe_buckets_add, probe_buckets_empty, probe_buckets_lead, probe_buckets_settle,
     probe_buckets_sum, probe_buckets_take,
 };
-use crate::geobucket::{Geobucket, Lead, Memory, MOST};
+use crate::geobucket::{Geobucket, Lead, Memory};
 use crate::lists::{Order, Terms};
+use damselbuckle::MOST_TERMS;
 
 pub struct Proved;
 
@@ -18,7 +19,7 @@ impl Geobucket for Proved {
 
     /// f is falling, with coefficients from 1 to p - 1, as `lists` makes it.
     fn add(order: Order, p: u32, memory: &mut Memory, (fw, fc): Terms) -> u64 {
-        assert!(fw.len() == fc.len() && memory.held() + fw.len() <= MOST);
+        assert!(fw.len() == fc.len() && memory.held() + fw.len() <= MOST_TERMS);
         unsafe {
             probe_buckets_add(
                 order.number(),

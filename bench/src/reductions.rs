@@ -6,12 +6,10 @@ use crate::library;
 use crate::lists::{List, Order};
 use crate::loan::Loan;
 use crate::monomial::{self, degree};
-use crate::plain_reduction::{self, MOST_LEADS};
+use crate::plain_reduction;
 use crate::random::Random;
 use crate::results::ReductionResult;
-
-/// Output places that are enough.
-pub(crate) const PLACES: usize = 4_096;
+use damselbuckle::{MOST_STEPS, MOST_TERMS};
 
 /// The variables, and the terms of the polynomial that is reduced.
 pub(crate) const VARIABLES: usize = 4;
@@ -205,7 +203,7 @@ impl Row {
         let order = self.order;
         let f = self.kind.polynomial(random, order);
         let given = reduction(&f, &self.kind.divisors(random, order));
-        let (mut proved, mut plain) = (Loan::new(PLACES), Loan::new(PLACES));
+        let (mut proved, mut plain) = (Loan::new(MOST_TERMS), Loan::new(MOST_TERMS));
         let mut results = [ReductionResult::default(); 2];
         let [first, second] = &mut results;
         let (times, comparisons) = in_turn(
@@ -214,12 +212,12 @@ impl Row {
                 &mut || {
                     let Loan { memory, output } = &mut proved;
                     let number = order.number();
-                    *first = library::reduce(number, &given, MOST_LEADS, memory, output);
+                    *first = library::reduce(number, &given, MOST_STEPS, memory, output);
                     first.comparisons
                 },
                 &mut || {
                     let Loan { memory, output } = &mut plain;
-                    *second = plain_reduction::reduce(order, &given, MOST_LEADS, memory, output);
+                    *second = plain_reduction::reduce(order, &given, MOST_STEPS, memory, output);
                     second.comparisons
                 },
             ],

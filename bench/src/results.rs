@@ -1,7 +1,7 @@
 //! What the proved calls and those in plain Rust answer, for comparing them.
 
-/// What a run gives: refusal 0 is none, and then `finished` is the operations done, and `places` the
-/// output places written; and the tally.
+/// What a run gives: refusal 0 is none; `finished` is the operations done, and `places` the output places
+/// written, before a refusal where there is one; and the tally.
 #[derive(Clone, Copy, Debug, Default, PartialEq, Eq)]
 pub struct RunResult {
     pub refusal: u64,
@@ -14,7 +14,7 @@ pub struct RunResult {
 }
 
 /// What a reduction gives: refusal 0 is none; `leads` is the leads removed, and `terms` those of the
-/// remainder, 0 where refused; and the tally.
+/// remainder, before a refusal where there is one; and the tally.
 #[derive(Clone, Copy, Debug, Default, PartialEq, Eq)]
 pub struct ReductionResult {
     pub refusal: u64,

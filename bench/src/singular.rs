@@ -8,9 +8,10 @@ use crate::given::Given;
 use crate::library;
 use crate::lists::{List, Order};
 use crate::loan::Loan;
-use crate::plain_reduction::{self, MOST_LEADS};
+use crate::plain_reduction;
 use crate::random::Random;
-use crate::reductions::{by_exponents, reduction, Kind, PLACES, VARIABLES};
+use crate::reductions::{by_exponents, reduction, Kind, VARIABLES};
+use damselbuckle::{MOST_STEPS, MOST_TERMS};
 use std::io::Write;
 use std::process::{Command, Stdio};
 use std::time::Instant;
@@ -58,12 +59,12 @@ impl Row {
 
     /// The remainders of all polynomials, and the leads removed.
     fn reduce_all(&mut self) {
-        let mut loan = Loan::new(PLACES);
+        let mut loan = Loan::new(MOST_TERMS);
         for f in &self.polynomials {
             let given = reduction(f, &self.divisors);
             let Loan { memory, output } = &mut loan;
             let number = self.order.number();
-            let r = library::reduce(number, &given, MOST_LEADS, memory, output);
+            let r = library::reduce(number, &given, MOST_STEPS, memory, output);
             assert_eq!(r.refusal, 0, "refused");
             self.leads += r.leads;
             let terms = r.given as usize;
@@ -80,18 +81,18 @@ impl Row {
             .iter()
             .map(|f| reduction(f, &self.divisors))
             .collect();
-        let mut loan = Loan::new(PLACES);
+        let mut loan = Loan::new(MOST_TERMS);
         let Loan { memory, output } = &mut loan;
         for _ in 0..PASSES {
             let start = Instant::now();
             for given in &calls {
                 let number = self.order.number();
-                library::reduce(number, given, MOST_LEADS, memory, output);
+                library::reduce(number, given, MOST_STEPS, memory, output);
             }
             self.take(0, start.elapsed().as_secs_f64());
             let start = Instant::now();
             for given in &calls {
-                plain_reduction::reduce(self.order, given, MOST_LEADS, memory, output);
+                plain_reduction::reduce(self.order, given, MOST_STEPS, memory, output);
             }
             self.take(1, start.elapsed().as_secs_f64());
         }

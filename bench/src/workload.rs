@@ -10,9 +10,9 @@ use crate::library;
 use crate::lists::List;
 use crate::loan::Loan;
 use crate::monomial::Order;
-use crate::plain_reduction::MOST_LEADS;
 use crate::plain_run::{ADD, LEAD, SUM};
 use crate::results::{ReductionResult, RunResult};
+use damselbuckle::MOST_STEPS;
 use std::time::{Duration, Instant};
 
 const RUN_PLACES: usize = 4_000_000;
@@ -117,7 +117,7 @@ impl<'a> Lines<'a> {
     }
 
     fn reductions(&self) -> Vec<Call> {
-        let limit = self.value("limit").map_or(MOST_LEADS, number);
+        let limit = self.value("limit").map_or(MOST_STEPS, number);
         let reduction = |input| {
             let mut given = self.setting();
             for f in [input].into_iter().chain(self.all("divisor")) {

@@ -1,20 +1,15 @@
 //! The block store (document 01, "Blocks" and "Refusals by cause"): the blocks of a polynomial, and
 //! what writing and reading give. A refusal is its number.
+use crate::limits::{
+    BLOCK_BYTES, BLOCK_TERMS, LARGEST_PRIME, MOST_BLOCKS, MOST_TERMS, MOST_VARIABLES,
+};
 use crate::monomial::Order;
 use crate::polynomial;
 use crate::residue;
 
-pub const BLOCK: usize = 512;
-pub const MOST_TERMS: usize = 4_096;
-pub const MOST_BLOCKS: usize = 100;
-pub const LARGEST_PRIME: u32 = 65_521;
-
-/// Places in a block.
-pub const PLACES: usize = 41;
-
 const HEADER: usize = 16;
 const PLACE: usize = 12;
-const CHECK: usize = BLOCK - 4;
+const CHECK: usize = BLOCK_BYTES - 4;
 
 #[derive(Clone, Copy, Debug, Default, PartialEq, Eq)]
 pub struct Setting {
@@ -39,7 +34,7 @@ impl Setting {
         }
         let with_number = |order: &Order| order.number() == self.order;
         let order = Order::ALL.into_iter().find(with_number).ok_or(2u64)?;
-        match (1..=6).contains(&self.n) {
+        match (1..=MOST_VARIABLES).contains(&(self.n as usize)) {
             true => Ok(order),
             false => Err(3),
         }
@@ -59,7 +54,7 @@ impl Polynomial {
     /// The blocks.
     pub fn blocks(&self) -> Vec<u8> {
         let terms: Vec<(u64, u32)> = self.words.iter().copied().zip(self.coefs.clone()).collect();
-        let mut parts: Vec<&[(u64, u32)]> = terms.chunks(PLACES).collect();
+        let mut parts: Vec<&[(u64, u32)]> = terms.chunks(BLOCK_TERMS).collect();
         if parts.is_empty() {
             parts.push(&[]);
         }
@@ -134,8 +129,8 @@ pub fn read(bytes: &[u8], words: usize, coefs: usize) -> Result<Polynomial, u64>
     if words != coefs {
         return Err(8);
     }
-    let blocks: Vec<&[u8]> = bytes.chunks(BLOCK).collect();
-    if bytes.len() % BLOCK != 0 || !(1..=MOST_BLOCKS).contains(&blocks.len()) {
+    let blocks: Vec<&[u8]> = bytes.chunks(BLOCK_BYTES).collect();
+    if bytes.len() % BLOCK_BYTES != 0 || !(1..=MOST_BLOCKS).contains(&blocks.len()) {
         return Err(14);
     }
     if blocks
@@ -163,9 +158,9 @@ fn formed(blocks: &[&[u8]]) -> Result<Polynomial, u64> {
         let (number_here, count, here, setting) = header(block);
         let last = k + 1 == blocks.len();
         let allowed = match (last, k) {
-            (true, 0) => 0..=PLACES,
-            (true, _) => 1..=PLACES,
-            (false, _) => PLACES..=PLACES,
+            (true, 0) => 0..=BLOCK_TERMS,
+            (true, _) => 1..=BLOCK_TERMS,
+            (false, _) => BLOCK_TERMS..=BLOCK_TERMS,
         };
         let said = number_here == k as u64
             && count == blocks.len() as u64

@@ -1,15 +1,9 @@
 //! What runs and reductions share: the polynomials that they read, what they are lent, what they
 //! answer, and the opening checks of these (document 01, "Terms" and "Refusals by cause").
-use crate::geobucket::PLACES;
-use crate::monomial::{Order, FIELDS};
+use crate::limits::{BUCKET_PLACES, LARGEST_PRIME, MOST_VARIABLES, WORK_PLACES};
+use crate::monomial::Order;
 use crate::polynomial::{lent, part, refusal, starts_good, Term};
 use crate::residue;
-
-/// The largest prime that is taken.
-pub const LARGEST_PRIME: u32 = 65_521;
-
-/// The places of the work space, for words and for coefficients.
-pub const WORK: usize = 8_192;
 
 /// Words and coefficients of a space.
 pub type Space = (Vec<u64>, Vec<u32>);
@@ -45,8 +39,8 @@ pub struct Loan {
     pub tally: Tally,
 }
 
-/// The refusal, 0 for none; the operations or leads finished; and the output places written, 0 where
-/// refused. A reduction writes a place for each term of the remainder.
+/// The refusal, 0 for none; the operations or leads finished; and the output places written, before the
+/// refusal where there is one. A reduction writes a place for each term of the remainder.
 #[derive(Clone, Copy, Debug, Default, PartialEq, Eq)]
 pub struct Answer {
     pub refusal: u64,
@@ -55,12 +49,11 @@ pub struct Answer {
 }
 
 impl Answer {
-    /// A refusal after so many operations or leads.
-    pub fn refused(refusal: u64, finished: u64) -> Self {
+    /// A refusal at the opening: nothing is done, and nothing written.
+    pub fn at_opening(refusal: u64) -> Self {
         Answer {
             refusal,
-            finished,
-            places: 0,
+            ..Answer::default()
         }
     }
 }
@@ -92,7 +85,7 @@ impl Given {
         let order = Order::ALL.into_iter().find(|o| o.number() == self.order);
         let order = order.ok_or(2_u64)?;
         match self.n as usize {
-            n @ 1..=FIELDS => Ok((order, n)),
+            n @ 1..=MOST_VARIABLES => Ok((order, n)),
             _ => Err(3),
         }
     }
@@ -102,8 +95,8 @@ impl Given {
         let lens = |(words, coefs): &Space| (words.len(), coefs.len());
         self.words.len() == self.coefs.len()
             && loan.output.0.len() == loan.output.1.len()
-            && lens(&loan.space) == (PLACES, PLACES)
-            && lens(&loan.work) == (WORK, WORK)
+            && lens(&loan.space) == (BUCKET_PLACES, BUCKET_PLACES)
+            && lens(&loan.work) == (WORK_PLACES, WORK_PLACES)
             && starts_good(&self.starts, self.words.len())
     }
 

@@ -1,7 +1,8 @@
 //! A run or a reduction past the opening checks: a geobucket that starts empty, the output written so
 //! far, and the tally.
-use crate::call::{Space, Tally, WORK};
-use crate::geobucket::{Geobucket, Lead, MOST};
+use crate::call::{Space, Tally};
+use crate::geobucket::{Geobucket, Lead};
+use crate::limits::{MOST_TERMS, WORK_PLACES};
 use crate::monomial::Order;
 use crate::polynomial::{lent, Term};
 
@@ -52,7 +53,7 @@ impl<'a> Course<'a> {
 
     /// Refuses so many terms where too many would be held, not counting `less` of those that are.
     pub fn room(&self, less: usize, terms: usize) -> Result<(), u64> {
-        match self.buckets.held() - less + terms <= MOST {
+        match self.buckets.held() - less + terms <= MOST_TERMS {
             true => Ok(()),
             false => Err(11),
         }
@@ -74,7 +75,7 @@ impl<'a> Course<'a> {
     /// The bucket space, the work space and the tally at return.
     pub fn left(self) -> (Space, Space, Tally) {
         let held = self.buckets.held() as u64;
-        let work = (vec![0; WORK], vec![0; WORK]);
+        let work = (vec![0; WORK_PLACES], vec![0; WORK_PLACES]);
         (self.buckets.space(), work, Tally { held, ..self.tally })
     }
 }

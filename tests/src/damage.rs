@@ -1,6 +1,7 @@
 //! Damage to the polynomials and loans of a run or a reduction, so that an opening check refuses it.
 use crate::call::{Given, Loan};
 use crate::generate::up_to;
+use crate::limits::MOST_TERMS;
 use crate::monomial::{Order, FIELDS};
 use crate::random::Random;
 use crate::residue;
@@ -82,7 +83,7 @@ pub fn far(random: &mut Random) -> usize {
     random.pick(&FAR)
 }
 
-/// A number that is no prime from 2 to 65,521.
+/// A number that is no prime, or a prime that is too large.
 fn no_prime(random: &mut Random) -> u32 {
     match random.below(4) {
         0 => random.pick(&[0, 1, 4, 6, 9, 65_520, 65_519 * 3]),
@@ -111,7 +112,7 @@ fn unequal(random: &mut Random, words: &mut Vec<u64>, coefs: &mut Vec<u32>) {
 fn resize(random: &mut Random, words: &mut Vec<u64>, coefs: &mut Vec<u32>) {
     let len = words.len();
     let less = len.saturating_sub(1);
-    let other = random.pick(&[0, 1, less, less, len + 1, len + 1, 2 * len + 1, 4_096]);
+    let other = random.pick(&[0, 1, less, less, len + 1, len + 1, 2 * len + 1, MOST_TERMS]);
     let which = random.below(3);
     if which != 0 {
         words.resize(other, 1);

@@ -1,10 +1,11 @@
 //! Generated settings, terms and contents, for the tests that need any.
+use crate::limits::LARGEST_PRIME;
 use crate::monomial::{Order, FIELDS};
 use crate::polynomial::Term;
 use crate::random::Random;
 use crate::residue;
 
-pub const PRIMES: [u32; 6] = [2, 3, 7, 32_003, 65_521, residue::LIMIT];
+pub const PRIMES: [u32; 6] = [2, 3, 7, 32_003, LARGEST_PRIME, residue::LIMIT];
 
 /// A number from 0 to n.
 pub fn up_to(random: &mut Random, n: usize) -> usize {
@@ -71,4 +72,14 @@ pub fn places(random: &mut Random, words: usize, coefs: usize) -> (Vec<u64>, Vec
     let ow = (0..words).map(|_| random.word()).collect();
     let oc = (0..coefs).map(|_| random.word() as u32).collect();
     (ow, oc)
+}
+
+/// A good script padded to so many bytes exactly, with lines `lead` and then lines `add` of no terms.
+pub fn padded(script: &str, bytes: usize) -> String {
+    let rest = bytes - script.len();
+    let leads = rest % 4; // each is a byte longer than `add`
+    let adds = (rest - "lead\n".len() * leads) / "add\n".len();
+    let padded = script.to_string() + &"lead\n".repeat(leads) + &"add\n".repeat(adds);
+    assert_eq!(padded.len(), bytes);
+    padded
 }

@@ -1,6 +1,7 @@
 //! The geobucket as six falling lists of terms by their exponents: addition, the search for the
 //! lead, its removal and the full sum, with the comparisons of each, and the bucket space as it is
 //! at return (document 01, "Buckets").
+use crate::limits::{BUCKET_PLACES, MOST_TERMS};
 use crate::monomial::Order;
 use crate::polynomial::{lent, merge, Term};
 use crate::residue;
@@ -8,12 +9,6 @@ use std::cmp::Ordering;
 
 /// How many buckets there are. They are counted from 0 here, and from 1 in document 01.
 pub const BUCKETS: usize = 6;
-
-/// The most terms that are held.
-pub const MOST: usize = 4_096;
-
-/// The places of the bucket space, for words and for coefficients.
-pub const PLACES: usize = 5_460;
 
 /// The most terms of a bucket: 4 in the first, and four times as many in each next one.
 pub fn capacity(bucket: usize) -> usize {
@@ -26,7 +21,7 @@ pub fn start(bucket: usize) -> usize {
     (capacity(bucket) - 4) / 3
 }
 
-/// The first bucket that has room for so many terms, which are at most 4,096.
+/// The first bucket that has room for so many terms, which are not too many.
 fn first_bucket(terms: usize) -> usize {
     let room = |&bucket: &usize| capacity(bucket) >= terms;
     (0..BUCKETS)
@@ -101,13 +96,13 @@ impl Geobucket {
 
     /// Whether this many terms may be added.
     pub fn accepts(&self, terms: usize) -> bool {
-        self.held() + terms <= MOST
+        self.held() + terms <= MOST_TERMS
     }
 
     /// Adds a polynomial. The first bucket with room for it is merged with it; while the result is
     /// larger than the bucket, that bucket is emptied and the next one is merged with the result.
     pub fn add(&mut self, f: &[Term]) -> Added {
-        assert!(self.accepts(f.len()), "over 4,096 terms");
+        assert!(self.accepts(f.len()), "too many terms");
         let mut added = Added::default();
         if f.is_empty() {
             return added;
@@ -232,7 +227,7 @@ impl Geobucket {
 
     /// The bucket space at return: each bucket's terms from its start on, and 0 past them.
     pub fn space(&self) -> (Vec<u64>, Vec<u32>) {
-        let (mut words, mut coefs) = (vec![0; PLACES], vec![0; PLACES]);
+        let (mut words, mut coefs) = (vec![0; BUCKET_PLACES], vec![0; BUCKET_PLACES]);
         for (bucket, terms) in self.buckets.iter().enumerate() {
             let (own_words, own_coefs) = lent(self.order, terms);
             let places = start(bucket)..start(bucket) + terms.len();

@@ -1,7 +1,7 @@
 //! What is lent to a run or a reduction, with any contents.
-use crate::call::{Loan, Space, Tally, WORK};
+use crate::call::{Loan, Space, Tally};
 use crate::generate::places;
-use crate::geobucket::PLACES;
+use crate::limits::{BUCKET_PLACES, WORK_PLACES};
 use crate::random::Random;
 
 /// After so many loans the contents of the spaces are made anew.
@@ -45,7 +45,9 @@ impl Lender {
     /// Keeps the spaces that a call left, where they are whole.
     pub fn keep(&mut self, loan: Loan) {
         let lens = |(words, coefs): &Space| (words.len(), coefs.len());
-        if lens(&loan.space) == (PLACES, PLACES) && lens(&loan.work) == (WORK, WORK) {
+        if lens(&loan.space) == (BUCKET_PLACES, BUCKET_PLACES)
+            && lens(&loan.work) == (WORK_PLACES, WORK_PLACES)
+        {
             self.left = [loan.space, loan.work];
         }
     }
@@ -53,7 +55,10 @@ impl Lender {
 
 /// A bucket space and a work space with any contents.
 fn rubbish(random: &mut Random) -> [Space; 2] {
-    [places(random, PLACES, PLACES), places(random, WORK, WORK)]
+    [
+        places(random, BUCKET_PLACES, BUCKET_PLACES),
+        places(random, WORK_PLACES, WORK_PLACES),
+    ]
 }
 
 /// A tally as it came, with any counts.
@@ -69,8 +74,8 @@ fn tally(random: &mut Random) -> Tally {
 /// Nothing but what must be there: spaces of 0, and so many output places.
 pub fn plain(output: usize) -> Loan {
     Loan {
-        space: (vec![0; PLACES], vec![0; PLACES]),
-        work: (vec![0; WORK], vec![0; WORK]),
+        space: (vec![0; BUCKET_PLACES], vec![0; BUCKET_PLACES]),
+        work: (vec![0; WORK_PLACES], vec![0; WORK_PLACES]),
         output: (vec![0; output], vec![0; output]),
         tally: Tally::default(),
     }

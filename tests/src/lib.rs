@@ -2,6 +2,8 @@
 //! `geobucket`, `call`, `course`, `run`, `reduction`, `block_store` and `script` are plain models, which
 //! share no code with the proved crates; `library` calls the proved entries, `probe` and `probe_buckets`
 //! the proved functions below them; the other modules make what they are given.
+#![allow(clippy::manual_is_multiple_of)] // the method is missing in older compilers
+
 pub mod block_store;
 pub mod c_functions;
 pub mod call;
@@ -11,6 +13,7 @@ pub mod generate;
 pub mod geobucket;
 pub mod lender;
 pub mod library;
+pub mod limits;
 pub mod monomial;
 pub mod operations;
 pub mod polynomial;

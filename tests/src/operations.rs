@@ -1,14 +1,15 @@
 //! Generated lists of operations on a geobucket. Each operation is made from what the buckets hold
 //! when it comes, so that additions fit and can be aimed at the leads.
 use crate::generate::{coef, falling, monomial, monomials, negative, up_to, with_coefs};
-use crate::geobucket::{capacity, Geobucket, BUCKETS, MOST};
+use crate::geobucket::{capacity, Geobucket, BUCKETS};
+use crate::limits::MOST_TERMS;
 use crate::monomial::{Order, LIMIT};
 use crate::polynomial::{sum, Term};
 use crate::random::Random;
 use crate::residue;
 use std::collections::BTreeSet;
 
-/// One of so many lists fills the buckets to 4,096 terms.
+/// One of so many lists fills the buckets.
 const FULL_EVERY: u64 = 25;
 
 /// How many earlier additions are remembered, to be taken back.
@@ -56,7 +57,7 @@ impl Operations {
     pub fn new(random: &mut Random, case: u64, (order, n, p): (Order, usize, u32)) -> Self {
         let bucket = random.pick(&[0, 1, 2, 2, 3, 3, 4]);
         let (fill, len) = match case % FULL_EVERY {
-            0 => (true, MOST),
+            0 => (true, MOST_TERMS),
             _ => (false, capacity(bucket)),
         };
         Operations {
@@ -83,7 +84,7 @@ impl Operations {
     pub fn next(&mut self, random: &mut Random, held: &Geobucket) -> Operation {
         if random.below(10) < self.additions {
             let mut f = self.addition(random, held);
-            f.truncate(MOST - held.held());
+            f.truncate(MOST_TERMS - held.held());
             self.remember(random, &f);
             return Operation::Add(f);
         }
@@ -109,7 +110,7 @@ impl Operations {
             1..=3 => self.taken_back(random),
             4..=9 => self.against_leads(random, held),
             10 => self.against_all(held),
-            _ if self.fill => self.filling(random, MOST - held.held()),
+            _ if self.fill => self.filling(random, MOST_TERMS - held.held()),
             _ => self.any(random),
         }
     }

@@ -1,6 +1,7 @@
 //! Settings for runs and reductions, and falling monomials for large polynomials.
-use crate::call::{Setting, LARGEST_PRIME};
+use crate::call::Setting;
 use crate::generate::{falling, monomial};
+use crate::limits::LARGEST_PRIME;
 use crate::monomial::{Order, FIELDS, LIMIT};
 use crate::random::Random;
 use crate::residue::is_prime;

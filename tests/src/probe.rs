@@ -1,14 +1,11 @@
 //! The proved functions, through the static library `probe`.
 use crate::c_functions::{probe_merge, Counts};
-use crate::monomial::{Order, FIELDS, LIMIT};
+use crate::monomial::{Order, LIMIT};
 use crate::residue;
 use std::cmp::Ordering;
 
 /// The answer on words that are not taken.
 pub const REFUSED: u64 = u64::MAX;
-
-/// The answer for a product with an exponent over 127.
-pub const OVER: u64 = u64::MAX - 1;
 
 /// The answer on numbers or moduli that are not taken.
 pub const REFUSED_RESIDUE: u32 = u32::MAX;
@@ -32,9 +29,7 @@ extern "C" {
     fn probe_in_layout(order: u32, n: u32, w: u64) -> bool;
     fn probe_divides(y: u64, x: u64) -> u32;
     fn probe_quotient(x: u64, y: u64) -> u64;
-    fn probe_multiply(x: u64, y: u64) -> u64;
     fn probe_word_of(order: u32, exponents: *const u8, len: usize) -> u64;
-    fn probe_exponents_of(order: u32, w: u64, out: *mut u8, len: usize) -> bool;
     fn probe_exponent(order: u32, w: u64, i: u32) -> u32;
     fn probe_is_prime(p: u32) -> bool;
     fn probe_add(a: u32, b: u32, p: u32) -> u32;
@@ -128,25 +123,8 @@ pub fn quotient(x: u64, y: u64) -> u64 {
     unsafe { probe_quotient(x, y) }
 }
 
-pub fn multiply(x: u64, y: u64) -> u64 {
-    unsafe { probe_multiply(x, y) }
-}
-
 pub fn word_of(order: Order, exponents: &[u8]) -> u64 {
     unsafe { probe_word_of(order.number(), exponents.as_ptr(), exponents.len()) }
-}
-
-/// Whether the exponents were put into `out`.
-pub fn exponents_into(order: Order, w: u64, out: &mut [u8]) -> bool {
-    unsafe { probe_exponents_of(order.number(), w, out.as_mut_ptr(), out.len()) }
-}
-
-/// The exponents of the first n variables, n at most 6.
-pub fn exponents_of(order: Order, w: u64, n: usize) -> Vec<u8> {
-    let mut out = [0xaa; FIELDS];
-    assert!(exponents_into(order, w, &mut out[..n]));
-    assert!(out[n..].iter().all(|&e| e == 0xaa), "written past the part");
-    out[..n].to_vec()
 }
 
 pub fn exponent(order: Order, w: u64, i: u32) -> u32 {

@@ -3,13 +3,11 @@ use crate::c_functions::{
     probe_buckets_add, probe_buckets_empty, probe_buckets_lead, probe_buckets_settle,
     probe_buckets_sum, probe_buckets_take,
 };
-use crate::geobucket::{capacity, start, BUCKETS, MOST, PLACES};
+use crate::geobucket::{capacity, start, BUCKETS};
+use crate::limits::{BUCKET_PLACES, MOST_TERMS, WORK_PLACES};
 use crate::monomial::Order;
 use crate::probe::{ask_polynomial, Lent};
 use std::ops::Range;
-
-/// The places of the work space, for words and for coefficients.
-pub const WORK: usize = 8_192;
 
 /// The six heads, and then the six lengths.
 pub const STATE: usize = 2 * BUCKETS;
@@ -47,8 +45,11 @@ impl Buckets {
         space: (Vec<u64>, Vec<u32>),
         work: (Vec<u64>, Vec<u32>),
     ) -> Self {
-        assert_eq!((space.0.len(), space.1.len()), (PLACES, PLACES));
-        assert_eq!((work.0.len(), work.1.len()), (WORK, WORK));
+        assert_eq!(
+            (space.0.len(), space.1.len()),
+            (BUCKET_PLACES, BUCKET_PLACES)
+        );
+        assert_eq!((work.0.len(), work.1.len()), (WORK_PLACES, WORK_PLACES));
         unsafe { probe_buckets_empty(state.as_mut_ptr(), state.len()) };
         let buckets = Buckets {
             order,
@@ -104,7 +105,7 @@ impl Buckets {
         self.ask();
         ask_polynomial(self.p, (fw, fc));
         let held: usize = (0..BUCKETS).map(|b| self.len(b)).sum();
-        assert!(held + fw.len() <= MOST, "over 4,096 terms");
+        assert!(held + fw.len() <= MOST_TERMS, "too many terms");
         unsafe {
             probe_buckets_add(
                 self.order.number(),
@@ -179,7 +180,10 @@ impl Buckets {
             )
         };
         let [from, len] = at;
-        assert!(from <= WORK && len <= WORK - from, "outside the work space");
+        assert!(
+            from <= WORK_PLACES && len <= WORK_PLACES - from,
+            "outside the work space"
+        );
         (from..from + len, comparisons)
     }
 

@@ -3,54 +3,37 @@
 use crate::call::{Answer, Given, Loan};
 use crate::course::Course;
 use crate::geobucket::Lead;
+use crate::limits::MOST_STEPS;
 use crate::monomial::{divides, quotient, Order};
 use crate::polynomial::{multiple, Term};
 use crate::residue;
 
-/// The largest step limit.
-pub const MOST_LEADS: u64 = 8_796_093_022_208;
-
-/// The terms that a reduction's geobucket was given, and those that it gave out: every lead that a step
-/// removed, whether it was divided or went to the remainder.
-#[derive(Clone, Debug, Default, PartialEq, Eq)]
-pub struct Trace {
-    pub brought: Vec<Term>,
-    pub removed: Vec<Term>,
-}
-
 /// Does a reduction. An opening refusal changes nothing.
 pub fn reduce(given: &Given, limit: u64, loan: &mut Loan) -> Answer {
-    traced(given, limit, loan).0
-}
-
-/// Does a reduction, and tells what went in and out.
-pub fn traced(given: &Given, limit: u64, loan: &mut Loan) -> (Answer, Trace) {
     let (order, polynomials) = match opened(given, limit, loan) {
         Ok(opened) => opened,
-        Err(refusal) => return (Answer::refused(refusal, 0), Trace::default()),
+        Err(refusal) => return Answer::at_opening(refusal),
     };
     let mut reduction = Reduction {
         p: given.p,
         course: Course::new(order, given.p, &mut loan.output),
         divisors: &polynomials[1..],
-        trace: Trace::default(),
+        leads: 0,
     };
-    let answer = match reduction.steps(&polynomials[0], limit) {
-        Ok(()) => Answer {
-            refusal: 0,
-            finished: reduction.leads(),
-            places: reduction.course.places as u64,
-        },
-        Err(refusal) => Answer::refused(refusal, reduction.leads()),
+    let refusal = reduction.steps(&polynomials[0], limit).err().unwrap_or(0);
+    let answer = Answer {
+        refusal,
+        finished: reduction.leads,
+        places: reduction.course.places as u64,
     };
     (loan.space, loan.work, loan.tally) = reduction.course.left();
-    (answer, reduction.trace)
+    answer
 }
 
 /// The opening checks in their order: the order and the polynomials, or the refusal.
 fn opened(given: &Given, limit: u64, loan: &Loan) -> Result<(Order, Vec<Vec<Term>>), u64> {
     let setting = given.setting()?;
-    if !given.sizes_good(loan) || limit > MOST_LEADS || given.starts.len() < 2 {
+    if !given.sizes_good(loan) || limit > MOST_STEPS || given.starts.len() < 2 {
         return Err(8);
     }
     let polynomials = given.polynomials(setting)?;
@@ -65,21 +48,17 @@ struct Reduction<'a> {
     p: u32,
     course: Course<'a>,
     divisors: &'a [Vec<Term>],
-    trace: Trace,
+    /// The leads removed so far.
+    leads: u64,
 }
 
 impl Reduction<'_> {
-    /// The leads removed so far.
-    fn leads(&self) -> u64 {
-        self.trace.removed.len() as u64
-    }
-
     /// Adds f, and does the steps until the lead is zero, or up to the stopped one.
     fn steps(&mut self, f: &[Term], limit: u64) -> Result<(), u64> {
         self.course.room(0, f.len())?;
-        self.add(f);
+        self.course.add(f);
         while let Some(lead) = self.course.lead() {
-            if self.leads() == limit {
+            if self.leads == limit {
                 return Err(13);
             }
             self.step(lead)?;
@@ -96,7 +75,7 @@ impl Reduction<'_> {
                 let tail = self.tail_multiple(&lead.term, divisor)?;
                 self.course.room(1, tail.len())?;
                 self.remove(lead);
-                self.add(&tail);
+                self.course.add(&tail);
             }
             None => {
                 self.course.free(1)?;
@@ -119,11 +98,6 @@ impl Reduction<'_> {
 
     fn remove(&mut self, lead: Lead) {
         self.course.buckets.remove(lead.bucket);
-        self.trace.removed.push(lead.term);
-    }
-
-    fn add(&mut self, f: &[Term]) {
-        self.course.add(f);
-        self.trace.brought.extend_from_slice(f);
+        self.leads += 1;
     }
 }

@@ -2,8 +2,8 @@
 use crate::call::{Given, Loan};
 use crate::damage::Damage;
 use crate::generate::up_to;
+use crate::limits::MOST_STEPS;
 use crate::random::Random;
-use crate::reduction::MOST_LEADS;
 
 /// What is damaged.
 #[derive(Clone, Copy, Debug, PartialEq, Eq)]
@@ -52,9 +52,9 @@ impl ReductionDamage {
 /// A step limit that is too large, often by one.
 fn over(random: &mut Random) -> u64 {
     match random.below(3) {
-        0 => MOST_LEADS + 1,
-        1 => random.pick(&[u64::MAX, u64::MAX - 1, 1 << 63, 2 * MOST_LEADS, 1 << 44]),
-        _ => MOST_LEADS + 1 + random.below(u64::MAX - MOST_LEADS),
+        0 => MOST_STEPS + 1,
+        1 => random.pick(&[u64::MAX, u64::MAX - 1, 1 << 63, 2 * MOST_STEPS, 1 << 44]),
+        _ => MOST_STEPS + 1 + random.below(u64::MAX - MOST_STEPS),
     }
 }
 

@@ -2,13 +2,13 @@
 //! first, so that step limits and outputs can be aimed at where it ends.
 use crate::call::{Given, Setting};
 use crate::generate::{coef, falling, monomial, monomials, up_to, with_coefs};
-use crate::geobucket::MOST;
 use crate::lender;
+use crate::limits::{LARGEST_PRIME, MOST_STEPS, MOST_TERMS};
 use crate::monomial::LIMIT;
 use crate::polynomial::{multiple, sum, Term};
 use crate::pools::Pools;
 use crate::random::Random;
-use crate::reduction::{reduce, MOST_LEADS};
+use crate::reduction::reduce;
 use std::collections::BTreeSet;
 use std::ops::RangeInclusive;
 
@@ -64,8 +64,8 @@ impl Made {
             _ if self.refusal == 13 => leads,
             5..=7 => leads,
             8 => leads + 1,
-            9 => random.below(MOST_LEADS) | leads,
-            _ => MOST_LEADS,
+            9 => random.below(MOST_STEPS) | leads,
+            _ => MOST_STEPS,
         }
     }
 
@@ -223,8 +223,8 @@ fn near_limit(random: &mut Random, (order, n, p): Setting) -> Vec<Term> {
     with_coefs(random, p, monomials)
 }
 
-/// A polynomial of about 4,096 terms, and a divisor that fits its lead, the largest monomial, and whose
-/// tail just fits, or is a term too long, or is short; then some small divisors.
+/// A polynomial of about as many terms as can be held, and a divisor that fits its lead, the largest
+/// monomial, and whose tail just fits, or is a term too long, or is short; then some small divisors.
 fn large(random: &mut Random, setting: Setting, pool: &[Vec<u8>]) -> Lists {
     let (_, n, p) = setting;
     let (len, tail) = large_lens(random);
@@ -241,13 +241,13 @@ fn large(random: &mut Random, setting: Setting, pool: &[Vec<u8>]) -> Lists {
 /// The terms of a large polynomial, and those of the tail of its first divisor.
 fn large_lens(random: &mut Random) -> (usize, usize) {
     let len = match random.below(8) {
-        0 => MOST + 1,
-        1 => MOST,
-        2 => MOST - 1,
-        3 => up_to(random, MOST),
-        _ => MOST - up_to(random, 12),
+        0 => MOST_TERMS + 1,
+        1 => MOST_TERMS,
+        2 => MOST_TERMS - 1,
+        3 => up_to(random, MOST_TERMS),
+        _ => MOST_TERMS - up_to(random, 12),
     };
-    let room = MOST + 1 - len;
+    let room = MOST_TERMS + 1 - len;
     let tail = match random.below(4) {
         0 => room,
         1 => room + 1,
@@ -289,7 +289,7 @@ pub fn anything(random: &mut Random) -> Given {
     };
     let (starts, coefs, words) = (words(4), words(5), words(5));
     Given {
-        p: number(random, &[2, 7, 65_521]),
+        p: number(random, &[2, 7, LARGEST_PRIME]),
         order: number(random, &[1, 2, 3]),
         n: number(random, &[1, 2, 6]),
         words,

@@ -2,11 +2,9 @@
 //! spaces at return and the tally (document 01, "Runs" and "Refusals by cause").
 use crate::call::{Answer, Given, Loan};
 use crate::course::Course;
+use crate::limits::MOST_OPERATIONS;
 use crate::monomial::Order;
 use crate::polynomial::Term;
-
-/// The most operations of a run.
-pub const MOST_OPERATIONS: usize = 16_777_216;
 
 /// The codes of the operations.
 pub const ADD: usize = 1;
@@ -17,14 +15,19 @@ pub const SUM: usize = 3;
 pub fn run(given: &Given, operations: &[usize], loan: &mut Loan) -> Answer {
     let (order, polynomials) = match opened(given, operations, loan) {
         Ok(opened) => opened,
-        Err(refusal) => return Answer::refused(refusal, 0),
+        Err(refusal) => return Answer::at_opening(refusal),
     };
     let course = Course::new(order, given.p, &mut loan.output);
     let mut run = Run {
         course,
         polynomials,
     };
-    let answer = run.operations(operations);
+    let (refusal, finished) = run.operations(operations);
+    let answer = Answer {
+        refusal,
+        finished,
+        places: run.course.places as u64,
+    };
     (loan.space, loan.work, loan.tally) = run.course.left();
     answer
 }
@@ -63,18 +66,14 @@ struct Run<'a> {
 }
 
 impl Run<'_> {
-    /// Does the operations up to the first refused one.
-    fn operations(&mut self, operations: &[usize]) -> Answer {
+    /// Does the operations up to the first refused one: its refusal, or 0, and those that were done.
+    fn operations(&mut self, operations: &[usize]) -> (u64, u64) {
         for (finished, pair) in operations.chunks(2).enumerate() {
             if let Err(refusal) = self.operate(pair[0], pair[1]) {
-                return Answer::refused(refusal, finished as u64);
+                return (refusal, finished as u64);
             }
         }
-        Answer {
-            refusal: 0,
-            finished: operations.len() as u64 / 2,
-            places: self.course.places as u64,
-        }
+        (0, operations.len() as u64 / 2)
     }
 
     /// The operation, or its refusal, which comes before the operation does anything.

@@ -2,7 +2,8 @@
 //! when it comes, as if there were output for all.
 use crate::call::{Given, Setting};
 use crate::generate::{falling, monomial, negative, up_to, with_coefs};
-use crate::geobucket::{Geobucket, MOST};
+use crate::geobucket::Geobucket;
+use crate::limits::{LARGEST_PRIME, MOST_TERMS};
 use crate::monomial::{Order, LIMIT};
 use crate::operations::{Operation, Operations};
 use crate::polynomial::Term;
@@ -126,7 +127,7 @@ impl List {
         }
     }
 
-    /// Additions of parts of the pool up to 4,096 terms held, or one over, with leads and sums
+    /// Additions of parts of the pool up to the most terms held, or one over, with leads and sums
     /// between them.
     fn large(&mut self, random: &mut Random, pool: &[Vec<u8>]) {
         for _ in 0..1 + up_to(random, LARGE - 1) {
@@ -144,11 +145,11 @@ impl List {
 
     /// About as many terms as there is room for.
     fn part(&self, random: &mut Random, pool: &[Vec<u8>]) -> Vec<Term> {
-        let room = MOST - self.buckets.held();
+        let room = MOST_TERMS - self.buckets.held();
         let len = match random.below(8) {
             0 => room + 1,
             1..=2 => room,
-            3 => up_to(random, MOST + 1),
+            3 => up_to(random, MOST_TERMS + 1),
             4 => room / 2,
             _ => up_to(random, room),
         };
@@ -237,7 +238,7 @@ pub fn hostile(random: &mut Random) -> (Given, Vec<usize>) {
 pub fn hostile_polynomials(random: &mut Random) -> Given {
     let order = random.pick(&[1, 1, 2, 2, 3, 3, 3, 0, 4]);
     let n = random.pick(&[1, 1, 1, 2, 2, 6, 0, 7]);
-    let p = random.pick(&[2, 2, 3, 3, 3, 7, 65_521, 1, 4]);
+    let p = random.pick(&[2, 2, 3, 3, 3, 7, LARGEST_PRIME, 1, 4]);
     let len = up_to(random, 6);
     let coefs = (0..len).map(|_| random.below(u64::from(p) + 1) as u32);
     let coefs = coefs.map(|c| c.max(1)).collect();

@@ -1,20 +1,15 @@
 //! Scripts and their listings (document 01, "Script"): a plain reader, the run of the second program,
 //! and the lines that it gives.
-use crate::call::{Given, Loan, Tally, WORK};
-use crate::geobucket::{most_comparisons, PLACES};
+use crate::call::{Given, Loan, Tally};
+use crate::geobucket::most_comparisons;
+use crate::limits::{BUCKET_PLACES, MOST_TERMS, SCRIPT_BYTES, WORK_PLACES};
 use crate::monomial::{Order, FIELDS};
 use crate::run::{run, ADD, LEAD, SUM};
-
-/// The longest script, in bytes.
-pub const LONGEST: usize = 16_384;
-
-/// The output places of a script's run.
-const OUTPUT: usize = 4_096;
 
 /// The polynomials and the operations of a script, as a run takes them; nothing where it is not of the
 /// form.
 pub fn read(script: &[u8]) -> Option<(Given, Vec<usize>)> {
-    if script.len() > LONGEST {
+    if script.len() > SCRIPT_BYTES {
         return None;
     }
     let body = script.strip_suffix(b"\n")?;
@@ -90,9 +85,9 @@ pub fn listing(script: &[u8]) -> String {
         return "refused 17 at 0\n".to_string();
     };
     let mut loan = Loan {
-        space: (vec![0; PLACES], vec![0; PLACES]),
-        work: (vec![0; WORK], vec![0; WORK]),
-        output: (vec![0; OUTPUT], vec![0; OUTPUT]),
+        space: (vec![0; BUCKET_PLACES], vec![0; BUCKET_PLACES]),
+        work: (vec![0; WORK_PLACES], vec![0; WORK_PLACES]),
+        output: (vec![0; MOST_TERMS], vec![0; MOST_TERMS]), // enough for every script
         tally: Tally::default(),
     };
     let answer = run(&given, &operations, &mut loan);

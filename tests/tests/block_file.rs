@@ -1,5 +1,6 @@
 //! The text that the program `block_file` writes, from the model: its stored output must be the same.
 use second::block_store::{read, repair, Polynomial, Setting};
+use second::limits::{BLOCK_BYTES, BLOCK_TERMS};
 use second::monomial::Order;
 use std::fmt::Write;
 
@@ -21,7 +22,7 @@ fn polynomial(terms: &[([u8; 2], u32)]) -> Polynomial {
 
 /// What is said of the polynomial written, and of the block read back.
 fn kept(text: &mut String, f: &Polynomial) {
-    let block = match f.write(512) {
+    let block = match f.write(BLOCK_BYTES) {
         Ok(block) => block,
         Err(refusal) => return line(text, format!("refused {refusal}")),
     };
@@ -35,7 +36,7 @@ fn kept(text: &mut String, f: &Polynomial) {
 }
 
 fn given(text: &mut String, block: &[u8]) {
-    let f = match read(block, 41, 41) {
+    let f = match read(block, BLOCK_TERMS, BLOCK_TERMS) {
         Ok(f) => f,
         Err(refusal) => return line(text, format!("refused {refusal}")),
     };
@@ -83,5 +84,5 @@ fn stored() {
     assert_eq!(text, STORED);
     // Only the check is wrong there: put right, the block number is.
     repair(&mut block);
-    assert_eq!(read(&block, 41, 41), Err(16));
+    assert_eq!(read(&block, BLOCK_TERMS, BLOCK_TERMS), Err(16));
 }

@@ -1,11 +1,10 @@
 //! The proved block store against the second program: polynomials of many sizes written and read,
 //! blocks damaged in every byte, and every refusal.
-use second::block_store::{
-    check, read as model_read, repair, Polynomial, Setting, BLOCK, MOST_TERMS, PLACES,
-};
+use second::block_store::{check, read as model_read, repair, Polynomial, Setting};
 use second::cases;
 use second::generate::{self, places};
 use second::library;
+use second::limits::{BLOCK_BYTES, BLOCK_TERMS, LARGEST_PRIME, MOST_BLOCKS, MOST_TERMS};
 use second::monomial::Order;
 use second::polynomial::lent;
 use second::random::Random;
@@ -16,9 +15,17 @@ use std::collections::BTreeSet;
 const CASES_PER_CALL: u64 = 2;
 const CASES_PER_REFUSAL: u64 = 5_000;
 
-const SIZES: [usize; 7] = [0, 1, 41, 42, 4_095, 4_096, 4_097];
+const SIZES: [usize; 7] = [
+    0,
+    1,
+    BLOCK_TERMS,
+    BLOCK_TERMS + 1,
+    MOST_TERMS - 1,
+    MOST_TERMS,
+    MOST_TERMS + 1,
+];
 
-const PRIMES: [u32; 5] = [2, 3, 7, 32_003, 65_521];
+const PRIMES: [u32; 5] = [2, 3, 7, 32_003, LARGEST_PRIME];
 
 /// A polynomial with exactly so many terms.
 fn polynomial(random: &mut Random, terms: usize) -> Polynomial {
@@ -63,7 +70,7 @@ fn write(random: &mut Random, f: &Polynomial, room: usize) -> Result<Vec<u8>, u6
     let mut bytes = before.clone();
     let answer = library::write(f, &mut bytes);
     let expected = f.write(room);
-    let count = |blocks: &Vec<u8>| (blocks.len() / BLOCK) as u64;
+    let count = |blocks: &Vec<u8>| (blocks.len() / BLOCK_BYTES) as u64;
     assert_eq!(answer, expected.as_ref().map(count).map_err(|&r| r));
     let written = expected.as_deref().unwrap_or_default();
     assert!(bytes[..written.len()] == *written);
@@ -123,7 +130,7 @@ fn zero_is_one_block() {
         },
         ..Polynomial::default()
     };
-    let blocks = write(&mut Random::new(1), &zero, 512).expect("zero is written");
+    let blocks = write(&mut Random::new(1), &zero, BLOCK_BYTES).expect("zero is written");
     let header = [0, 0, 1, 0, 0, 0, 7, 0, 3, 2];
     assert_eq!(blocks[..10], header);
     assert!(blocks[10..508].iter().all(|&byte| byte == 0));
@@ -146,8 +153,8 @@ fn damage_each_byte(random: &mut Random, terms: usize, step: usize) -> BTreeSet<
             _ => 1 + random.below(255) as u8,
         };
         assert_eq!(read(random, &bytes, room), Err(15), "byte {at}");
-        let start = at / BLOCK * BLOCK;
-        repair(&mut bytes[start..start + BLOCK]);
+        let start = at / BLOCK_BYTES * BLOCK_BYTES;
+        repair(&mut bytes[start..start + BLOCK_BYTES]);
         match read(random, &bytes, room) {
             Ok(g) => {
                 assert_eq!(g.write(blocks.len()), Ok(bytes));
@@ -170,7 +177,7 @@ fn damaged_in_every_byte() {
             answers.extend(damage_each_byte(random, terms, 1 + round % 3));
         }
     }
-    for terms in [4_095, 4_096] {
+    for terms in [MOST_TERMS - 1, MOST_TERMS] {
         answers.extend(damage_each_byte(random, terms, 29));
     }
     let expected: BTreeSet<u64> = [0, 1, 2, 3, 4, 5, 6, 16].into();
@@ -189,7 +196,7 @@ fn many_faults() {
         for _ in 0..random.below(3) {
             let at = random.below(bytes.len() as u64) as usize;
             // Headers, and the first places, more often.
-            let at = random.pick(&[at, at / BLOCK * BLOCK + at % 28]);
+            let at = random.pick(&[at, at / BLOCK_BYTES * BLOCK_BYTES + at % 28]);
             let any = random.word() as u8;
             bytes[at] = random.pick(&[0, 1, 7, any]);
         }
@@ -197,15 +204,15 @@ fn many_faults() {
             let (first, second) = bytes[16..40].split_at_mut(12);
             first.swap_with_slice(second);
         }
-        for block in bytes.chunks_mut(BLOCK) {
+        for block in bytes.chunks_mut(BLOCK_BYTES) {
             if random.below(12) != 0 {
                 repair(block);
             }
         }
         match random.below(30) {
             0 => bytes.push(0),
-            1 => bytes.truncate(BLOCK * random.below(2) as usize),
-            2 => bytes.resize(101 * BLOCK, 0),
+            1 => bytes.truncate(BLOCK_BYTES * random.below(2) as usize),
+            2 => bytes.resize((MOST_BLOCKS + 1) * BLOCK_BYTES, 0),
             _ => {}
         }
         let words = random.pick(&[terms, terms, MOST_TERMS, 0]);
@@ -217,14 +224,13 @@ fn many_faults() {
         }
     }
     let least = cases() / CASES_PER_REFUSAL;
-    let expected = [0, 1, 2, 3, 4, 5, 6, 8, 10, 14, 15, 16];
-    met.expect("read_blocks", &expected, least);
+    met.expect("read", least);
 }
 
 /// One block changed, with its check put right.
 fn changed(blocks: &[u8], number: usize, change: impl Fn(&mut [u8])) -> Vec<u8> {
     let mut bytes = blocks.to_vec();
-    let block = &mut bytes[BLOCK * number..BLOCK * (number + 1)];
+    let block = &mut bytes[BLOCK_BYTES * number..BLOCK_BYTES * (number + 1)];
     change(block);
     repair(block);
     bytes
@@ -235,7 +241,7 @@ fn changed(blocks: &[u8], number: usize, change: impl Fn(&mut [u8])) -> Vec<u8> 
 fn sixteen() {
     let random = &mut Random::new(109);
     let room = (MOST_TERMS, MOST_TERMS);
-    let two = polynomial(random, PLACES + 1).blocks();
+    let two = polynomial(random, BLOCK_TERMS + 1).blocks();
     let full = polynomial(random, MOST_TERMS).blocks();
     let zero = polynomial(random, 0).blocks();
     // A terms field over 41.
@@ -255,7 +261,7 @@ fn sixteen() {
     assert_eq!(read(random, &over, room), Err(16));
     // A block in the place of another, p of the second block, and each byte of filler.
     let mut swapped = two.clone();
-    swapped.rotate_left(BLOCK);
+    swapped.rotate_left(BLOCK_BYTES);
     assert_eq!(read(random, &swapped, room), Err(16));
     let other = changed(&two, 1, |block| block[6] ^= 1);
     assert_eq!(read(random, &other, room), Err(16));
@@ -265,7 +271,7 @@ fn sixteen() {
     }
     // 15 of a later block comes before 16 of an earlier one.
     let mut both = changed(&two, 0, |block| block[0] = 1);
-    both[BLOCK + 508] ^= 1;
+    both[BLOCK_BYTES + 508] ^= 1;
     assert_eq!(read(random, &both, room), Err(15));
     // A coefficient 0 within the count is 4.
     let none = changed(&two, 1, |block| block[24..28].fill(0));
@@ -279,7 +285,7 @@ fn refused_writing() {
     let mut met = Refusals::default();
     for _ in 0..cases() / CASES_PER_CALL {
         let terms = match random.below(100) {
-            0 => 4_097,
+            0 => MOST_TERMS + 1,
             _ => random.below(60) as usize,
         };
         let mut f = polynomial(random, terms);
@@ -296,18 +302,26 @@ fn refused_writing() {
                 _ => f.coefs.truncate(at),
             }
         }
-        let room = random.pick(&[51_200, 51_712, 1_024, 512, 511, 0]);
+        let most = MOST_BLOCKS * BLOCK_BYTES;
+        let room = random.pick(&[
+            most,
+            most + BLOCK_BYTES,
+            2 * BLOCK_BYTES,
+            BLOCK_BYTES,
+            BLOCK_BYTES - 1,
+            0,
+        ]);
         met.meet(write(random, &f, room).err().unwrap_or(0));
     }
     let least = cases() / CASES_PER_REFUSAL;
-    met.expect("write_blocks", &[0, 1, 2, 3, 4, 5, 6, 8, 10, 11], least);
+    met.expect("write", least);
 }
 
 /// The check wraps: the model's own, on a block whose words add up past 2^32.
 #[test]
 fn check_wraps() {
     let random = &mut Random::new(127);
-    let f = polynomial(random, PLACES);
+    let f = polynomial(random, BLOCK_TERMS);
     let block = f.blocks();
     let sum: u64 = block[..508]
         .chunks(4)
@@ -315,5 +329,5 @@ fn check_wraps() {
         .sum();
     assert!(sum > u64::from(u32::MAX));
     assert_eq!(u64::from(check(&block)), (sum + 1) % (1 << 32));
-    assert_eq!(write(random, &f, 512).as_deref(), Ok(&block[..]));
+    assert_eq!(write(random, &f, BLOCK_BYTES).as_deref(), Ok(&block[..]));
 }

@@ -2,11 +2,12 @@
 //! SECOND_CASES sets the size, as for the other generated tests.
 use second::cases;
 use second::generate::{places, setting};
-use second::geobucket::{Added, Geobucket, Lead, Search, BUCKETS, MOST, PLACES};
+use second::geobucket::{Added, Geobucket, Lead, Search, BUCKETS};
+use second::limits::{BUCKET_PLACES, MOST_TERMS, WORK_PLACES};
 use second::monomial::Order;
 use second::operations::{Operation, Operations};
 use second::polynomial::{lent, Term};
-use second::probe_buckets::{self, Buckets, STATE, WORK};
+use second::probe_buckets::{self, Buckets, STATE};
 use second::random::Random;
 
 /// One of so many cases is a list of operations.
@@ -49,7 +50,7 @@ impl Met {
         self.cancelled += u64::from(!f.is_empty() && after < before);
         self.moved_by_one += u64::from(added.emptied == 1);
         self.moved_by_more += u64::from(added.emptied > 1);
-        self.full += u64::from(after == MOST);
+        self.full += u64::from(after == MOST_TERMS);
         self.comparisons += added.comparisons;
     }
 
@@ -107,8 +108,8 @@ struct Both {
 impl Both {
     /// Empty, in spaces and a state with any contents.
     fn new(random: &mut Random, order: Order, p: u32) -> Self {
-        let space = places(random, PLACES, PLACES);
-        let work = places(random, WORK, WORK);
+        let space = places(random, BUCKET_PLACES, BUCKET_PLACES);
+        let work = places(random, WORK_PLACES, WORK_PLACES);
         let state: [usize; STATE] = std::array::from_fn(|_| random.word() as usize);
         Both {
             order,
@@ -258,7 +259,7 @@ fn listing() {
     assert_eq!(met.comparisons, 1);
 }
 
-/// 4,096 terms go to the last bucket in one addition, and leave it one by one.
+/// The most terms go to the last bucket in one addition, and leave it one by one.
 #[test]
 fn most_terms() {
     let random = &mut Random::new(43);
@@ -266,9 +267,9 @@ fn most_terms() {
     for order in Order::ALL {
         let mut both = Both::new(random, order, 32_003);
         let f = most(order);
-        both.operate(&Operation::Add(f.clone()), &mut met, "4,096 terms");
+        both.operate(&Operation::Add(f.clone()), &mut met, "the most terms");
         assert_eq!(both.model.buckets()[BUCKETS - 1], f);
-        for k in 0..MOST {
+        for k in 0..MOST_TERMS {
             both.operate(&Operation::Take, &mut met, "one by one");
             if k % 64 == 0 {
                 both.compare("one by one");

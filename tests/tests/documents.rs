@@ -1,5 +1,7 @@
 //! What the documents name is there: the theorems and must-fail edits of docs/ASSURANCE.md, the crates
-//! of README.md.
+//! of README.md, the entries of library/refusals.txt.
+use second::refusals::{table, ENTRIES};
+use std::collections::BTreeSet;
 use std::fs;
 use std::path::{Path, PathBuf};
 
@@ -47,6 +49,16 @@ fn declares(text: &str, name: &str) -> bool {
     })
 }
 
+/// Whether each theorem is declared in every file. Where several, none of a demand, share several files, it
+/// is enough that each is in one of them, and that each file has one.
+fn in_their_files(names: &[&str], files: &[String]) -> bool {
+    let in_all = |name: &&str| files.iter().all(|f| declares(f, name));
+    let in_one = |name: &&str| files.iter().any(|f| declares(f, name));
+    let has_one = |file: &String| names.iter().any(|name| declares(file, name));
+    let of_demands = names.iter().any(|name| name.starts_with("demand-"));
+    names.iter().all(in_all) || !of_demands && names.iter().all(in_one) && files.iter().all(has_one)
+}
+
 /// A row whose last cell names files of proofs names theorems of them in its first.
 #[test]
 fn theorems_are_in_their_files() {
@@ -58,14 +70,31 @@ fn theorems_are_in_their_files() {
             continue;
         }
         let files: Vec<String> = paths.iter().map(|p| text(&format!("crates/{p}"))).collect();
-        let names = row[0].split(": ").next().expect("names");
-        for name in quoted(names) {
-            let there = files.iter().any(|f| declares(f, name));
-            assert!(there, "{name} is in none of {paths:?}");
-            checked += 1;
-        }
+        let names = quoted(row[0].split(": ").next().expect("names"));
+        let there = in_their_files(&names, &files);
+        assert!(there, "{names:?} are not the theorems of {paths:?}");
+        checked += names.len();
     }
     assert!(checked > 100, "only {checked} theorems");
+}
+
+/// A theorem for two files that is missing in one of them is found.
+#[test]
+fn theorems_of_two_files() {
+    let whole = "a : A\npub b : B\npub demand-1 : C\ndemand-2 : D";
+    let without = |name: &str| -> String {
+        let lines = whole.lines().filter(|l| !declares(l, name));
+        lines.map(|l| format!("{l}\n")).collect()
+    };
+    let there = |names: &[&str], files: [String; 2]| in_their_files(names, &files);
+    assert!(there(&["a"], [without("b"), whole.to_string()]));
+    assert!(there(&["a", "b"], [without("a"), without("b")]));
+    assert!(!there(&["a"], [without("a"), whole.to_string()]));
+    assert!(!there(&["a"], [whole.to_string(), without("a")]));
+    assert!(!there(&["a", "b"], [without("a"), without("a")]));
+    let demands = ["demand-1", "demand-2"];
+    assert!(there(&demands, [without("a"), without("b")]));
+    assert!(!there(&demands, demands.map(without)));
 }
 
 /// In the table of wrong engines each name is that of a must-fail edit or of a theorem.
@@ -115,4 +144,11 @@ fn crates_are_in_the_readme() {
     crates.sort_unstable();
     named.sort_unstable();
     assert_eq!(named, crates);
+}
+
+/// The table of refusals names the entries that the tests know, and no others.
+#[test]
+fn entries_of_the_refusals() {
+    let named: BTreeSet<&str> = table().into_iter().flat_map(|r| r.given_by).collect();
+    assert_eq!(named, ENTRIES.into());
 }

@@ -4,8 +4,9 @@
 use second::cases;
 use second::generate::setting;
 use second::geobucket::{
-    capacity, most_comparisons, start, Added, Geobucket, Lead, Search, BUCKETS, MOST, PLACES,
+    capacity, most_comparisons, start, Added, Geobucket, Lead, Search, BUCKETS,
 };
+use second::limits::{BUCKET_PLACES, MOST_TERMS};
 use second::monomial::{Order, LIMIT};
 use second::operations::{Operation, Operations};
 use second::polynomial::{lent, sum, Term};
@@ -62,7 +63,7 @@ fn capacities_and_starts() {
     assert_eq!(capacities, [4, 16, 64, 256, 1_024, 4_096]);
     let starts: Vec<usize> = (0..BUCKETS).map(start).collect();
     assert_eq!(starts, [0, 4, 20, 84, 340, 1_364]);
-    assert_eq!(start(BUCKETS - 1) + capacity(BUCKETS - 1), PLACES);
+    assert_eq!(start(BUCKETS - 1) + capacity(BUCKETS - 1), BUCKET_PLACES);
 }
 
 /// 6·N·M by hand: M is 1 up to 4 terms, 2 up to 16, and so on, and 6 at most.
@@ -125,9 +126,9 @@ fn many(len: usize) -> Vec<Term> {
 #[test]
 fn so_many_terms_are_accepted_and_no_more() {
     let mut buckets = Geobucket::new(DP, P);
-    assert!(buckets.accepts(MOST) && !buckets.accepts(MOST + 1));
-    assert_eq!(buckets.add(&many(MOST)), Added::default());
-    assert_eq!(lens(&buckets), [0, 0, 0, 0, 0, MOST]);
+    assert!(buckets.accepts(MOST_TERMS) && !buckets.accepts(MOST_TERMS + 1));
+    assert_eq!(buckets.add(&many(MOST_TERMS)), Added::default());
+    assert_eq!(lens(&buckets), [0, 0, 0, 0, 0, MOST_TERMS]);
     assert!(buckets.accepts(0) && !buckets.accepts(1));
     buckets.take();
     assert!(buckets.accepts(1) && !buckets.accepts(2));
@@ -136,7 +137,7 @@ fn so_many_terms_are_accepted_and_no_more() {
 /// All of the last bucket is filled by an addition that goes through the five others.
 #[test]
 fn an_addition_goes_through_all_buckets() {
-    let all = many(MOST);
+    let all = many(MOST_TERMS);
     let mut buckets = Geobucket::new(DP, P);
     let mut from = 0;
     for len in [2_731, 1_024, 256, 64, 16, 4] {
@@ -289,7 +290,7 @@ fn a_sum_merges_upward() {
 fn spaces() {
     let (low, high) = (powers(1, 0), powers(9, 0));
     let (words, coefs) = filled(&[&high, &low]).space();
-    let mut expected = (vec![0; PLACES], vec![0; PLACES]);
+    let mut expected = (vec![0; BUCKET_PLACES], vec![0; BUCKET_PLACES]);
     for (terms, from) in [(low, 0), (high, 4)] {
         let (own_words, own_coefs) = lent(DP, &terms);
         expected.0[from..from + terms.len()].copy_from_slice(&own_words);

@@ -5,15 +5,15 @@ use second::cases;
 use second::generate::{
     coef, falling, monomial, monomials, negative, places, setting, up_to, with_coefs,
 };
+use second::limits::{LARGEST_PRIME, WORK_PLACES};
 use second::monomial::{Order, FIELDS, LIMIT};
 use second::polynomial::{lent, merge, multiple, part, refusal, starts_good, sum, Term};
 use second::probe;
 use second::random::Random;
 use second::residue;
 
-/// The work space has this many places, in two halves.
-const SPACE: usize = 8_192;
-const HALF: usize = SPACE / 2;
+/// The work space has two halves.
+const HALF: usize = WORK_PLACES / 2;
 
 /// The most terms of a list, but for one of so many cases.
 const SHORT: usize = 60;
@@ -252,7 +252,7 @@ fn merges() {
 fn merges_between_halves() {
     let random = &mut Random::new(22);
     let mut met = Met::default();
-    let mut space = places(random, SPACE, SPACE);
+    let mut space = places(random, WORK_PLACES, WORK_PLACES);
     for case in 0..cases() / 5 {
         let (order, n, p) = setting(case);
         let likeness = random.pick(&LIKENESSES);
@@ -545,7 +545,7 @@ fn multiples() {
     let count = cases() * 2 / 5;
     for case in 0..count {
         let (order, n, p) = setting(case);
-        let p = p.min(65_521);
+        let p = p.min(LARGEST_PRIME);
         let limit = random.pick(&[1, 15, 63, 64, LIMIT]);
         let len = up_to(random, 40);
         let monomials = monomials(random, order, n, len, limit);

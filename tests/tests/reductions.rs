@@ -1,21 +1,22 @@
 //! Reductions of the proved engine against the model: document 01's known results, and generated
 //! good, damaged and hostile ones. The variable SECOND_CASES sets the size, as for the other
 //! generated tests.
-use second::call::{terms, Answer, Given, Loan, Setting, Tally};
+use second::call::{terms, Answer, Given, Loan, Setting, Space, Tally};
 use second::cases;
 use second::damage::Damage;
 use second::generate::up_to;
-use second::geobucket::{most_comparisons, MOST};
+use second::geobucket::most_comparisons;
 use second::lender::{assert_same, Lender};
 use second::library;
+use second::limits::{MOST_STEPS, MOST_TERMS};
 use second::monomial::{divides, quotient, Order};
 use second::polynomial::{multiple, sum, Term};
 use second::pools::setting;
 use second::random::Random;
-use second::reduction::{self, MOST_LEADS};
+use second::reduction;
 use second::reduction_damage::ReductionDamage;
 use second::reduction_lists::{anything, combination, coprime, Made, Reductions};
-use second::refusals::Refusals;
+use second::refusals::{stops, Refusals};
 use second::residue;
 use second::run_lists::hostile_polynomials;
 
@@ -25,15 +26,15 @@ const CASES_PER_REDUCTION: u64 = 2;
 /// Each refusal, and each kind of reduction, must be met once in so many cases.
 const CASES_PER_KIND: u64 = 500;
 
-/// The refusals that a reduction can give, and 0 for none.
-const REFUSALS: [u64; 13] = [0, 1, 2, 3, 4, 5, 6, 7, 8, 10, 11, 12, 13];
-
 /// The opening refusals in their order, but 4, 5 and 6, which come by polynomial and place.
 const BEFORE_TERMS: [u64; 4] = [1, 2, 3, 8];
 const TERMS: [u64; 3] = [4, 5, 6];
 
 /// How often each pair of kinds of damage is done.
 const EACH_PAIR: usize = 30;
+
+/// The most leads of a reduction whose leads are found one by one.
+const MOST_FOUND: u64 = 300;
 
 /// Output places that are enough for small reductions.
 const ENOUGH: usize = 10;
@@ -45,10 +46,10 @@ const KNOWN: Setting = (Order::DegRevLex, 2, 7);
 #[derive(Debug, Default)]
 struct Met {
     reductions: u64,
-    /// By number, from 0 for none.
     refusals: Refusals,
-    /// Those that were stopped by 10 to 13 after some leads.
-    stopped_later: [u64; 4],
+    /// Those of reductions that were stopped after some leads.
+    stopped_later: Refusals,
+    stopped_with_output: u64,
     /// Those that were finished with no lead, or with the remainder zero after some leads.
     nothing: u64,
     zero: u64,
@@ -67,8 +68,9 @@ impl Met {
         if !at_opening(answer) {
             self.comparisons += left.tally.comparisons;
         }
-        if answer.refusal >= 10 && answer.finished > 0 {
-            self.stopped_later[answer.refusal as usize - 10] += 1;
+        if answer.refusal != 0 && answer.finished > 0 {
+            self.stopped_later.meet(answer.refusal);
+            self.stopped_with_output += u64::from(answer.places > 0);
         }
         if answer.refusal == 0 {
             let (leads, places) = (answer.finished, answer.places);
@@ -82,12 +84,12 @@ impl Met {
     /// That each refusal was met often enough, and each kind of reduction.
     fn whole(&self) {
         println!("{self:?}");
-        let kinds = [self.nothing, self.zero, self.at_limit, self.output_full];
+        let mut kinds = vec![self.nothing, self.zero, self.at_limit, self.output_full];
+        kinds.push(self.stopped_with_output);
+        kinds.extend(stops("reduce").iter().map(|&r| self.stopped_later.of(r)));
         let least = cases() / CASES_PER_KIND;
-        self.refusals.expect("reduce", &REFUSALS, least);
-        for often in kinds.iter().chain(&self.stopped_later) {
-            assert!(*often >= least, "{self:?}");
-        }
+        self.refusals.expect("reduce", least);
+        assert!(kinds.iter().all(|&k| k >= least), "{self:?}");
     }
 }
 
@@ -104,7 +106,7 @@ fn both(given: &Given, limit: u64, loan: Loan, about: &str) -> (Answer, Loan) {
 
 /// Whether the reduction was refused by an opening check.
 fn at_opening(answer: Answer) -> bool {
-    (1..10).contains(&answer.refusal)
+    answer.refusal != 0 && !stops("reduce").contains(&answer.refusal)
 }
 
 /// Damage of one kind or of several, or of several to the divisors and terms alone, or none.
@@ -138,7 +140,7 @@ fn hostile_case(random: &mut Random, lender: &mut Lender, case: u64) -> Case {
             0 => anything(random),
             _ => hostile_polynomials(random),
         },
-        limit: random.pick(&[0, 1, 2, 5, MOST_LEADS, MOST_LEADS, MOST_LEADS + 1, any]),
+        limit: random.pick(&[0, 1, 2, 5, MOST_STEPS, MOST_STEPS, MOST_STEPS + 1, any]),
         loan: lender.lend(random, output),
         about: format!("case {case}, hostile"),
     }
@@ -191,7 +193,10 @@ fn generated() {
         let (answer, left) = both(&given, limit, loan, &about);
         match at_opening(answer) {
             true => assert!(left == before, "{about}"),
-            false => assert_bound(left.tally, &about),
+            false => {
+                assert_bound(left.tally, &about);
+                assert_eq!(answer.places, left.tally.given, "{about}");
+            }
         }
         met.reduction(limit, answer, &left);
         lender.keep(left);
@@ -207,34 +212,82 @@ fn assert_bound(tally: Tally, about: &str) {
 
 /// The terms that the bucket space holds.
 fn held((order, n, _): Setting, left: &Loan) -> Vec<Term> {
-    let (words, coefs) = &left.space;
-    let mut held = terms(order, n, words, coefs);
-    held.retain(|&(_, c)| c != 0);
-    held
+    let places = left.space.0.iter().zip(&left.space.1);
+    let (words, coefs): Space = places.filter(|&(_, &c)| c != 0).unzip();
+    terms(order, n, &words, &coefs)
 }
 
-/// What a reduction removed and what is held add up to what was brought in, modulo p; and the tally
-/// has their numbers.
+/// The leads that the proved engine removes first: each is the largest term in the bucket space where the
+/// step limit stops before it.
+fn removed(given: &Given, setting: Setting, leads: u64, mut loan: Loan) -> Vec<Term> {
+    let lead = |limit: u64| {
+        let answer = library::reduce(given, limit, &mut loan);
+        assert_eq!((answer.refusal, answer.finished), (13, limit));
+        let held = held(setting, &loan).into_iter();
+        let lead = held.max_by(|(x, _), (y, _)| setting.0.compare(x, y));
+        lead.expect("a lead is left")
+    };
+    (0..leads).map(lead).collect()
+}
+
+/// What is added where these leads are removed: polynomial 0 unless it has too many terms, and for each
+/// lead the multiple of a divisor's tail; and the leads that go to the remainder.
+fn added(p: u32, polynomials: &[Vec<Term>], leads: &[Term]) -> (Vec<Term>, Vec<Term>) {
+    let (mut brought, mut remainder) = (polynomials[0].clone(), Vec::new());
+    brought.truncate(if brought.len() > MOST_TERMS {
+        0
+    } else {
+        MOST_TERMS
+    });
+    for (m, c) in leads {
+        match polynomials[1..].iter().find(|d| divides(&d[0].0, m)) {
+            Some(d) => {
+                let factor = residue::multiply(*c, residue::invert(d[0].1, p), p);
+                let by = quotient(m, &d[0].0).expect("it divides");
+                let tail = multiple(p, residue::negate(factor, p), &by, &d[1..]);
+                brought.extend(tail.expect("the step was done"));
+            }
+            None => remainder.push((m.clone(), *c)),
+        }
+    }
+    (brought, remainder)
+}
+
+/// Of the proved engine alone: the leads that it removed and the terms in its bucket space add up to what
+/// was brought in, modulo p; and its output and its tally say the same.
 #[test]
 fn conservation() {
     let random = &mut Random::new(82);
     let reductions = Reductions::new();
     let mut lender = Lender::new(random);
+    let mut checked = 0;
     for case in 0..cases() / (10 * CASES_PER_REDUCTION) {
         let setting = setting(random, case);
         let made = reductions.made(random, case, setting);
         let (limit, output) = (made.limit(random), made.output_len(random));
         let mut loan = lender.lend(random, output);
-        let (answer, trace) = reduction::traced(&made.given, limit, &mut loan);
-        let (held, (order, _, p)) = (held(setting, &loan), setting);
-        let out = sum(order, p, &trace.removed, &held);
-        let about = format!("case {case} {setting:?}");
-        assert!(out == sum(order, p, &trace.brought, &[]), "{about}");
-        assert_eq!(trace.removed.len() as u64, answer.finished, "{about}");
-        assert_eq!(trace.brought.len() as u64, loan.tally.brought, "{about}");
-        assert_eq!(held.len() as u64, loan.tally.held, "{about}");
+        let answer = library::reduce(&made.given, limit, &mut loan);
+        // Of long ones the leads would take too long to find.
+        if answer.finished > MOST_FOUND {
+            continue;
+        }
+        let (about, (order, n, p)) = (format!("case {case} {setting:?}"), setting);
+        let leads = removed(&made.given, setting, answer.finished, loan.clone());
+        let polynomials = made.given.polynomials((order, n)).expect("good");
+        let (brought, remainder) = added(p, &polynomials, &leads);
+        let held = held(setting, &loan);
+        let out = sum(order, p, &leads, &held);
+        assert!(out == sum(order, p, &brought, &[]), "{about}");
+        let places = answer.places as usize;
+        let (words, coefs) = (&loan.output.0[..places], &loan.output.1[..places]);
+        assert!(terms(order, n, words, coefs) == remainder, "{about}");
+        let numbers = [&brought, &remainder, &held].map(|terms| terms.len() as u64);
+        let Tally { brought, given, .. } = loan.tally;
+        assert_eq!([brought, given, loan.tally.held], numbers, "{about}");
         assert_bound(loan.tally, &about);
+        checked += 1;
     }
+    assert!(checked >= cases() / (20 * CASES_PER_REDUCTION), "{checked}");
 }
 
 /// The division algorithm on whole polynomials, without buckets: the remainder and the leads, where
@@ -311,7 +364,7 @@ fn bases() {
         for turn in 0..2 {
             let given = Given::new(setting, &[vec![f.clone()], basis.clone()].concat());
             let about = format!("case {case} {setting:?}, turn {turn}");
-            let loan = lender.lend(random, MOST);
+            let loan = lender.lend(random, MOST_TERMS);
             let (answer, left) = both(&given, 2_000, loan, &about);
             if answer.refusal == 0 {
                 let places = answer.places as usize;
@@ -414,11 +467,7 @@ fn known(polynomials: &[Vec<Term>], limit: u64) -> (u64, u64, Vec<Term>, Loan) {
     let about = format!("{polynomials:?}, limit {limit}");
     let (answer, left) = both(&given, limit, loan, &about);
     let written = left.tally.given as usize;
-    let places = match answer.refusal {
-        0 => written,
-        _ => 0,
-    };
-    assert_eq!(answer.places as usize, places, "{about}");
+    assert_eq!(answer.places as usize, written, "{about}");
     let (words, coefs) = &left.output;
     assert_eq!(words[written..], before.0[written..], "{about}");
     assert_eq!(coefs[written..], before.1[written..], "{about}");
@@ -431,44 +480,106 @@ fn of(terms: &[(u32, [u8; 2])]) -> Vec<Term> {
     polynomial(KNOWN.0, KNOWN.1, terms)
 }
 
+/// A polynomial of a known result as numbers: words of dp in two variables, and coefficients.
+type Numbers = &'static [(u64, u32)];
+
+/// x1²x2 + x1x2² + x2², x1x2 + 6 and x2² + 6.
+const F: Numbers = &[
+    (0x0003_0000_0000_0102, 1),
+    (0x0003_0000_0000_0201, 1),
+    (0x0002_0000_0000_0200, 1),
+];
+const G: Numbers = &[(0x0002_0000_0000_0101, 1), (0, 6)];
+const H: Numbers = &[(0x0002_0000_0000_0200, 1), (0, 6)];
+
+/// Does a reduction of the known results with the proved engine alone. Its refusal, leads, remainder and
+/// tally (comparisons, brought, given, held) must be these numbers; what is held is given back.
+fn expect_known(
+    polynomials: &[Numbers],
+    limit: u64,
+    (refusal, leads): (u64, u64),
+    remainder: Numbers,
+    tally: [u64; 4],
+) -> Vec<(u64, u32)> {
+    let mut given = Given {
+        p: 7,
+        order: 3,
+        n: 2,
+        starts: vec![0],
+        ..Given::default()
+    };
+    for &(word, coef) in polynomials.concat().iter() {
+        given.words.push(word);
+        given.coefs.push(coef);
+    }
+    for numbers in polynomials {
+        let last = given.starts[given.starts.len() - 1];
+        given.starts.push(last + numbers.len());
+    }
+    let random = &mut Random::new(86);
+    let mut loan = Lender::new(random).lend(random, ENOUGH);
+    let answer = library::reduce(&given, limit, &mut loan);
+    let pairs =
+        |(words, coefs): Space| -> Vec<(u64, u32)> { words.into_iter().zip(coefs).collect() };
+    let about = format!("{polynomials:?}, limit {limit}");
+    assert_eq!(
+        (answer.refusal, answer.finished),
+        (refusal, leads),
+        "{about}"
+    );
+    assert_eq!(
+        pairs(loan.output)[..answer.places as usize],
+        *remainder,
+        "{about}"
+    );
+    let Tally {
+        comparisons,
+        brought,
+        given,
+        held,
+    } = loan.tally;
+    assert_eq!([comparisons, brought, given, held], tally, "{about}");
+    let mut space = pairs(loan.space);
+    space.retain(|&(_, coef)| coef != 0);
+    space
+}
+
 /// x1²x2 + x1x2² + x2² by x1x2+6, x2²+6 leaves x1+x2+1 after 6 leads; limit 5 stops with 13; with the
 /// divisors swapped it leaves 2x1+1 after 5 leads.
 #[test]
 fn known_remainders() {
-    let [f, g, h] = known_polynomials(KNOWN.0, KNOWN.1);
-    let in_turn = [f.clone(), g.clone(), h.clone()];
-    let remainder = of(&[(1, [1, 0]), (1, [0, 1]), (1, [0, 0])]);
-    for limit in [6, 7, MOST_LEADS] {
-        let (refusal, leads, found, left) = known(&in_turn, limit);
-        assert_eq!((refusal, leads, &found), (0, 6, &remainder), "{limit}");
-        let tally = Tally {
-            comparisons: left.tally.comparisons,
-            brought: 6,
-            given: 3,
-            held: 0,
-        };
-        assert_eq!(left.tally, tally);
+    const REMAINDER: Numbers = &[
+        (0x0001_0000_0000_0001, 1),
+        (0x0001_0000_0000_0100, 1),
+        (0, 1),
+    ];
+    for limit in [6, 7, MOST_STEPS] {
+        let held = expect_known(&[F, G, H], limit, (0, 6), REMAINDER, [6, 6, 3, 0]);
+        assert_eq!(held, []);
     }
+    let held = expect_known(&[F, G, H], 5, (13, 5), &REMAINDER[..2], [6, 6, 2, 1]);
+    assert_eq!(held, [(0, 1)]);
+    const SWAPPED: Numbers = &[(0x0001_0000_0000_0001, 2), (0, 1)];
+    let held = expect_known(&[F, H, G], MOST_STEPS, (0, 5), SWAPPED, [5, 6, 2, 0]);
+    assert_eq!(held, []);
+    let in_turn = known_polynomials(KNOWN.0, KNOWN.1);
     for limit in 0..6 {
         let (refusal, leads, ..) = known(&in_turn, limit);
         assert_eq!((refusal, leads), (13, limit));
     }
-    let (refusal, leads, found, _) = known(&[f, h, g], MOST_LEADS);
-    let swapped = of(&[(2, [1, 0]), (1, [0, 0])]);
-    assert_eq!((refusal, leads, found), (0, 5, swapped));
 }
 
 /// By x2²+6x1: x1^126·x2² leaves x1^127; x1^127·x2² stops with 12, and its lead is left.
 #[test]
 fn known_exponents() {
-    let divisor = of(&[(1, [0, 2]), (6, [1, 0])]);
-    let (refusal, leads, remainder, _) = known(&[of(&[(1, [126, 2])]), divisor.clone()], 9);
-    assert_eq!((refusal, leads, remainder), (0, 2, of(&[(1, [127, 0])])));
-    let f = of(&[(1, [127, 2])]);
-    let (refusal, leads, remainder, left) = known(&[f.clone(), divisor], 9);
-    assert_eq!((refusal, leads, remainder.len()), (12, 0, 0));
-    assert_eq!(held(KNOWN, &left), f);
-    assert_eq!((left.tally.brought, left.tally.held), (1, 1));
+    const DIVISOR: Numbers = &[(0x0002_0000_0000_0200, 1), (0x0001_0000_0000_0001, 6)];
+    const LOW: Numbers = &[(0x0080_0000_0000_027e, 1)];
+    const HIGH: Numbers = &[(0x0081_0000_0000_027f, 1)];
+    const REMAINDER: Numbers = &[(0x007f_0000_0000_007f, 1)];
+    let held = expect_known(&[LOW, DIVISOR], 9, (0, 2), REMAINDER, [0, 2, 1, 0]);
+    assert_eq!(held, []);
+    let held = expect_known(&[HIGH, DIVISOR], 9, (12, 0), &[], [0, 1, 0, 1]);
+    assert_eq!(held, HIGH);
 }
 
 /// 4 terms go to bucket 1, which starts at place 0, and 5 to bucket 2, which starts at place 4; the step
@@ -501,8 +612,8 @@ fn order_in_a_step() {
         (vec![f.clone()], 0, (13, 0)),
         (vec![f.clone()], 1, (0, 1)),
         (vec![Vec::new(), divisor.clone()], 0, (0, 0)),
-        (vec![Vec::new()], MOST_LEADS, (0, 0)),
-        (vec![f.clone(), divisor.clone()], MOST_LEADS + 1, (8, 0)),
+        (vec![Vec::new()], MOST_STEPS, (0, 0)),
+        (vec![f.clone(), divisor.clone()], MOST_STEPS + 1, (8, 0)),
         (vec![], 1, (8, 0)),
         (vec![f, Vec::new(), divisor], 1, (7, 0)),
     ] {
@@ -523,18 +634,14 @@ fn places_of_a_remainder() {
     let given = Given::new(KNOWN, &known_polynomials(KNOWN.0, KNOWN.1));
     for output in 0..5 {
         let loan = lender.lend(random, output);
-        let (answer, left) = both(&given, MOST_LEADS, loan, &format!("{output} places"));
-        let (refusal, leads, places) = match output {
-            0..=2 => (10, 3 + output as u64, 0),
-            _ => (0, 6, 3),
-        };
+        let (answer, left) = both(&given, MOST_STEPS, loan, &format!("{output} places"));
+        let written = output.min(3) as u64;
         let expected = Answer {
-            refusal,
-            finished: leads,
-            places,
+            refusal: if output < 3 { 10 } else { 0 },
+            finished: 3 + written,
+            places: written,
         };
         assert_eq!(answer, expected, "{output}");
-        let written = output.min(3) as u64;
         assert_eq!((left.tally.given, left.tally.held), (written, 3 - written));
     }
 }
@@ -548,7 +655,7 @@ fn falling_terms(order: Order, count: usize) -> Vec<Term> {
     terms
 }
 
-/// Polynomial 0 may have 4,096 terms and not one more, whatever the step limit is; and a tail may fill
+/// Polynomial 0 may have the most terms and not one more, whatever the step limit is; and a tail may fill
 /// the place of the lead and what is free, and not one more.
 #[test]
 fn most_terms() {
@@ -565,15 +672,15 @@ fn most_terms() {
             terms
         };
         for (len, tail, limit, expected, held) in [
-            (MOST + 1, 1, 0, (11, 0), 0),
-            (MOST + 1, 1, 9, (11, 0), 0),
-            (MOST, 1, 0, (13, 0), MOST),
-            (MOST, 1, 1, (13, 1), MOST),
-            (MOST, 2, 0, (13, 0), MOST),
-            (MOST, 2, 1, (11, 0), MOST),
-            (MOST - 9, 10, 1, (13, 1), MOST),
-            (MOST - 9, 11, 1, (11, 0), MOST - 9),
-            (100, 3_997, 1, (13, 1), MOST),
+            (MOST_TERMS + 1, 1, 0, (11, 0), 0),
+            (MOST_TERMS + 1, 1, 9, (11, 0), 0),
+            (MOST_TERMS, 1, 0, (13, 0), MOST_TERMS),
+            (MOST_TERMS, 1, 1, (13, 1), MOST_TERMS),
+            (MOST_TERMS, 2, 0, (13, 0), MOST_TERMS),
+            (MOST_TERMS, 2, 1, (11, 0), MOST_TERMS),
+            (MOST_TERMS - 9, 10, 1, (13, 1), MOST_TERMS),
+            (MOST_TERMS - 9, 11, 1, (11, 0), MOST_TERMS - 9),
+            (100, 3_997, 1, (13, 1), MOST_TERMS),
             (100, 3_998, 1, (11, 0), 100),
         ] {
             let f = falling_terms(order, len);
@@ -583,7 +690,7 @@ fn most_terms() {
             let (answer, left) = both(&given, limit, loan, &about);
             assert_eq!((answer.refusal, answer.finished), expected, "{about}");
             assert_eq!(left.tally.held, held as u64, "{about}");
-            if len > MOST {
+            if len > MOST_TERMS {
                 assert_eq!(left.tally, Tally::default(), "{about}");
             }
         }
@@ -604,7 +711,7 @@ fn several_causes() {
         let over = small(&[(1, [1, 0]), (1, [0, 1]), (1, [0, 0])]);
         let many = small(&[(1, [2, 0]), (1, [1, 0]), (1, [0, 0])]);
         let one = small(&[(1, [1, 0])]);
-        let full = falling_terms(order, MOST);
+        let full = falling_terms(order, MOST_TERMS);
         for (f, divisors, limit, expected) in [
             (&full, vec![&over], 0, (13, 0)),
             (&full, vec![&over, &many], 1, (12, 0)),
@@ -643,7 +750,7 @@ fn many_divisors() {
             let given = Given::new((order, 2, 7), &polynomials);
             let loan = lender.lend(random, 1);
             let about = format!("{order:?}, {before} divisors before");
-            let (answer, left) = both(&given, MOST_LEADS, loan, &about);
+            let (answer, left) = both(&given, MOST_STEPS, loan, &about);
             let numbers = (answer.refusal, answer.finished, answer.places);
             assert_eq!(numbers, (0, 4, 1), "{about}");
             // 3·x1 = -5 = 2, so that x1 = 3 and 2·x1^3 = 54 = 5.

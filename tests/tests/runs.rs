@@ -4,15 +4,16 @@ use second::call::{Answer, Given, Loan, Setting, Tally};
 use second::cases;
 use second::damage::Damage;
 use second::generate::up_to;
-use second::geobucket::{most_comparisons, MOST};
+use second::geobucket::most_comparisons;
 use second::lender::{assert_same, Lender};
 use second::library;
+use second::limits::{MOST_OPERATIONS, MOST_TERMS};
 use second::monomial::Order;
 use second::polynomial::Term;
 use second::pools::setting;
 use second::random::Random;
-use second::refusals::Refusals;
-use second::run::{self, ADD, LEAD, MOST_OPERATIONS, SUM};
+use second::refusals::{stops, Refusals};
+use second::run::{self, ADD, LEAD, SUM};
 use second::run_damage::RunDamage;
 use second::run_lists::{hostile, Runs};
 
@@ -21,9 +22,6 @@ const CASES_PER_RUN: u64 = 2;
 
 /// Each refusal must be given once in so many cases.
 const CASES_PER_REFUSAL: u64 = 1_000;
-
-/// The refusals that a run can give, and 0 for none.
-const REFUSALS: [u64; 11] = [0, 1, 2, 3, 4, 5, 6, 8, 9, 10, 11];
 
 /// The opening refusals in their order. The last three come by polynomial and place.
 const OPENING: [u64; 5] = [1, 2, 3, 8, 9];
@@ -45,9 +43,9 @@ type Run = (Given, Vec<usize>);
 struct Met {
     runs: u64,
     refusals: Refusals,
-    /// Runs that were stopped by 10 or 11 after some operations.
-    stopped_by_10: u64,
-    stopped_by_11: u64,
+    /// Those of runs that were stopped after some operations.
+    stopped_later: Refusals,
+    stopped_with_output: u64,
     zero_places: u64,
     full: u64,
     operations: u64,
@@ -59,12 +57,13 @@ impl Met {
         self.runs += 1;
         self.refusals.meet(answer.refusal);
         self.operations += answer.finished;
-        let stopped = |number| u64::from(answer.refusal == number && answer.finished > 0);
-        self.stopped_by_10 += stopped(10);
-        self.stopped_by_11 += stopped(11);
+        if answer.refusal != 0 && answer.finished > 0 {
+            self.stopped_later.meet(answer.refusal);
+            self.stopped_with_output += u64::from(answer.places > 0);
+        }
         if answer.refusal == 0 {
             self.zero_places += u64::from(answer.places > tally.given);
-            self.full += u64::from(tally.held == MOST as u64);
+            self.full += u64::from(tally.held == MOST_TERMS as u64);
             self.comparisons += tally.comparisons;
         }
     }
@@ -73,13 +72,9 @@ impl Met {
     fn whole(&self) {
         println!("{self:?}");
         let least = cases() / CASES_PER_REFUSAL;
-        self.refusals.expect("run", &REFUSALS, least);
-        let kinds = [
-            self.stopped_by_10,
-            self.stopped_by_11,
-            self.zero_places,
-            self.full,
-        ];
+        self.refusals.expect("run", least);
+        let mut kinds = vec![self.stopped_with_output, self.zero_places, self.full];
+        kinds.extend(stops("run").iter().map(|&r| self.stopped_later.of(r)));
         assert!(kinds.iter().all(|&k| k > 0), "{self:?}");
     }
 }
@@ -97,7 +92,7 @@ fn both((given, operations): &Run, loan: Loan, about: &str) -> (Answer, Loan) {
 
 /// Whether the run was refused by an opening check.
 fn at_opening(answer: Answer) -> bool {
-    !matches!(answer.refusal, 0 | 10 | 11)
+    answer.refusal != 0 && !stops("run").contains(&answer.refusal)
 }
 
 /// Damage of one kind or of several, or of several to the terms alone, or none.
@@ -150,6 +145,9 @@ fn generated() {
                 ..
             } = left.tally;
             assert!(comparisons <= most_comparisons(brought), "{about}");
+            let written = &left.output.1[..answer.places as usize];
+            let terms = written.iter().filter(|&&c| c != 0).count() as u64;
+            assert_eq!(left.tally.given, terms, "{about}");
         }
         met.run(answer, left.tally);
         lender.keep(left);
@@ -290,7 +288,7 @@ fn no_polynomials() {
     };
     for (pairs, starts, output, expected) in [
         (&[[LEAD, 0], [SUM, 0]][..], &[0][..], 2, [0, 2, 2]),
-        (&[[LEAD, 0], [SUM, 0]], &[0], 1, [10, 1, 0]),
+        (&[[LEAD, 0], [SUM, 0]], &[0], 1, [10, 1, 1]),
         (&[[LEAD, 0]], &[0], 0, [10, 0, 0]),
         (&[], &[0], 0, [0, 0, 0]),
         (&[], &[], 0, [8, 0, 0]),
@@ -314,7 +312,7 @@ fn most(order: Order) -> Vec<Term> {
     terms
 }
 
-/// 4,096 terms are held, and one more gives 11; after a lead there is room for it.
+/// The most terms are held, and one more gives 11; after a lead there is room for it.
 #[test]
 fn most_terms() {
     let random = &mut Random::new(66);
@@ -324,22 +322,27 @@ fn most_terms() {
         let (all, most_but_one) = (most(order), most(order)[1..].to_vec());
         let over = [one.clone(), all.clone()].concat();
         let polynomials = [all, one, most_but_one, over];
+        let sum = MOST_TERMS as u64 + 1;
         for (pairs, expected, held) in [
-            (&[[ADD, 0]][..], [0, 1, 0], 4_096),
-            (&[[ADD, 0], [ADD, 1]], [11, 1, 0], 4_096),
+            (&[[ADD, 0]][..], [0, 1, 0], MOST_TERMS),
+            (&[[ADD, 0], [ADD, 1]], [11, 1, 0], MOST_TERMS),
             (&[[ADD, 1], [ADD, 0]], [11, 1, 0], 1),
-            (&[[ADD, 1], [ADD, 2]], [0, 2, 0], 4_096),
-            (&[[ADD, 2], [ADD, 1], [ADD, 1]], [11, 2, 0], 4_096),
-            (&[[ADD, 0], [LEAD, 0], [ADD, 1]], [0, 3, 1], 4_096),
-            (&[[ADD, 0], [SUM, 0], [ADD, 0]], [0, 3, 4_097], 4_096),
+            (&[[ADD, 1], [ADD, 2]], [0, 2, 0], MOST_TERMS),
+            (&[[ADD, 2], [ADD, 1], [ADD, 1]], [11, 2, 0], MOST_TERMS),
+            (&[[ADD, 0], [LEAD, 0], [ADD, 1]], [0, 3, 1], MOST_TERMS),
+            (&[[ADD, 0], [SUM, 0], [ADD, 0]], [0, 3, sum], MOST_TERMS),
+            (&[[ADD, 0], [SUM, 0], [ADD, 3]], [11, 2, sum], 0),
+            (&[[ADD, 0], [SUM, 0], [LEAD, 0]], [10, 2, sum], 0),
+            (&[[ADD, 0], [LEAD, 0], [ADD, 0]], [11, 2, 1], MOST_TERMS - 1),
             (&[[ADD, 3]], [11, 0, 0], 0),
         ] {
             let run = run_of((order, 2, 32_003), &polynomials, pairs);
-            let loan = lender.lend(random, MOST + 1);
+            let loan = lender.lend(random, MOST_TERMS + 1);
             let about = format!("{order:?} {pairs:?}");
             let (answer, left) = both(&run, loan, &about);
             let numbers = [answer.refusal, answer.finished, answer.places];
-            assert_eq!((numbers, left.tally.held), (expected, held), "{about}");
+            let left = left.tally.held as usize;
+            assert_eq!((numbers, left), (expected, held), "{about}");
         }
     }
 }
@@ -386,7 +389,7 @@ fn order_in_terms() {
     }
 }
 
-/// 16,777,216 operations are taken, and one more is not.
+/// The most operations are taken, and one more is not.
 #[test]
 fn most_operations() {
     let random = &mut Random::new(68);

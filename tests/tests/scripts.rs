@@ -1,10 +1,13 @@
 //! The program `bucketlist` and the library's listing against the second program's listing of the same
 //! script. The program is `target/bin/bucketlist`, which `rt check bucketlist` makes.
+use damselbuckle::raw;
 use second::cases;
+use second::generate::padded;
+use second::limits::{LARGEST_PRIME, LISTING_BYTES, SCRIPT_BYTES};
 use second::monomial::Order;
 use second::random::Random;
 use second::refusals::Refusals;
-use second::script::{listing, LONGEST};
+use second::script::listing;
 use std::io::Write;
 use std::path::PathBuf;
 use std::process::{Command, Stdio};
@@ -63,7 +66,7 @@ fn script(random: &mut Random) -> Vec<u8> {
         0 => 7,
         _ => 1 + random.below(6) as usize,
     };
-    let p = random.pick(&[2, 3, 7, 101, 32_003, 65_521]);
+    let p = random.pick(&[2, 3, 7, 101, 32_003, u64::from(LARGEST_PRIME)]);
     let mut text = format!("prime {p}\norder {}\nvars {n}\n", order.name());
     for _ in 0..random.below(30) {
         let line = match random.below(4) {
@@ -93,7 +96,7 @@ fn printed(listing: &str) -> u64 {
     let last = listing.lines().last().expect("a line");
     let words: Vec<&str> = last.split(' ').collect();
     match words[..] {
-        ["refused", number, "at", "0"] => number.parse().expect("a number"),
+        ["refused", number, "at", _] => number.parse().expect("a number"),
         _ => 0,
     }
 }
@@ -111,7 +114,29 @@ fn generated_scripts() {
         met.meet(printed(&listing(&script)));
     }
     let least = cases() / CASES_PER_REFUSAL;
-    met.expect("listing", &[0, 1, 3, 4, 5, 6, 17], least);
+    met.expect("print", least);
+}
+
+/// A listing is lent room for the longest, whatever it says; with less its call is refused.
+#[test]
+fn room_of_a_listing() {
+    let mut met = Refusals::default();
+    for script in [&b"lead\n"[..], b"prime 7\norder dp\nvars 2\nsum\n"] {
+        for room in [0, 20, LISTING_BYTES - 1, LISTING_BYTES, LISTING_BYTES + 1] {
+            let mut out = vec![9; room];
+            let answer = raw::listing(script, &mut out);
+            let (refusal, own) = match room < LISTING_BYTES {
+                true => (10, String::new()),
+                false => (0, listing(script)),
+            };
+            let length = answer.length as usize;
+            assert_eq!((answer.refusal, answer.finished), (refusal, 0));
+            assert_eq!(&out[..length], own.as_bytes());
+            assert!(out[length..].iter().all(|&byte| byte == 9));
+            met.meet(refusal);
+        }
+    }
+    met.expect("listing", 1);
 }
 
 #[test]
@@ -171,18 +196,21 @@ fn corners() {
     }
 }
 
-/// The longest script is read, and one byte more is refused and not cut.
+/// A script of the most bytes is read, and one of a byte more is refused and not cut; but for its length it
+/// is as good.
 #[test]
 fn lengths() {
-    let head = "prime 65521\norder lp\nvars 1\n";
-    let line = "add 1:0\nsum\n";
-    let mut script = head.to_string() + &line.repeat((LONGEST - head.len()) / line.len());
-    while script.len() + 4 <= LONGEST {
-        script += "add\n";
+    let head = format!("prime {LARGEST_PRIME}\norder lp\nvars 1\n");
+    let script = head + &"add 1:0\nsum\n".repeat(1_000);
+    for bytes in [SCRIPT_BYTES - 1, SCRIPT_BYTES] {
+        let good = padded(&script, bytes);
+        assert!(proved(good.as_bytes()).starts_with("sum 1:0\n"), "{bytes}");
+        same(good.as_bytes());
     }
-    same(script.as_bytes());
-    assert!(listing(script.as_bytes()).ends_with('\n'));
-    let long = script + "add\nadd\nadd\n";
+    let long = padded(&script, SCRIPT_BYTES + 1);
     assert_eq!(proved(long.as_bytes()), "refused 17 at 0\n");
-    same(long.as_bytes());
+    assert_eq!(damselbuckle::listing(long.as_bytes()), "refused 17 at 0\n");
+    let shorter = long.strip_suffix("add\n").expect("padded");
+    assert!(proved(shorter.as_bytes()).starts_with("sum 1:0\n"));
+    same(shorter.as_bytes());
 }

@@ -71,13 +71,12 @@ fn flat(outputs: Vec<Output>) -> Vec<Option<Term>> {
 
 /// The refusal must be the answer's, and what the call left must be what the second program's left.
 fn stopped(refused: Refused, answer: Answer, engine: &Engine, loan: &Loan) {
-    let Answer {
-        refusal, finished, ..
-    } = answer;
-    assert_eq!(
-        (refused.refusal.number(), refused.finished),
-        (refusal, finished)
-    );
+    let own = Answer {
+        refusal: refused.refusal.number(),
+        finished: refused.finished,
+        places: refused.places as u64,
+    };
+    assert_eq!(own, answer);
     assert_eq!(engine.tally(), tally(loan));
     assert_eq!(engine.buckets(), (&loan.space.0[..], &loan.space.1[..]));
     assert_eq!(engine.output(), (&loan.output.0[..], &loan.output.1[..]));

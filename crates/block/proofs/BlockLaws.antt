@@ -14,9 +14,9 @@ use Rattle.monomial.specs.Layout.{bytes, ofBytes}
 use Rattle.monomial.proofs.ByteLaws.{length-bytes}
 use Rattle.polynomial.specs.Terms.{Term, term, terms}
 use Rattle.polynomial.proofs.TermLists.{length-terms, term-at}
-use Rattle.merge.specs.Lent.{part}
-use Rattle.merge.proofs.Lists.{sets-snoc}
-use Rattle.block.specs.declared.header.Setting.{Setting}
+use Rattle.merge_common.specs.Lent.{part}
+use Rattle.merge_common.proofs.Lists.{sets-snoc}
+use Rattle.polynomial.specs.declared.setting.Setting.{Setting}
 use Rattle.block.specs.Block.{numberAt, settingBytes, header, place, places, unused, sumWords, checkOf, body, block, same, zeros}
 use Rattle.block.proofs.ByteLaws.{part-part, part-put, part-cons, joined}
 

@@ -10,8 +10,8 @@ use lib.Seq.{sets, sets-eq, take-add, take-take, drop-drop, drop-cons, take-at, 
 use Rattle.monomial.specs.Layout.{bytes, ofBytes}
 use Rattle.monomial.proofs.ByteLaws.{length-bytes, bytes-below, ofBytes-bytes, bytes-of}
 use Rattle.monomial.proofs.FieldLaws.{ofBytes-append}
-use Rattle.merge.specs.Lent.{part}
-use Rattle.merge.proofs.Lists.{sets-append}
+use Rattle.merge_common.specs.Lent.{part}
+use Rattle.merge_common.proofs.Lists.{sets-append}
 use Rattle.block.specs.Block.{numberAt}
 
 -- ---- parts

@@ -6,8 +6,8 @@ use lib.Dec.{eqb}
 use lib.ListN.{length, take, drop, replicate}
 use Rattle.monomial.specs.Layout.{bytes, ofBytes, below}
 use Rattle.polynomial.specs.Terms.{Term}
-use Rattle.merge.specs.Lent.{part}
-use Rattle.block.specs.declared.header.Setting.{Setting}
+use Rattle.merge_common.specs.Lent.{part}
+use Rattle.polynomial.specs.declared.setting.Setting.{Setting}
 
 -- the number of the k bytes from place `at` on
 abbrev pub numberAt : (k at : ℕ) → List ℕ → ℕ

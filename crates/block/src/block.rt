@@ -1,10 +1,10 @@
 // A whole block.
 use crate::check::check_of;
 use crate::filler::clear;
-use crate::header::Setting;
 use crate::header::put_header;
 use crate::number::put_4;
 use crate::place::put_places;
+use polynomial::setting::Setting;
 ghost use mathlib.Core.Path.{_≡_};
 ghost use Prim.Native.Nat.{_+_, _≤_};
 ghost use lib.ListN.{length};

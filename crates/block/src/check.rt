@@ -4,7 +4,7 @@ ghost use mathlib.Core.Path.{_≡_};
 ghost use Prim.Native.Nat.{_+_, _≤_};
 ghost use lib.Dec.{eqb};
 ghost use lib.ListN.{length};
-ghost use Rattle.merge.specs.Lent.{part};
+ghost use Rattle.merge_common.specs.Lent.{part};
 ghost use Rattle.block.specs.Block.{checkOf, numberAt};
 
 // The check of the block from place `at` on, over its first 508 bytes.

@@ -3,7 +3,7 @@ ghost use mathlib.Core.Path.{_≡_};
 ghost use Prim.Native.Nat.{_+_, _≤_};
 ghost use lib.ListN.{length, replicate};
 ghost use lib.Seq.{sets};
-ghost use Rattle.merge.specs.Lent.{part};
+ghost use Rattle.merge_common.specs.Lent.{part};
 ghost use Rattle.block.specs.Block.{zeros};
 
 // Sets the n bytes from place `at` on to 0.

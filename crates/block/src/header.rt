@@ -4,19 +4,13 @@ use crate::number::get_1;
 use crate::number::get_2;
 use crate::number::put_1;
 use crate::number::put_2;
+use polynomial::setting::Setting;
 ghost use mathlib.Core.Path.{_≡_};
 ghost use Prim.Native.Nat.{_+_, _≤_};
 ghost use lib.ListN.{length};
 ghost use lib.Seq.{sets};
-ghost use Rattle.merge.specs.Lent.{part};
+ghost use Rattle.merge_common.specs.Lent.{part};
 ghost use Rattle.block.specs.Block.{header, settingBytes, same, settingAt};
-
-// The problem's setting, as a header has it.
-pub struct Setting {
-    pub p: u32,
-    pub order: u32,
-    pub n: u32,
-}
 
 // Puts the setting's ten bytes from place `at` on.
 pub fn put_setting(s: &mut [u8], at: usize, setting: Setting)

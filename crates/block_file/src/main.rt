@@ -7,7 +7,7 @@ use blocks::read::Reading;
 use blocks::read::read_blocks;
 use blocks::write::Writing;
 use blocks::write::write_blocks;
-use opening::refusal::number_of;
+use refusal::number_of;
 
 // 3*x1^2 + x1*x2 + x2^2 + x1 + x2 in dp and two variables.
 const WORDS: [u64; 5] = [

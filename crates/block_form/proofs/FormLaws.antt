@@ -9,13 +9,14 @@ use native.Mathlib.Omega.{arith}
 use borrow.Author.Tests.{eqb-true, leb-true, eq-eqb, ne-eqb, le-leb, lt-leb}
 use lib.Dec.{leb, eqb}
 use lib.ListN.{length}
+use Rattle.limits.specs.Limits.{mostTerms}
 use Rattle.monomial.proofs.Places.{and-both}
 use Rattle.polynomial.specs.Opening.{first}
-use Rattle.merge.specs.Lent.{part}
+use Rattle.merge_common.specs.Lent.{part}
 use Rattle.opening.specs.Run.{unless, between}
 use Rattle.polynomial.proofs.OpeningLaws.{first-none}
 use Rattle.opening.proofs.Tests.{passed}
-use Rattle.block.specs.declared.header.Setting.{Setting}
+use Rattle.polynomial.specs.declared.setting.Setting.{Setting}
 use Rattle.block.specs.Block.{header, blockCount, same, zeros, settingIn}
 use Rattle.block_form.specs.Form.{allBelow, wholeBlocks, countIn, totalIn, hereOf, checksStand, blockStands, blocksStand, Counted, Formed, formRefusal}
 
@@ -98,31 +99,31 @@ whole-passes len h =
 -- ---- all blocks
 pub record Stand (s : List ℕ) : Type 0 where
   pub fits : blockCount (totalIn s) ≡ countIn s
-  pub few : totalIn s ≤ 4096
+  pub few : totalIn s ≤ mostTerms
   pub each : allBelow (countIn s) (blockStands s) ≡ true
 
 pub blocks-pass : (s : List ℕ) → blocksStand s ≡ true → Stand s
 blocks-pass s h =
-    let a = and-both (eqb (blockCount (totalIn s)) (countIn s)) (leb (totalIn s) 4096 && allBelow (countIn s) (blockStands s)) h in
-    let b = and-both (leb (totalIn s) 4096) (allBelow (countIn s) (blockStands s)) (a .1) in
-    record { fits = eqb-true (blockCount (totalIn s)) (countIn s) (a .0); few = leb-true (totalIn s) 4096 (b .0); each = b .1 }
+    let a = and-both (eqb (blockCount (totalIn s)) (countIn s)) (leb (totalIn s) mostTerms && allBelow (countIn s) (blockStands s)) h in
+    let b = and-both (leb (totalIn s) mostTerms) (allBelow (countIn s) (blockStands s)) (a .1) in
+    record { fits = eqb-true (blockCount (totalIn s)) (countIn s) (a .0); few = leb-true (totalIn s) mostTerms (b .0); each = b .1 }
 
 module _ (s : List ℕ) (total n : ℕ) (e : total ≡ totalIn s) (f : n ≡ blockCount total) where
   count-of : n ≡ blockCount (totalIn s)
   count-of = f ∙ ap blockCount e
 
   pub wrong-count : (n ≡ countIn s → ⊥) → false ≡ blocksStand s
-  wrong-count h = sym (ap (λ (b : Bool). b && (leb (totalIn s) 4096 && allBelow (countIn s) (blockStands s))) (ne-eqb (blockCount (totalIn s)) (countIn s) (λ q. h (count-of ∙ q))))
+  wrong-count h = sym (ap (λ (b : Bool). b && (leb (totalIn s) mostTerms && allBelow (countIn s) (blockStands s))) (ne-eqb (blockCount (totalIn s)) (countIn s) (λ q. h (count-of ∙ q))))
 
   module _ (g : n ≡ countIn s) where
     right-count : eqb (blockCount (totalIn s)) (countIn s) ≡ true
     right-count = eq-eqb (blockCount (totalIn s)) (countIn s) (sym count-of ∙ g)
 
-    pub over-4096 : 4096 < total → false ≡ blocksStand s
-    over-4096 h = sym (ap₂ (λ (a b : Bool). a && (b && allBelow (countIn s) (blockStands s))) right-count (lt-leb (totalIn s) 4096 (let k : 4096 < totalIn s = omega arith in k)))
+    pub over-mostTerms : mostTerms < total → false ≡ blocksStand s
+    over-mostTerms h = sym (ap₂ (λ (a b : Bool). a && (b && allBelow (countIn s) (blockStands s))) right-count (lt-leb (totalIn s) mostTerms (let k : mostTerms < totalIn s = omega arith in k)))
 
-    pub by-each : (r : Bool) → total ≤ 4096 → r ≡ allBelow (countIn s) (blockStands s) → r ≡ blocksStand s
-    by-each r h q = q ∙ sym (ap₂ (λ (a b : Bool). a && (b && allBelow (countIn s) (blockStands s))) right-count (le-leb (totalIn s) 4096 (let k : totalIn s ≤ 4096 = omega arith in k)))
+    pub by-each : (r : Bool) → total ≤ mostTerms → r ≡ allBelow (countIn s) (blockStands s) → r ≡ blocksStand s
+    by-each r h q = q ∙ sym (ap₂ (λ (a b : Bool). a && (b && allBelow (countIn s) (blockStands s))) right-count (le-leb (totalIn s) mostTerms (let k : totalIn s ≤ mostTerms = omega arith in k)))
 
 -- ---- the form
 pub record Form (s : List ℕ) (ow oc : ℕ) : Type 0 where

@@ -5,8 +5,9 @@ use mathlib.Core.Bool.{Bool, true, _&&_}
 use mathlib.Core.List.{List}
 use lib.Dec.{leb, eqb}
 use lib.ListN.{length}
+use Rattle.limits.specs.Limits.{mostTerms}
 use Rattle.polynomial.specs.Opening.{first}
-use Rattle.merge.specs.Lent.{part}
+use Rattle.merge_common.specs.Lent.{part}
 use Rattle.opening.specs.Run.{unless, between}
 use Rattle.block.specs.Block.{numberAt, header, checkOf, blockCount, same, zeros, settingIn}
 
@@ -49,7 +50,7 @@ blockStands s k =
     same (part (512 * k) 16 s) (header k (countIn s) here (settingIn s)) && zeros (part (512 * k + 16 + 12 * here) (12 * (41 - here)) s)
 
 abbrev pub blocksStand : List ℕ → Bool
-blocksStand s = eqb (blockCount (totalIn s)) (countIn s) && (leb (totalIn s) 4096 && allBelow (countIn s) (blockStands s))
+blocksStand s = eqb (blockCount (totalIn s)) (countIn s) && (leb (totalIn s) mostTerms && allBelow (countIn s) (blockStands s))
 
 -- what the test of the blocks is told: their count, which is that of their terms
 pub record Counted (s : List ℕ) (count total : ℕ) : Type 0 where
@@ -66,7 +67,7 @@ formRefusal s ow oc = first (unless (eqb ow oc) 8) (first (unless (wholeBlocks (
 -- as many terms have their places in s
 pub record Lying (s : List ℕ) (total : ℕ) : Type 0 where
   pub blocks : total ≤ 41 * countIn s
-  pub most : total ≤ 4096
+  pub most : total ≤ mostTerms
 
 -- what holds of bytes that have the form of blocks
 pub record Formed (s : List ℕ) : Type 0 where

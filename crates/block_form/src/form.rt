@@ -7,6 +7,7 @@ use block::check::check_stands;
 use block::filler::is_clear;
 use block::header::get_setting;
 use block::header::header_stands;
+use limits::MOST_TERMS;
 ghost use mathlib.Core.Path.{_≡_};
 ghost use Prim.Native.Nat.{_≤_, _<_};
 ghost use lib.ListN.{length};
@@ -56,7 +57,7 @@ fn blocks_stand(s: &[u8]) -> bool
     if blocks != count {
         return false;
     }
-    if 4096 < total {
+    if MOST_TERMS < total {
         return false;
     }
     each_stands(s, count, total)

@@ -14,13 +14,12 @@ use Rattle.monomial.proofs.ByteLaws.{bytes-of}
 use Rattle.monomial.proofs.LayoutLaws.{below-take}
 use Rattle.monomial.proofs.Places.{and-both, true-below}
 use Rattle.monomial.proofs.Places as M
-use Rattle.monomial.specs.Exponents.{orderOf}
 use Rattle.polynomial.specs.Terms.{Term, term, words, coefs}
-use Rattle.polynomial.specs.Opening.{refusalOf}
+use Rattle.polynomial.specs.Opening.{polynomialRefusal}
 use Rattle.polynomial.proofs.TermLists.{terms-of}
-use Rattle.merge.specs.Lent.{part}
-use Rattle.merge.proofs.Lists.{length-part}
-use Rattle.block.specs.declared.header.Setting.{Setting}
+use Rattle.merge_common.specs.Lent.{part}
+use Rattle.merge_common.proofs.Lists.{length-part}
+use Rattle.polynomial.specs.declared.setting.Setting.{Setting}
 use Rattle.block.specs.Block.{numberAt, header, place, places, unused, checkOf, body, block, termsOf, blockCount, firstBlocks, blocksOf, same, zeros, settingIn}
 use Rattle.block.proofs.ByteLaws.{part-append}
 use Rattle.block.proofs.BlockLaws.{places-append}
@@ -166,7 +165,7 @@ accepted-written s ow oc h =
     let lc : length (coefs ts) ≡ totalIn s = length-map ts (λ u. u .coef) ∙ length-first s (totalIn s) in
     let e : blockCount (length (words ts)) ≡ countIn s = ap blockCount lw ∙ f .fits in
     sym (no-stop t (words ts) (coefs ts) (length s) (r .content .set) (lw ∙ sym lc)
-    (ap (refusalOf (orderOf (t .order)) (t .n) (t .p)) (terms-of ts) ∙ r .content .good)
+    (ap (polynomialRefusal t) (terms-of ts) ∙ r .content .good)
     (omega (arith, lw, f .few)) (omega (arith, e, w .whole)))
 
 -- Each number of accepted bytes is determined: they are the blocks of the setting and the terms that reading gives (`readOutcome`).

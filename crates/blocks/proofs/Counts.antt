@@ -5,7 +5,7 @@ use Prim.Native.Nat.{ℕ, _+_, _*_, _<_, _≤_}
 use native.Mathlib.Omega.{arith}
 use lib.ListN.{length}
 use Rattle.polynomial.specs.Terms.{Term}
-use Rattle.block.specs.declared.header.Setting.{Setting}
+use Rattle.polynomial.specs.declared.setting.Setting.{Setting}
 use Rattle.block.specs.Block.{termsOf, blockCount, blocksOf}
 use Rattle.blocks.specs.Outcome.{writeRefusal}
 use Rattle.blocks.proofs.WriteLaws.{write-passes, length-termsOf, length-blocks}

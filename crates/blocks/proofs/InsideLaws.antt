@@ -10,8 +10,8 @@ use lib.Seq.{take-all, take-append-le, drop-append-le, drop-append-add}
 use Rattle.monomial.specs.Layout.{bytes, ofBytes}
 use Rattle.monomial.proofs.ByteLaws.{length-bytes, ofBytes-bytes}
 use Rattle.polynomial.specs.Terms.{Term, term}
-use Rattle.merge.specs.Lent.{part}
-use Rattle.block.specs.declared.header.Setting.{Setting}
+use Rattle.merge_common.specs.Lent.{part}
+use Rattle.polynomial.specs.declared.setting.Setting.{Setting}
 use Rattle.block.specs.Block.{settingBytes, header, place, places, unused, checkOf, body, block, termsOf, firstBlocks}
 use Rattle.block.proofs.BlockLaws.{length-header, length-places, length-body, length-block}
 use Rattle.blocks.proofs.WriteLaws.{length-blocks, termsOf-few}

@@ -16,7 +16,7 @@ use Rattle.polynomial.specs.Terms.{Term, term, terms, words, coefs}
 use Rattle.polynomial.specs.Opening.{termRefusal, refusalOf, isLarger, orderNext, orderAfter}
 use Rattle.polynomial.proofs.TermLists.{terms-of}
 use Rattle.polynomial.proofs.OpeningLaws.{Looked, look-start, look-stop, look-next, look-ends, still-falls, no-fall}
-use Rattle.merge.proofs.Lists.{sets-snoc}
+use Rattle.merge_common.proofs.Lists.{sets-snoc}
 use Rattle.block.specs.Block.{numberAt}
 use Rattle.block_form.specs.Form.{Lying}
 use Rattle.blocks.specs.Reading.{placeAt, nextBy, nextPlace, termAt, firstTerms, orderStep}

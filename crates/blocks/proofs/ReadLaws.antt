@@ -4,20 +4,19 @@ use mathlib.Core.List.{List, _++_}
 use Prim.Native.Nat.{ℕ, zero, suc, _+_, _<_, _≤_}
 use native.Mathlib.Omega.{arith}
 use borrow.Author.Tests.{leb-true, le-leb, lt-leb}
-use lib.Dec.{leb}
+use lib.Dec.{leb, eqb}
 use lib.ListN.{length, drop, length-map}
 use lib.Seq.{sets, sets-eq}
-use Rattle.monomial.specs.Exponents.{orderOf}
+use Rattle.refusal.specs.Table.{listed}
 use Rattle.polynomial.specs.Terms.{Term, words, coefs}
-use Rattle.polynomial.specs.Opening.{first, refusalOf}
+use Rattle.polynomial.specs.Opening.{first, polynomialRefusal}
 use Rattle.opening.specs.Run.{unless, setting}
-use Rattle.opening.specs.Refusals.{refusalNamed}
 use Rattle.polynomial.proofs.OpeningLaws.{first-none}
 use Rattle.opening.proofs.Tests.{first-some, passed}
-use Rattle.block.specs.declared.header.Setting.{Setting}
+use Rattle.opening.proofs.ListedLaws.{Numbered, first-numbered, unless-numbered, setting-numbered, polynomial-numbered}
+use Rattle.polynomial.specs.declared.setting.Setting.{Setting}
 use Rattle.block.specs.Block.{settingIn}
-use Rattle.blocks.specs.declared.read.Reading.the-variants as R
-use Rattle.block_form.specs.Form.{totalIn, formRefusal}
+use Rattle.block_form.specs.Form.{totalIn, wholeBlocks, checksStand, blocksStand, formRefusal}
 use Rattle.blocks.specs.Reading.{firstTerms, termsIn, contentRefusal, readRefusal}
 use Rattle.blocks.specs.Outcome.{ReadOutcome, readBy}
 use Rattle.block_form.proofs.FormLaws.{Form, form-passes}
@@ -25,16 +24,16 @@ use Rattle.blocks.proofs.PlaceLaws.{length-first}
 
 -- ---- the refusal, test by test
 module _ (s : List ℕ) (ow : ℕ) (t : Setting) (e : t ≡ settingIn s) where
-  pub stop-setting : (r : ℕ) → r ≡ setting (t .p) (t .order) (t .n) → (r ≡ 0 → ⊥) → r ≡ contentRefusal s ow
+  pub stop-setting : (r : ℕ) → r ≡ setting t → (r ≡ 0 → ⊥) → r ≡ contentRefusal s ow
   unfolding contentRefusal
-  stop-setting r f h = rw (← (f ∙ ap (λ (u : Setting). setting (u .p) (u .order) (u .n)) e)) (first-some r _ h)
+  stop-setting r f h = rw (← (f ∙ ap setting e)) (first-some r _ h)
 
-  module _ (z : setting (t .p) (t .order) (t .n) ≡ 0) (total : ℕ) (w : total ≡ totalIn s) (r : ℕ) (f : r ≡ refusalOf (orderOf (t .order)) (t .n) (t .p) (firstTerms s total)) where
-    set-is : setting (settingIn s .p) (settingIn s .order) (settingIn s .n) ≡ 0
-    set-is = sym (ap (λ (u : Setting). setting (u .p) (u .order) (u .n)) e) ∙ z
+  module _ (z : setting t ≡ 0) (total : ℕ) (w : total ≡ totalIn s) (r : ℕ) (f : r ≡ polynomialRefusal t (firstTerms s total)) where
+    set-is : setting (settingIn s) ≡ 0
+    set-is = sym (ap setting e) ∙ z
 
-    terms-are : r ≡ refusalOf (orderOf (settingIn s .order)) (settingIn s .n) (settingIn s .p) (termsIn s)
-    terms-are = f ∙ ap₂ (λ (u : Setting) (k : ℕ). refusalOf (orderOf (u .order)) (u .n) (u .p) (firstTerms s k)) e w
+    terms-are : r ≡ polynomialRefusal (settingIn s) (termsIn s)
+    terms-are = f ∙ ap₂ (λ (u : Setting) (k : ℕ). polynomialRefusal u (firstTerms s k)) e w
 
     pub stop-terms : (r ≡ 0 → ⊥) → r ≡ contentRefusal s ow
     unfolding contentRefusal
@@ -49,18 +48,30 @@ module _ (s : List ℕ) (ow : ℕ) (t : Setting) (e : t ≡ settingIn s) where
       unfolding contentRefusal
       no-stop h = rw (set-is, sym terms-are ∙ g, le-leb (totalIn s) ow (omega arith))
 
+-- the refusal is one of the table's
+pub read-numbered : (s : List ℕ) (ow oc : ℕ) → Numbered (readRefusal s ow oc)
+unfolding formRefusal contentRefusal listed
+read-numbered s ow oc =
+    let t = settingIn s in
+    first-numbered _ _
+    (first-numbered _ _ (unless-numbered (eqb ow oc) 8 refl)
+    (first-numbered _ _ (unless-numbered (wholeBlocks (length s)) 14 refl)
+    (first-numbered _ _ (unless-numbered (checksStand s) 15 refl) (unless-numbered (blocksStand s) 16 refl))))
+    (first-numbered _ _ (setting-numbered t)
+    (first-numbered _ _ (polynomial-numbered t (termsIn s)) (unless-numbered (leb (totalIn s) ow) 10 refl)))
+
 -- ---- what is not refused
 pub record Content (s : List ℕ) (ow : ℕ) : Type 0 where
-  pub set : setting (settingIn s .p) (settingIn s .order) (settingIn s .n) ≡ 0
-  pub good : refusalOf (orderOf (settingIn s .order)) (settingIn s .n) (settingIn s .p) (termsIn s) ≡ 0
+  pub set : setting (settingIn s) ≡ 0
+  pub good : polynomialRefusal (settingIn s) (termsIn s) ≡ 0
   pub room : totalIn s ≤ ow
 
 pub content-passes : (s : List ℕ) (ow : ℕ) → contentRefusal s ow ≡ 0 → Content s ow
 unfolding contentRefusal
 content-passes s ow h =
     let t = settingIn s in
-    let r = refusalOf (orderOf (t .order)) (t .n) (t .p) (termsIn s) in
-    let a = first-none (setting (t .p) (t .order) (t .n)) (first r (unless (leb (totalIn s) ow) 10)) h in
+    let r = polynomialRefusal t (termsIn s) in
+    let a = first-none (setting t) (first r (unless (leb (totalIn s) ow) 10)) h in
     let b = first-none r (unless (leb (totalIn s) ow) 10) (a .1) in
     record {
       set = a .0;
@@ -78,7 +89,7 @@ read-passes s ow oc h =
     record { form = form-passes s ow oc (a .0); content = content-passes s ow (a .1) }
 
 -- ---- the outcome
-pub read-refused : (r : ℕ) (t : Setting) (ts : List (Term ℕ)) (ws cs : List ℕ) → (r ≡ 0 → ⊥) → _≡_ {A = ReadOutcome} (record { answer = R.Refused (refusalNamed r) 0; ws = ws; cs = cs }) (readBy r t ts ws cs)
+pub read-refused : (r : ℕ) (t : Setting) (ts : List (Term ℕ)) (ws cs : List ℕ) → (r ≡ 0 → ⊥) → _≡_ {A = ReadOutcome} (record { answer = record { number = r; finished = 0; p = 0; order = 0; n = 0; terms = 0 }; ws = ws; cs = cs }) (readBy r t ts ws cs)
 read-refused zero t ts ws cs h = absurd (h refl)
 read-refused (suc r) t ts ws cs h = refl
 
@@ -88,7 +99,7 @@ over l vs n e h = sets-eq vs l 0 (omega arith) ∙ ap (λ (k : ℕ). vs ++ drop 
 
 pub read-done : (r : ℕ) (s ws cs ws' cs' : List ℕ) (t : Setting) (total : ℕ) → r ≡ readRefusal s (length ws) (length cs) → r ≡ 0 → t ≡ settingIn s → total ≡ totalIn s
     → ws' ≡ sets ws 0 (words (termsIn s)) → cs' ≡ sets cs 0 (coefs (termsIn s))
-    → _≡_ {A = ReadOutcome} (record { answer = R.Done (t .p) (t .order) (t .n) total; ws = ws'; cs = cs' }) (readBy r (settingIn s) (termsIn s) ws cs)
+    → _≡_ {A = ReadOutcome} (record { answer = record { number = 0; finished = 0; p = t .p; order = t .order; n = t .n; terms = total }; ws = ws'; cs = cs' }) (readBy r (settingIn s) (termsIn s) ws cs)
 read-done r s ws cs ws' cs' t total e z et en ew ec =
     let q = read-passes s (length ws) (length cs) (sym e ∙ z) in
     let ts = termsIn s in
@@ -97,6 +108,6 @@ read-done r s ws cs ws' cs' t total e z et en ew ec =
     let lc : length (coefs ts) ≡ length ts = length-map ts (λ u. u .coef) in
     let fw : ws' ≡ words ts ++ drop (length ts) ws = ew ∙ over ws (words ts) (length ts) lw (omega (arith, q .content .room)) in
     let fc : cs' ≡ coefs ts ++ drop (length ts) cs = ec ∙ over cs (coefs ts) (length ts) lc (omega (arith, q .content .room, q .form .lent)) in
-    ap₂ (λ (u : Setting) (k : ℕ). record { answer = R.Done (u .p) (u .order) (u .n) k; ws = ws'; cs = cs' }) et (en ∙ sym l)
-    ∙ (ap₂ (λ (x y : List ℕ). record { answer = R.Done (settingIn s .p) (settingIn s .order) (settingIn s .n) (length ts); ws = x; cs = y }) fw fc
+    ap₂ (λ (u : Setting) (k : ℕ). record { answer = record { number = 0; finished = 0; p = u .p; order = u .order; n = u .n; terms = k }; ws = ws'; cs = cs' }) et (en ∙ sym l)
+    ∙ (ap₂ (λ (x y : List ℕ). record { answer = record { number = 0; finished = 0; p = settingIn s .p; order = settingIn s .order; n = settingIn s .n; terms = length ts }; ws = x; cs = y }) fw fc
     ∙ ap (λ (k : ℕ). readBy k (settingIn s) ts ws cs) (sym z))

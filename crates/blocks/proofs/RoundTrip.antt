@@ -9,31 +9,32 @@ use borrow.Author.Tests.{eq-eqb, le-leb}
 use lib.Dec.{lit<, leb}
 use lib.ListN.{length, getD, drop}
 use lib.Seq.{ext-getD, getD-take, getD-drop}
+use Rattle.limits.specs.Limits.{largestPrime, mostTerms}
 use Rattle.monomial.specs.Exponents.{orderOf}
 use Rattle.monomial.specs.Layout.{bytes, ofBytes, Layout}
 use Rattle.monomial.proofs.LayoutLaws.{layout-packed}
 use Rattle.monomial.proofs.Places.{below-zeros}
 use Rattle.polynomial.specs.Terms.{Term, term, terms, coefs, All}
-use Rattle.polynomial.specs.Opening.{first, refusalOf}
+use Rattle.polynomial.specs.Opening.{first, polynomialRefusal}
 use Rattle.polynomial.proofs.TermLists.{length-terms, words-terms, coefs-terms}
 use Rattle.polynomial.proofs.OpeningLaws.{passes}
-use Rattle.merge.specs.Lent.{part}
+use Rattle.merge_common.specs.Lent.{part}
 use Rattle.opening.specs.Run.{unless, setting}
-use Rattle.block.specs.declared.header.Setting.{Setting}
+use Rattle.polynomial.specs.declared.setting.Setting.{Setting}
 use Rattle.block.specs.Block.{numberAt, header, unused, sumWords, checkOf, body, block, termsOf, blockCount, blocksOf, same, zeros, settingIn}
 use Rattle.block.proofs.ByteLaws.{part-part}
 use Rattle.block.proofs.BlockLaws.{length-header, length-body}
 use Rattle.blocks.specs.declared.read.Reading.the-variants as R
 use Rattle.block_form.specs.Form.{allBelow, wholeBlocks, countIn, totalIn, hereOf, checkStands, checksStand, blockStands, blocksStand, formRefusal}
 use Rattle.blocks.specs.Reading.{placeAt, termAt, firstTerms, termsIn, contentRefusal, readRefusal}
-use Rattle.blocks.specs.Outcome.{writeRefusal, ReadOutcome, readBy, readOutcome}
+use Rattle.blocks.specs.Outcome.{writeRefusal, ReadOutcome, readStated, readBy, readOutcome}
 use Rattle.block_form.proofs.FormLaws.{all-of}
 use Rattle.blocks.proofs.PlaceLaws.{length-first, first-at}
 use Rattle.blocks.proofs.WriteLaws.{Writable, write-passes, length-blocks, termsOf-few, length-termsOf}
 use Rattle.blocks.proofs.InsideLaws.{part-all, got-back, body-in, header-in, places-in, filler-in, check-in, here-in, p-in, order-in, n-in, word-in, coef-in, block-in}
 
 -- ---- the words and coefficients of a polynomial that is not refused fit their bytes
-fitting : (t : Setting) (ts : List (Term ℕ)) → t .n ≤ 6 → t .p ≤ 65521 → All (λ u. Layout (orderOf (t .order)) (t .n) (u .mono)) ts → All (λ u. (0 < u .coef) × (u .coef < t .p)) ts → (i : ℕ) → i < length ts → (getD ts i (term 0 0) .mono < 256 ^ 8) × (getD ts i (term 0 0) .coef < 256 ^ 4)
+fitting : (t : Setting) (ts : List (Term ℕ)) → t .n ≤ 6 → t .p ≤ largestPrime → All (λ u. Layout (orderOf (t .order)) (t .n) (u .mono)) ts → All (λ u. (0 < u .coef) × (u .coef < t .p)) ts → (i : ℕ) → i < length ts → (getD ts i (term 0 0) .mono < 256 ^ 8) × (getD ts i (term 0 0) .coef < 256 ^ 4)
 fitting t [] hn hp l r i h = absurd (let z : ⊥ = omega arith in z)
 fitting t (u ∷ ts) hn hp l r zero h = let q = layout-packed (orderOf (t .order)) (t .n) (u .mono) hn (l .0) in (omega (arith, q .room), omega (arith, r .0 .1))
 fitting t (u ∷ ts) hn hp l r (suc i) h = fitting t ts hn hp (l .1) (r .1) i (omega arith)
@@ -56,7 +57,7 @@ module _ (t : Setting) (ws cs : List ℕ) (room : ℕ) (w : Writable t ws cs roo
   long : length ts ≡ length ws
   long = length-terms ws cs (sym (w .lent))
 
-  few : length ts ≤ 4096
+  few : length ts ≤ mostTerms
   few = omega (arith, long, w .few)
 
   -- ---- counts
@@ -166,7 +167,7 @@ module _ (t : Setting) (ws cs : List ℕ) (room : ℕ) (w : Writable t ws cs roo
   stand : blocksStand s ≡ true
   stand =
       ap₂ _&&_ (eq-eqb (blockCount (totalIn s)) (countIn s) (ap blockCount total-is ∙ sym count-is))
-      (ap₂ _&&_ (le-leb (totalIn s) 4096 (omega (arith, total-is, few))) (ap (λ (n : ℕ). allBelow n (blockStands s)) count-is ∙ all-of (blockStands s) count block-stands))
+      (ap₂ _&&_ (le-leb (totalIn s) mostTerms (omega (arith, total-is, few))) (ap (λ (n : ℕ). allBelow n (blockStands s)) count-is ∙ all-of (blockStands s) count block-stands))
 
   whole : wholeBlocks (length s) ≡ true
   unfolding wholeBlocks
@@ -183,7 +184,7 @@ module _ (t : Setting) (ws cs : List ℕ) (room : ℕ) (w : Writable t ws cs roo
     content : contentRefusal s ow ≡ 0
     unfolding contentRefusal
     content =
-        ap₂ (λ (u : Setting) (vs : List (Term ℕ)). first (setting (u .p) (u .order) (u .n)) (first (refusalOf (orderOf (u .order)) (u .n) (u .p) vs) (unless (leb (totalIn s) ow) 10))) setting-is terms-are
+        ap₂ (λ (u : Setting) (vs : List (Term ℕ)). first (setting u) (first (polynomialRefusal u vs) (unless (leb (totalIn s) ow) 10))) setting-is terms-are
         ∙ rw (w .passes-setting, w .good, le-leb (totalIn s) ow (omega (arith, total-is, long)))
 
     pub accepted : readRefusal s ow oc ≡ 0
@@ -191,12 +192,12 @@ module _ (t : Setting) (ws cs : List ℕ) (room : ℕ) (w : Writable t ws cs roo
 
 -- What writing makes is read as the p, order and n and the terms that were written; the rest of what is lent is not changed.
 pub written-read : (t : Setting) (ws cs ow oc : List ℕ) (room : ℕ) → writeRefusal t ws cs room ≡ 0 → length ow ≡ length oc → length ws ≤ length ow
-    → _≡_ {A = ReadOutcome} (readOutcome (blocksOf t (terms ws cs)) ow oc) (record { answer = R.Done (t .p) (t .order) (t .n) (length ws); ws = ws ++ drop (length ws) ow; cs = cs ++ drop (length ws) oc })
+    → _≡_ {A = ReadOutcome} (readOutcome (blocksOf t (terms ws cs)) ow oc) (record { answer = readStated (R.Done (t .p) (t .order) (t .n) (length ws)); ws = ws ++ drop (length ws) ow; cs = cs ++ drop (length ws) oc })
 written-read t ws cs ow oc room h lent enough =
     let w = write-passes t ws cs room h in
     let s = blocksOf t (terms ws cs) in
     let l = length-terms ws cs (sym (w .lent)) in
     ap (λ (r : ℕ). readBy r (settingIn s) (termsIn s) ow oc) (accepted t ws cs room w (length ow) (length oc) lent enough)
     ∙ (ap₂ (λ (u : Setting) (vs : List (Term ℕ)). readBy 0 u vs ow oc) (setting-is t ws cs room w) (terms-are t ws cs room w)
-    ∙ ap₂ (λ (n : ℕ) (x : List ℕ). record { answer = R.Done (t .p) (t .order) (t .n) n; ws = x ++ drop n ow; cs = coefs (terms ws cs) ++ drop n oc }) l (words-terms ws cs (sym (w .lent)))
-    ∙ ap (λ (y : List ℕ). record { answer = R.Done (t .p) (t .order) (t .n) (length ws); ws = ws ++ drop (length ws) ow; cs = y ++ drop (length ws) oc }) (coefs-terms ws cs (sym (w .lent))))
+    ∙ ap₂ (λ (n : ℕ) (x : List ℕ). record { answer = readStated (R.Done (t .p) (t .order) (t .n) n); ws = x ++ drop n ow; cs = coefs (terms ws cs) ++ drop n oc }) l (words-terms ws cs (sym (w .lent)))
+    ∙ ap (λ (y : List ℕ). record { answer = readStated (R.Done (t .p) (t .order) (t .n) (length ws)); ws = ws ++ drop (length ws) ow; cs = y ++ drop (length ws) oc }) (coefs-terms ws cs (sym (w .lent))))

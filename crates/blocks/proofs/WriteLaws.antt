@@ -9,20 +9,20 @@ use borrow.Author.Tests.{eqb-true, leb-true, eq-eqb, ne-eqb, le-leb, lt-leb}
 use lib.Dec.{leb, eqb}
 use lib.ListN.{length, take, drop, length-append, length-take, length-drop}
 use lib.Seq.{sets, sets-eq, length-sets, take-all}
-use Rattle.monomial.specs.Exponents.{orderOf}
+use Rattle.limits.specs.Limits.{mostTerms}
+use Rattle.refusal.specs.Table.{listed}
 use Rattle.polynomial.specs.Terms.{Term, terms}
-use Rattle.polynomial.specs.Opening.{first, refusalOf}
+use Rattle.polynomial.specs.Opening.{first, polynomialRefusal}
 use Rattle.polynomial.proofs.TermLists.{length-terms, terms-drop, terms-take}
 use Rattle.opening.specs.Run.{unless, setting}
-use Rattle.opening.specs.Refusals.{refusalNamed}
 use Rattle.polynomial.proofs.OpeningLaws.{first-none}
 use Rattle.opening.proofs.Tests.{first-some, passed}
 use Rattle.opening.proofs.SettingLaws.{Set, setting-passes}
-use Rattle.block.specs.declared.header.Setting.{Setting}
+use Rattle.opening.proofs.ListedLaws.{Numbered, first-numbered, unless-numbered, setting-numbered, polynomial-numbered}
+use Rattle.polynomial.specs.declared.setting.Setting.{Setting}
 use Rattle.block.specs.Block.{block, termsOf, blockCount, firstBlocks, blocksOf}
 use Rattle.block.proofs.ByteLaws.{joined}
 use Rattle.block.proofs.BlockLaws.{length-block}
-use Rattle.blocks.specs.declared.write.Writing.the-variants as W
 use Rattle.block_form.specs.Form.{hereOf}
 use Rattle.blocks.specs.Outcome.{writeRefusal, WriteOutcome, writtenBy}
 
@@ -85,70 +85,80 @@ blocked-all count t ts s₀ s k b h = let e : k ≡ count = omega (arith, b .low
 
 -- ---- the refusal, test by test
 module _ (t : Setting) (ws cs : List ℕ) (room : ℕ) where
-  pub stop-setting : (r : ℕ) → r ≡ setting (t .p) (t .order) (t .n) → (r ≡ 0 → ⊥) → r ≡ writeRefusal t ws cs room
+  pub stop-setting : (r : ℕ) → r ≡ setting t → (r ≡ 0 → ⊥) → r ≡ writeRefusal t ws cs room
   unfolding writeRefusal
   stop-setting r e h = rw (← e) (first-some r _ h)
 
-  module _ (z : setting (t .p) (t .order) (t .n) ≡ 0) where
+  module _ (z : setting t ≡ 0) where
     pub stop-lengths : (length ws ≡ length cs → ⊥) → 8 ≡ writeRefusal t ws cs room
     unfolding writeRefusal
     stop-lengths h = rw (z, ne-eqb (length ws) (length cs) h)
 
     module _ (l : length ws ≡ length cs) where
-      pub stop-terms : (r : ℕ) → r ≡ refusalOf (orderOf (t .order)) (t .n) (t .p) (terms ws cs) → (r ≡ 0 → ⊥) → r ≡ writeRefusal t ws cs room
+      pub stop-terms : (r : ℕ) → r ≡ polynomialRefusal t (terms ws cs) → (r ≡ 0 → ⊥) → r ≡ writeRefusal t ws cs room
       unfolding writeRefusal
       stop-terms r e h = rw (z, eq-eqb (length ws) (length cs) l, ← e) (first-some r _ h)
 
-      module _ (g : refusalOf (orderOf (t .order)) (t .n) (t .p) (terms ws cs) ≡ 0) where
-        pub stop-many : 4096 < length ws → 11 ≡ writeRefusal t ws cs room
+      module _ (g : polynomialRefusal t (terms ws cs) ≡ 0) where
+        pub stop-many : mostTerms < length ws → 11 ≡ writeRefusal t ws cs room
         unfolding writeRefusal
-        stop-many h = rw (z, eq-eqb (length ws) (length cs) l, g, lt-leb (length ws) 4096 h)
+        stop-many h = rw (z, eq-eqb (length ws) (length cs) l, g, lt-leb (length ws) mostTerms h)
 
-        module _ (few : length ws ≤ 4096) where
+        module _ (few : length ws ≤ mostTerms) where
           pub stop-room : room < 512 * blockCount (length ws) → 10 ≡ writeRefusal t ws cs room
           unfolding writeRefusal
-          stop-room h = rw (z, eq-eqb (length ws) (length cs) l, g, le-leb (length ws) 4096 few, lt-leb (512 * blockCount (length ws)) room h)
+          stop-room h = rw (z, eq-eqb (length ws) (length cs) l, g, le-leb (length ws) mostTerms few, lt-leb (512 * blockCount (length ws)) room h)
 
           pub no-stop : 512 * blockCount (length ws) ≤ room → 0 ≡ writeRefusal t ws cs room
           unfolding writeRefusal
-          no-stop h = rw (z, eq-eqb (length ws) (length cs) l, g, le-leb (length ws) 4096 few, le-leb (512 * blockCount (length ws)) room h)
+          no-stop h = rw (z, eq-eqb (length ws) (length cs) l, g, le-leb (length ws) mostTerms few, le-leb (512 * blockCount (length ws)) room h)
+
+-- the refusal is one of the table's
+pub write-numbered : (t : Setting) (ws cs : List ℕ) (room : ℕ) → Numbered (writeRefusal t ws cs room)
+unfolding writeRefusal listed
+write-numbered t ws cs room =
+    first-numbered _ _ (setting-numbered t)
+    (first-numbered _ _ (unless-numbered (eqb (length ws) (length cs)) 8 refl)
+    (first-numbered _ _ (polynomial-numbered t (terms ws cs))
+    (first-numbered _ _ (unless-numbered (leb (length ws) mostTerms) 11 refl)
+    (unless-numbered (leb (512 * blockCount (length ws)) room) 10 refl))))
 
 -- ---- what is not refused
 pub record Writable (t : Setting) (ws cs : List ℕ) (room : ℕ) : Type 0 where
-  pub set : Set (t .p) (t .order) (t .n)
-  pub passes-setting : setting (t .p) (t .order) (t .n) ≡ 0
+  pub set : Set t
+  pub passes-setting : setting t ≡ 0
   pub lent : length ws ≡ length cs
-  pub good : refusalOf (orderOf (t .order)) (t .n) (t .p) (terms ws cs) ≡ 0
-  pub few : length ws ≤ 4096
+  pub good : polynomialRefusal t (terms ws cs) ≡ 0
+  pub few : length ws ≤ mostTerms
   pub enough : 512 * blockCount (length ws) ≤ room
 
 pub write-passes : (t : Setting) (ws cs : List ℕ) (room : ℕ) → writeRefusal t ws cs room ≡ 0 → Writable t ws cs room
 unfolding writeRefusal
 write-passes t ws cs room h =
-    let r = refusalOf (orderOf (t .order)) (t .n) (t .p) (terms ws cs) in
-    let few = unless (leb (length ws) 4096) 11 in
+    let r = polynomialRefusal t (terms ws cs) in
+    let few = unless (leb (length ws) mostTerms) 11 in
     let full = unless (leb (512 * blockCount (length ws)) room) 10 in
     let lent = unless (eqb (length ws) (length cs)) 8 in
-    let a = first-none (setting (t .p) (t .order) (t .n)) (first lent (first r (first few full))) h in
+    let a = first-none (setting t) (first lent (first r (first few full))) h in
     let b = first-none lent (first r (first few full)) (a .1) in
     let d = first-none r (first few full) (b .1) in
     let e = first-none few full (d .1) in
     record {
-      set = setting-passes (t .p) (t .order) (t .n) (a .0);
+      set = setting-passes t (a .0);
       passes-setting = a .0;
       lent = eqb-true (length ws) (length cs) (passed (eqb (length ws) (length cs)) 8 (omega arith) (b .0));
       good = d .0;
-      few = leb-true (length ws) 4096 (passed (leb (length ws) 4096) 11 (omega arith) (e .0));
+      few = leb-true (length ws) mostTerms (passed (leb (length ws) mostTerms) 11 (omega arith) (e .0));
       enough = leb-true (512 * blockCount (length ws)) room (passed (leb (512 * blockCount (length ws)) room) 10 (omega arith) (e .1));
     }
 
 -- ---- the outcome
-pub write-refused : (r : ℕ) (t : Setting) (ts : List (Term ℕ)) (bytes : List ℕ) → (r ≡ 0 → ⊥) → _≡_ {A = WriteOutcome} (record { answer = W.Refused (refusalNamed r) 0; bytes = bytes }) (writtenBy r t ts bytes)
+pub write-refused : (r : ℕ) (t : Setting) (ts : List (Term ℕ)) (bytes : List ℕ) → (r ≡ 0 → ⊥) → _≡_ {A = WriteOutcome} (record { answer = record { number = r; finished = 0; blocks = 0 }; bytes = bytes }) (writtenBy r t ts bytes)
 write-refused zero t ts bytes h = absurd (h refl)
 write-refused (suc r) t ts bytes h = refl
 
 pub write-done : (r : ℕ) (t : Setting) (ws cs bytes bytes' : List ℕ) (count : ℕ) → r ≡ writeRefusal t ws cs (length bytes) → r ≡ 0 → count ≡ blockCount (length ws) → bytes' ≡ sets bytes 0 (firstBlocks count t (terms ws cs) count)
-    → _≡_ {A = WriteOutcome} (record { answer = W.Done count; bytes = bytes' }) (writtenBy r t (terms ws cs) bytes)
+    → _≡_ {A = WriteOutcome} (record { answer = record { number = 0; finished = 0; blocks = count }; bytes = bytes' }) (writtenBy r t (terms ws cs) bytes)
 write-done r t ws cs bytes bytes' count e z c f =
     let ts = terms ws cs in
     let w = write-passes t ws cs (length bytes) (sym e ∙ z) in
@@ -156,5 +166,5 @@ write-done r t ws cs bytes bytes' count e z c f =
     let n : count ≡ blockCount (length ts) = c ∙ ap blockCount (sym l) in
     let g : bytes' ≡ sets bytes 0 (blocksOf t ts) = f ∙ ap (λ (k : ℕ). sets bytes 0 (firstBlocks k t ts k)) n in
     let room : 0 + length (blocksOf t ts) ≤ length bytes = omega (arith, w .enough, length-blocks (blockCount (length ts)) t ts (blockCount (length ts)), ap blockCount l) in
-    ap₂ (λ (k : ℕ) (b : List ℕ). record { answer = W.Done k; bytes = b }) n (g ∙ (sets-eq (blocksOf t ts) bytes 0 room ∙ ap (λ (k : ℕ). blocksOf t ts ++ drop k bytes) (let q : 0 + length (blocksOf t ts) ≡ length (blocksOf t ts) = omega arith in q)))
+    ap₂ (λ (k : ℕ) (b : List ℕ). record { answer = record { number = 0; finished = 0; blocks = k }; bytes = b }) n (g ∙ (sets-eq (blocksOf t ts) bytes 0 room ∙ ap (λ (k : ℕ). blocksOf t ts ++ drop k bytes) (let q : 0 + length (blocksOf t ts) ≡ length (blocksOf t ts) = omega arith in q)))
     ∙ ap (λ (k : ℕ). writtenBy k t ts bytes) (sym z)

@@ -3,9 +3,8 @@ use Prim.Native.Nat.{ℕ, zero, suc, _+_, _*_, _/_, _%_, Ordering}
 use mathlib.Core.Bool.{Bool, true, false}
 use mathlib.Core.List.{List, [], _∷_, _++_}
 use lib.Dec.{leb, eqb}
-use Rattle.monomial.specs.Exponents.{orderOf}
 use Rattle.polynomial.specs.Terms.{Term, term}
-use Rattle.polynomial.specs.Opening.{first, refusalOf, isLarger, orderNext}
+use Rattle.polynomial.specs.Opening.{first, polynomialRefusal, isLarger, orderNext}
 use Rattle.opening.specs.Run.{unless, setting}
 use Rattle.block.specs.Block.{numberAt, settingIn}
 use Rattle.block_form.specs.Form.{totalIn, formRefusal}
@@ -33,7 +32,7 @@ termsIn s = firstTerms s (totalIn s)
 unfoldable pub contentRefusal : List ℕ → (ow : ℕ) → ℕ
 contentRefusal s ow =
     let t = settingIn s in
-    first (setting (t .p) (t .order) (t .n)) (first (refusalOf (orderOf (t .order)) (t .n) (t .p) (termsIn s)) (unless (leb (totalIn s) ow) 10))
+    first (setting t) (first (polynomialRefusal t (termsIn s)) (unless (leb (totalIn s) ow) 10))
 
 abbrev pub readRefusal : List ℕ → (ow oc : ℕ) → ℕ
 readRefusal s ow oc = first (formRefusal s ow oc) (contentRefusal s ow)

@@ -4,14 +4,13 @@ use crate::terms::get_terms;
 use block::header::get_setting;
 use block_form::count::total_in;
 use block_form::form::form_refusal;
-use monomial::order::order_of;
-use opening::refusal::Refusal;
-use opening::refusal::refusal_of;
 use opening::setting::setting;
+use refusal::Refusal;
+use refusal::refusal_of;
 ghost use mathlib.Core.Path.{_≡_};
 ghost use Rattle.block_form.specs.Form.{Formed};
 ghost use Rattle.blocks.specs.Reading.{contentRefusal, readRefusal};
-ghost use Rattle.blocks.specs.Outcome.{ReadOutcome, readOutcome};
+ghost use Rattle.blocks.specs.Outcome.{ReadOutcome, readStated, readOutcome};
 
 // The polynomial is read: its setting, and its terms in the lent words and coefficients; or the bytes
 // are refused, with nothing changed.
@@ -31,7 +30,7 @@ pub enum Reading {
 // Reads the polynomial that the bytes hold, all of which must be its blocks.
 pub fn read_blocks(s: &[u8], words: &mut [u64], coefs: &mut [u32]) -> Reading
     ensures { λ r. ⌜ _≡_ {A = ReadOutcome}
-        (record { answer = r; ws = now (words .exit); cs = now (coefs .exit) })
+        (record { answer = readStated r; ws = now (words .exit); cs = now (coefs .exit) })
         (readOutcome (now (s .entry)) (now (words .entry)) (now (coefs .entry))) ⌝ }
 {
     let number = read_refusal(s, words.len(), coefs.len());
@@ -69,12 +68,12 @@ fn content_refusal(s: &[u8], ow: usize) -> u32
     ensures { λ r. ⌜ r ≡ contentRefusal (now (s .entry)) ow ⌝ }
 {
     let t = get_setting(s, 0);
-    let number = setting(t.p, t.order, t.n);
+    let number = setting(t);
     if number != 0 {
         return number;
     }
     let total = total_in(s);
-    let number = check_terms(order_of(t.order), t.n, t.p, s, total);
+    let number = check_terms(t, s, total);
     if number != 0 {
         return number;
     }

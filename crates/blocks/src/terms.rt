@@ -2,15 +2,16 @@
 use block::number::get_4;
 use block::number::get_8;
 use monomial::order::Order;
+use monomial::order::order_of;
 use polynomial::check::check_term;
+use polynomial::setting::Setting;
 ghost use mathlib.Core.Path.{_≡_};
 ghost use Prim.Native.Nat.{_+_, _≤_, _<_};
-ghost use mathlib.Core.List.{[], _∷_};
 ghost use lib.ListN.{length};
 ghost use lib.Seq.{sets};
 ghost use Rattle.monomial.specs.Words.{compareWords};
 ghost use Rattle.polynomial.specs.Terms.{words, coefs};
-ghost use Rattle.polynomial.specs.Opening.{refusalOf};
+ghost use Rattle.polynomial.specs.Opening.{polynomialRefusal};
 ghost use Rattle.block_form.specs.Form.{Lying};
 ghost use Rattle.blocks.specs.Reading.{nextPlace, firstTerms, orderStep};
 
@@ -26,12 +27,15 @@ fn next_place(at: usize) -> usize
     }
 }
 
-// The refusal of the terms as a polynomial in n variables modulo p: the first place with 4 or 5, and
-// else 6 where they do not fall. One pass over the places.
-pub fn check_terms(order: Order, n: u32, p: u32, s: &[u8], total: usize) -> u32
-    requires { ⌜ (n ≤ 6) × Lying (now s) total ⌝ }
-    ensures { λ r. ⌜ r ≡ refusalOf order n p (firstTerms (now (s .entry)) total) ⌝ }
+// The refusal of the terms as a polynomial in a setting: the first place with 4 or 5, and else 6 where
+// they do not fall. One pass over the places.
+pub fn check_terms(t: Setting, s: &[u8], total: usize) -> u32
+    requires { ⌜ (t .n ≤ 6) × Lying (now s) total ⌝ }
+    ensures { λ r. ⌜ r ≡ polynomialRefusal t (firstTerms (now (s .entry)) total) ⌝ }
 {
+    let order = order_of(t.order);
+    let n = t.n;
+    let p = t.p;
     let mut late: u32 = 0;
     let mut last: u64 = 0;
     let mut at = 16;

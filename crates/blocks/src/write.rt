@@ -1,20 +1,22 @@
 // The entry for writing blocks.
 use block::block::put_block;
-use block::header::Setting;
 use block_form::count::block_count;
 use block_form::count::here_of;
-use monomial::order::order_of;
-use opening::refusal::Refusal;
-use opening::refusal::refusal_of;
+use limits::MOST_TERMS;
 use opening::setting::setting;
 use polynomial::check::check;
+use polynomial::setting::Setting;
+use refusal::Refusal;
+use refusal::refusal_of;
 ghost use mathlib.Core.Path.{_≡_};
 ghost use Prim.Native.Nat.{_*_, _≤_};
 ghost use lib.ListN.{length};
 ghost use lib.Seq.{sets};
+ghost use Rattle.limits.specs.Limits.{mostTerms};
+ghost use Rattle.polynomial.specs.Settings.{settingOf};
 ghost use Rattle.polynomial.specs.Terms.{terms};
 ghost use Rattle.block.specs.Block.{blockCount, firstBlocks};
-ghost use Rattle.blocks.specs.Outcome.{WriteOutcome, writeOutcome, writeRefusal, settingOf};
+ghost use Rattle.blocks.specs.Outcome.{WriteOutcome, writeStated, writeOutcome, writeRefusal};
 
 // The blocks are written, so many; or the polynomial is refused, with nothing changed.
 pub enum Writing {
@@ -32,7 +34,7 @@ pub fn write_blocks(
     s: &mut [u8],
 ) -> Writing
     ensures { λ r. ⌜ _≡_ {A = WriteOutcome}
-        (record { answer = r; bytes = now (s .exit) })
+        (record { answer = writeStated r; bytes = now (s .exit) })
         (writeOutcome (settingOf p order n) (now (words .entry)) (now (coefs .entry)) (now (s .entry))) ⌝ }
 {
     let t = Setting { p, order, n };
@@ -54,18 +56,18 @@ pub fn write_blocks(
 fn write_refusal(t: Setting, words: &[u64], coefs: &[u32], room: usize) -> u32
     ensures { λ r. ⌜ r ≡ writeRefusal t (now (words .entry)) (now (coefs .entry)) room ⌝ }
 {
-    let number = setting(t.p, t.order, t.n);
+    let number = setting(t);
     if number != 0 {
         return number;
     }
     if words.len() != coefs.len() {
         return 8;
     }
-    let number = check(order_of(t.order), t.n, t.p, words, coefs);
+    let number = check(t, words, coefs);
     if number != 0 {
         return number;
     }
-    if 4096 < words.len() {
+    if MOST_TERMS < words.len() {
         return 11;
     }
     if room < 512 * block_count(words.len()) {
@@ -77,7 +79,7 @@ fn write_refusal(t: Setting, words: &[u64], coefs: &[u32], room: usize) -> u32
 
 // Puts all blocks of the polynomial from place 0 on.
 fn put_blocks(t: Setting, words: &[u64], coefs: &[u32], count: usize, s: &mut [u8])
-    requires { ⌜ (length (now coefs) ≡ length (now words)) × (length (now words) ≤ 4096) × (count ≡ blockCount (length (now words))) × (512 * count ≤ length (now s)) ⌝ }
+    requires { ⌜ (length (now coefs) ≡ length (now words)) × (length (now words) ≤ mostTerms) × (count ≡ blockCount (length (now words))) × (512 * count ≤ length (now s)) ⌝ }
     ensures { λ _. ⌜ now (s .exit) ≡ sets (now (s .entry)) 0 (firstBlocks count t (terms (now (words .entry)) (now (coefs .entry))) count) ⌝ }
 {
     let mut k = 0;

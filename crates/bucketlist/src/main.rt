@@ -1,4 +1,5 @@
 // Reads a script from standard input and writes its listing.
+use limits::LISTING_BYTES;
 use listing::entry::Listed;
 use listing::entry::listing;
 
@@ -6,7 +7,7 @@ use listing::entry::listing;
 fn main() {
     let mut script = [0u8; 16385];
     let bytes = io::read_full(0, &mut script);
-    let mut out = [0u8; 65536];
+    let mut out = [0u8; LISTING_BYTES];
     let listed = listing(&script[..bytes], &mut out);
     let Listed::Written(length) = listed else {
         return;

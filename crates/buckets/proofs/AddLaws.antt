@@ -4,15 +4,16 @@ use mathlib.Core.List.{List, [], _∷_, _++_}
 use Prim.Native.Nat.{ℕ, zero, suc, _+_, _-_, _*_, _<_, _≤_, Ordering}
 use native.Mathlib.Omega.{arith}
 use borrow.Author.Tests.{le-leb, lt-leb}
-use lib.ListN.{length, length-append}
+use lib.ListN.{length, take, drop, length-append}
 use lib.Seq.{length-sets}
+use Rattle.limits.specs.Limits.{bucketPlaces, mostTerms}
 use Rattle.monomial.specs.TotalOrder.{TotalOrder}
 use Rattle.polynomial.specs.Terms.{Term, terms, words, coefs, Canonical}
 use Rattle.polynomial.specs.Merge.{merge, compared, mergeCount}
 use Rattle.polynomial.proofs.MergeLaws.{merge-size, merge-canonical, merge-nil, count-size, count-right}
 use Rattle.polynomial.proofs.TermLists.{length-terms}
-use Rattle.merge.specs.Lent.{part}
-use Rattle.merge.specs.Merging.{Made, Sides}
+use Rattle.merge_common.specs.Lent.{part}
+use Rattle.merge_common.specs.Merging.{Made, Sides}
 use Rattle.geobucket.specs.Buckets.{held, Good, carry, carryCompared, place, placeCompared, add, addCompared}
 use Rattle.geobucket.proofs.AddLaws.{adds}
 use Rattle.geobucket.proofs.EventLaws.{room-six}
@@ -21,7 +22,7 @@ use Rattle.buckets.specs.declared.level.Level.{Level}
 use Rattle.buckets.specs.Levels.{LevelFor}
 use Rattle.buckets.specs.Adding.{Addition, AddDone, landed, landedCompared, Carry, CarryDone, MergeIn, Store, Stored}
 use Rattle.space.proofs.Starts.{next-capacity, cap-zero, next-start}
-use Rattle.space.proofs.SpaceLaws.{good-at, bucket-none, row-end, row-long, bucket-long, bucket-poly, held-cons, held-append, from-at, from-long}
+use Rattle.space.proofs.SpaceLaws.{good-at, bucket-none, row-of, row-end, row-long, bucket-long, bucket-poly, held-cons, held-append, from-at, from-long}
 use Rattle.buckets.proofs.LevelLaws.{start-is, next-fits}
 use Rattle.buckets.proofs.StoreLaws.{stored-lists}
 use Rattle.buckets.proofs.WorkLaws.{made-terms}
@@ -106,11 +107,11 @@ module _ {cmp : ℕ → ℕ → Ordering} {p : ℕ} {b : Buckets} {fw fc sw sc w
   f-long : length (terms fw fc) ≡ length fw
   f-long = length-terms fw fc (a .long)
 
-  f-short : length fw ≤ 4096
+  f-short : length fw ≤ mostTerms
   f-short = omega (arith, a .room)
 
   -- the buckets of the published addition are good
-  added-stands : TotalOrder ℕ cmp → {b' : Buckets} {sw' sc' : List ℕ} → Laid b' → length sw' ≡ 5460 → length sc' ≡ 5460 → bucketsIn b' sw' sc' ≡ add cmp p (terms fw fc) (bucketsIn b sw sc) → Stands cmp p b' sw' sc'
+  added-stands : TotalOrder ℕ cmp → {b' : Buckets} {sw' sc' : List ℕ} → Laid b' → length sw' ≡ bucketPlaces → length sc' ≡ bucketPlaces → bucketsIn b' sw' sc' ≡ add cmp p (terms fw fc) (bucketsIn b sw sc) → Stands cmp p b' sw' sc'
   added-stands O laid hw hc lists = record {
     modulus = a .stands .modulus;
     words-long = hw;
@@ -122,9 +123,6 @@ module _ {cmp : ℕ → ℕ → Ordering} {p : ℕ} {b : Buckets} {fw fc sw sc w
   module _ (l : Level) (v : LevelFor (length fw) l) where
     w : LevelFor (length (terms fw fc)) l
     w = subst (λ (n : ℕ). LevelFor n l) (sym f-long) v
-
-    pub first-end : headAt b (l .bucket) + lenAt b (l .bucket) ≤ 5460
-    first-end = row-end b (a .stands .laid) (l .bucket) (v .within)
 
     pub front-short : l .start + length fw ≤ 10000
     front-short = omega (arith, next-fits l (v .is) (v .within), f-short)
@@ -219,27 +217,37 @@ module _ {cmp : ℕ → ℕ → Ordering} {p : ℕ} {b : Buckets} {fw fc sw sc w
       pub place-done : 0 < length fw → {cnt : ℕ} {sw' sc' : List ℕ} {b' : Buckets} → cnt ≡ mergeCount cmp (terms fw fc) (bucketAt b sw sc (l .bucket)) → Stored b l (merge cmp p (terms fw fc) (bucketAt b sw sc (l .bucket))) sw sc sw' sc' b' → AddDone cmp p b (terms fw fc) sw sc sw' sc' b' cnt
       place-done some ec s = fitted O some refl placed-fits ec s
 
-    module _ {bw bc : List ℕ} (ew : bw ≡ rowAt b sw (l .bucket)) (ec : bc ≡ rowAt b sc (l .bucket)) where
-      both-long : length fw + length bw ≤ 4096
+    module _ {h n : ℕ} (eh : h ≡ headAt b (l .bucket)) (en : n ≡ lenAt b (l .bucket)) where
+      pub first-end : h + n ≤ bucketPlaces
+      first-end = omega (arith, eh, en, row-end b (a .stands .laid) (l .bucket) (v .within))
+
+      -- the part that is lent is the bucket's row
+      abbrev lent : List ℕ → List ℕ
+      lent s = take (h + n - h) (drop h s)
+
+      row : (s : List ℕ) → lent s ≡ rowAt b s (l .bucket)
+      row = row-of b (l .bucket) eh en
+
+      both-long : length fw + length (lent sw) ≤ mostTerms
       both-long =
           let s = a .stands in
-          omega (arith, a .room, parted, ap length ew, row-long b (s .laid) (l .bucket) (v .within) sw (s .words-long), bucket-long b (s .laid) (l .bucket) (v .within) sw sc (s .words-long) (s .coefs-long))
+          omega (arith, a .room, parted, ap length (row sw), row-long b (s .laid) (l .bucket) (v .within) sw (s .words-long), bucket-long b (s .laid) (l .bucket) (v .within) sw sc (s .words-long) (s .coefs-long))
 
-      pub sides : Sides p fw fc bw bc ww wc
+      pub sides : Sides p fw fc (lent sw) (lent sc) ww wc
       sides =
           let s = a .stands in
           record {
             modulus = s .modulus;
             a = record { long = a .long; reduced = a .canonical .reduced };
-            b = rw (ew, ec) (bucket-poly b (s .laid) (l .bucket) (v .within) p cmp sw sc (s .words-long) (s .coefs-long) bucket-canonical);
+            b = rw (row sw, row sc) (bucket-poly b (s .laid) (l .bucket) (v .within) p cmp sw sc (s .words-long) (s .coefs-long) bucket-canonical);
             words-room = omega (arith, both-long, a .work-words);
             coefs-room = omega (arith, both-long, a .work-coefs);
           }
 
-      terms-are : terms bw bc ≡ bucketAt b sw sc (l .bucket)
-      terms-are = ap₂ terms ew ec
+      terms-are : terms (lent sw) (lent sc) ≡ bucketAt b sw sc (l .bucket)
+      terms-are = ap₂ terms (row sw) (row sc)
 
-      module _ (O : TotalOrder ℕ cmp) {ww' wc' : List ℕ} {len cnt : ℕ} (d : Made cmp p (terms fw fc) (terms bw bc) 0 ww wc ww' wc' len cnt) where
+      module _ (O : TotalOrder ℕ cmp) {ww' wc' : List ℕ} {len cnt : ℕ} (d : Made cmp p (terms fw fc) (terms (lent sw) (lent sc)) 0 ww wc ww' wc' len cnt) where
         abbrev M : List (Term ℕ)
         M = merge cmp p (terms fw fc) (bucketAt b sw sc (l .bucket))
 
@@ -252,7 +260,7 @@ module _ {cmp : ℕ → ℕ → Ordering} {p : ℕ} {b : Buckets} {fw fc sw sc w
         M-size : length M ≤ length fw + length (bucketAt b sw sc (l .bucket))
         M-size = omega (arith, merge-size cmp p (terms fw fc) (bucketAt b sw sc (l .bucket)), f-long)
 
-        M-short : length M ≤ 4096
+        M-short : length M ≤ mostTerms
         M-short = omega (arith, M-size, a .room, parted)
 
         read : terms (part 0 len ww') (part 0 len wc') ≡ M
@@ -268,8 +276,8 @@ module _ {cmp : ℕ → ℕ → Ordering} {p : ℕ} {b : Buckets} {fw fc sw sc w
           stands = a .stands;
           level-is = v .is;
           within = v .within;
-          work-words = ap length (d .words-are) ∙ (length-sets ww 0 (words (merge cmp p (terms fw fc) (terms bw bc)) ++ d .past-words) ∙ a .work-words);
-          work-coefs = ap length (d .coefs-are) ∙ (length-sets wc 0 (coefs (merge cmp p (terms fw fc) (terms bw bc)) ++ d .past-coefs) ∙ a .work-coefs);
+          work-words = ap length (d .words-are) ∙ (length-sets ww 0 (words (merge cmp p (terms fw fc) (terms (lent sw) (lent sc))) ++ d .past-words) ∙ a .work-words);
+          work-coefs = ap length (d .coefs-are) ∙ (length-sets wc 0 (coefs (merge cmp p (terms fw fc) (terms (lent sw) (lent sc))) ++ d .past-coefs) ∙ a .work-coefs);
           canonical = subst (λ (x : List (Term ℕ)). Canonical cmp p x) (sym read) (merge-canonical cmp O p pos (terms fw fc) (bucketAt b sw sc (l .bucket)) (a .canonical) bucket-canonical);
           room = omega (arith, len-is, M-size, a .room, parted);
           few = omega (arith, cnt-is, count-size cmp p (terms fw fc) (bucketAt b sw sc (l .bucket)), f-long, a .room, parted);

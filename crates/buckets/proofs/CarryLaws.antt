@@ -1,30 +1,23 @@
 -- A carry, from bucket to bucket: over lists, and then in the spaces. Assumes nothing.
 use mathlib.Core.Path.{_≡_, sym, ap, ap₂, _∙_, subst}
 use mathlib.Core.List.{List, [], _∷_, _++_}
-use mathlib.Core.Logic.{_⊎_, inl, inr, ⊎-elim}
 use Prim.Native.Nat.{ℕ, suc, _+_, _-_, _*_, _<_, _≤_, Ordering}
 use native.Mathlib.Nat.{zero-add}
 use native.Mathlib.Omega.{arith}
 use borrow.Author.Tests.{le-leb, lt-leb}
-use lib.ListN.{length, take, drop, set, length-append, length-map, length-set}
-use lib.Seq.{sets, set-getD, append-snoc, length-sets, getD-set-same}
-use Rattle.residue.specs.Modular.{Modulus}
+use lib.ListN.{length, length-append}
+use lib.Seq.{append-snoc}
+use Rattle.limits.specs.Limits.{mostTerms}
 use Rattle.monomial.specs.TotalOrder.{TotalOrder}
-use Rattle.polynomial.specs.Terms.{Term, terms, words, coefs, Canonical}
+use Rattle.polynomial.specs.Terms.{Term, Canonical}
 use Rattle.polynomial.specs.Merge.{merge, compared, mergeCount}
 use Rattle.polynomial.proofs.MergeLaws.{merge-size, merge-canonical, count-size}
-use Rattle.polynomial.proofs.TermLists.{length-terms, terms-of}
-use Rattle.merge.specs.Lent.{Poly, part, Apart}
-use Rattle.merge.specs.Merging.{Made, Within}
-use Rattle.merge.proofs.Lists.{length-part}
-use Rattle.geobucket.specs.Buckets.{held, Good, carry, carryCompared}
-use Rattle.space.specs.Space.{Buckets, headAt, capacity, start, listFrom, rowAt, bucketAt, bucketsIn, Laid, Stands, moved}
-use Rattle.buckets.specs.declared.level.Level.{Level}
-use Rattle.buckets.specs.Levels.{levelAt}
-use Rattle.buckets.specs.Adding.{landed, landedCompared, Carry, CarryDone}
-use Rattle.space.proofs.Starts.{next-capacity, cap-small, next-start, start-end}
-use Rattle.space.proofs.SpaceLaws.{held-cons, from-same, from-next, from-last, part-put, laid-moved, bucket-other}
-use Rattle.buckets.proofs.LevelLaws.{cap-is, not-last}
+use Rattle.geobucket.specs.Buckets.{held, carry, carryCompared}
+use Rattle.space.specs.Space.{Buckets, capacity, start, listFrom, bucketAt, Laid, moved}
+use Rattle.buckets.specs.Adding.{landed, landedCompared}
+use Rattle.space.proofs.Starts.{next-capacity, next-start}
+use Rattle.space.proofs.SpaceLaws.{held-cons, from-same, from-next, from-last, laid-moved, moved-len, bucket-none, bucket-other}
+use Rattle.buckets.proofs.LevelLaws.{not-last}
 
 -- ---- the equations of a landing
 module _ (cmp : ℕ → ℕ → Ordering) (p : ℕ) where
@@ -50,9 +43,9 @@ pub record Carrying (cmp : ℕ → ℕ → Ordering) (p : ℕ) (G : List (List (
   pub lists : listFrom g 0 i ++ landed cmp p (capacity i) m (listFrom g (suc i) (5 - i)) ≡ G
   pub count : n + length (landedCompared cmp p (capacity i) m (listFrom g (suc i) (5 - i))) ≡ N
   pub canonical : Canonical cmp p m
-  pub room : length m + held (listFrom g (suc i) (5 - i)) ≤ 4096
+  pub room : length m + held (listFrom g (suc i) (5 - i)) ≤ mostTerms
   pub ahead : (j : ℕ) → i < j → j < 6 → Canonical cmp p (g j)
-  pub few : n ≤ 4096 * suc i
+  pub few : n ≤ mostTerms * suc i
 
 module _ {cmp : ℕ → ℕ → Ordering} {p : ℕ} {G : List (List (Term ℕ))} {N : ℕ} {g : ℕ → List (Term ℕ)} {i : ℕ} {m : List (Term ℕ)} {n : ℕ} (c : Carrying cmp p G N g i m n) where
   module _ (over : capacity i < length m) where
@@ -62,10 +55,10 @@ module _ {cmp : ℕ → ℕ → Ordering} {p : ℕ} {G : List (List (Term ℕ))}
     above : listFrom g (suc i) (5 - i) ≡ g (suc i) ∷ listFrom g (suc (suc i)) (5 - suc i)
     above = ap (listFrom g (suc i)) (let k = up in let e : 5 - i ≡ suc (5 - suc i) = omega arith in e) ∙ from-next g (suc i) (5 - suc i)
 
-    pub pair-room : length m + length (g (suc i)) ≤ 4096
+    pub pair-room : length m + length (g (suc i)) ≤ mostTerms
     pair-room = omega (arith, c .room, ap held above, held-cons (g (suc i)) (listFrom g (suc (suc i)) (5 - suc i)))
 
-    pub pair-count : n + mergeCount cmp m (g (suc i)) ≤ 4096 * suc (suc i)
+    pub pair-count : n + mergeCount cmp m (g (suc i)) ≤ mostTerms * suc (suc i)
     pair-count = omega (arith, c .few, count-size cmp p m (g (suc i)), pair-room)
 
     -- the bucket is emptied and the next one merged in
@@ -107,22 +100,17 @@ same-carrying {cmp} {p} {G} {N} {g} {i} {m} {n} {i'} {m'} {n'} c ei em en =
     subst (λ (x : ℕ). Carrying cmp p G N g x m' n') (sym ei) (subst (λ (x : List (Term ℕ)). Carrying cmp p G N g i x n') (sym em) (subst (λ (x : ℕ). Carrying cmp p G N g i m x) (sym en) c))
 
 -- ---- a bucket in the bucket space is emptied
-abbrev pub without : Buckets → ℕ → Buckets
-without b i = set b (6 + i) 0
+module _ {b b₁ : Buckets} {i h : ℕ} (laid : Laid b) (in-six : i < 6) (eh : h ≡ start i) (e : b₁ ≡ moved b i h 0) where
+  moved-laid : Laid (moved b i h 0)
+  moved-laid = laid-moved b i h 0 laid in-six (omega (arith, eh)) (omega (arith, eh, next-start i))
 
-module _ (b : Buckets) (i : ℕ) (laid : Laid b) (in-six : i < 6) where
-  without-moved : without b i ≡ moved b i (headAt b i) 0
-  without-moved = ap (λ (l : List ℕ). set l (6 + i) 0) (sym (set-getD b i 0))
+  pub emptied-laid : Laid b₁
+  emptied-laid = subst Laid (sym e) moved-laid
 
-  pub without-laid : Laid (without b i)
-  without-laid = subst Laid (sym without-moved) (laid-moved b i (headAt b i) 0 laid in-six (laid .low i in-six) (omega (arith, laid .high i in-six)))
+  pub emptied-other : (sw sc : List ℕ) (j : ℕ) → j < 6 → (j ≡ i → ⊥) → bucketAt b₁ sw sc j ≡ bucketAt b sw sc j
+  emptied-other sw sc j k ne =
+      ap (λ (x : Buckets). bucketAt x sw sc j) e
+      ∙ bucket-other b i h 0 laid in-six sw sc (start i) (start i) [] [] (omega arith) (omega (arith, next-start i)) (omega arith) (omega (arith, next-start i)) j k ne
 
-  pub without-other : (sw sc : List ℕ) (j : ℕ) → j < 6 → (j ≡ i → ⊥) → bucketAt (without b i) sw sc j ≡ bucketAt b sw sc j
-  without-other sw sc j k ne =
-      ap (λ (x : Buckets). bucketAt x sw sc j) without-moved
-      ∙ bucket-other b i (headAt b i) 0 laid in-six sw sc (start i) (start i) [] [] (omega arith) (omega (arith, next-start i)) (omega arith) (omega (arith, next-start i)) j k ne
-
-  pub without-here : (sw sc : List ℕ) → bucketAt (without b i) sw sc i ≡ []
-  without-here sw sc =
-      let n : ℕ = headAt (without b i) i in
-      ap (λ (k : ℕ). terms (part n k sw) (part n k sc)) (getD-set-same b (6 + i) 0 0 (omega (arith, laid .twelve)))
+  pub emptied-here : (sw sc : List ℕ) → bucketAt b₁ sw sc i ≡ []
+  emptied-here sw sc = ap (λ (x : Buckets). bucketAt x sw sc i) e ∙ bucket-none (moved b i h 0) i moved-laid in-six sw sc (moved-len b i h 0 laid in-six)

@@ -4,41 +4,44 @@ use mathlib.Core.List.{List, [], _++_}
 use mathlib.Core.Logic.{inl}
 use Prim.Native.Nat.{ℕ, suc, _+_, _-_, _*_, _<_, _≤_, Ordering}
 use native.Mathlib.Omega.{arith}
-use lib.ListN.{length}
-use lib.Seq.{getD-set-other}
+use lib.ListN.{length, take, drop}
+use Rattle.limits.specs.Limits.{bucketPlaces, mostTerms}
 use Rattle.residue.specs.Modular.{Modulus}
 use Rattle.monomial.specs.TotalOrder.{TotalOrder}
 use Rattle.polynomial.specs.Terms.{Term, terms, Canonical}
 use Rattle.polynomial.specs.Merge.{merge, mergeCount}
 use Rattle.polynomial.proofs.MergeLaws.{merge-size, merge-nil, count-right}
 use Rattle.polynomial.proofs.TermLists.{length-terms}
-use Rattle.merge.specs.Lent.{part}
-use Rattle.merge.specs.Merging.{Made, Within}
-use Rattle.merge.proofs.Lists.{length-part}
-use Rattle.space.specs.Space.{Buckets, headAt, lenAt, capacity, start, listFrom, rowAt, bucketAt, Laid}
+use Rattle.merge_common.specs.Lent.{Poly, part}
+use Rattle.merge_common.specs.Merging.{Made, Within}
+use Rattle.merge_common.proofs.Lists.{length-part}
+use Rattle.space.specs.Space.{Buckets, headAt, lenAt, capacity, start, listFrom, rowAt, bucketAt, Laid, moved}
 use Rattle.buckets.specs.declared.level.Level.{Level}
 use Rattle.buckets.specs.Levels.{levelAt}
 use Rattle.buckets.specs.Adding.{landed, landedCompared, Carry, CarryDone, MergeIn, Store, Stored}
 use Rattle.space.proofs.Starts.{next-start}
-use Rattle.space.proofs.SpaceLaws.{good-at, bucket-none, row-end, row-long, bucket-long, bucket-poly}
+use Rattle.space.proofs.SpaceLaws.{row-of, good-at, bucket-none, row-end, row-long, bucket-long, bucket-poly}
 use Rattle.buckets.proofs.LevelLaws.{start-is, cap-is, next-fits}
 use Rattle.buckets.proofs.WorkLaws.{InHalf, in-work, same-long, terms-long, half-within, other-half, other-terms}
 use Rattle.buckets.proofs.StoreLaws.{stored-lists}
-use Rattle.buckets.proofs.CarryLaws.{Carrying, up, same-carrying, pair-room, pair-count, carry-on, carry-ends, carry-count, without, without-laid, without-other, without-here}
+use Rattle.buckets.proofs.CarryLaws.{Carrying, up, same-carrying, pair-room, pair-count, carry-on, carry-ends, carry-count, emptied-laid, emptied-other, emptied-here}
 
 -- ---- the loop
 pub record Carries (cmp : ℕ → ℕ → Ordering) (p : ℕ) (G : List (List (Term ℕ))) (N : ℕ) (sw sc : List ℕ) (b : Buckets) (l : Level) (ww wc : List ℕ) (from len n : ℕ) : Type 0 where
   pub modulus : Modulus p
-  pub words-long : length sw ≡ 5460
-  pub coefs-long : length sc ≡ 5460
+  pub words-long : length sw ≡ bucketPlaces
+  pub coefs-long : length sc ≡ bucketPlaces
   pub laid : Laid b
   pub level-is : l ≡ levelAt (l .bucket)
   pub work : InHalf ww wc from len
   pub state : Carrying cmp p G N (bucketAt b sw sc) (l .bucket) (terms (part from len ww) (part from len wc)) n
 
 module _ {cmp : ℕ → ℕ → Ordering} {p : ℕ} {G : List (List (Term ℕ))} {N : ℕ} {sw sc : List ℕ} {b : Buckets} {l : Level} {ww wc : List ℕ} {from len n : ℕ} (v : Carries cmp p G N sw sc b l ww wc from len n) where
-  module _ (O : TotalOrder ℕ cmp) (over : l .cap < len) (k : Level) (ek : k ≡ levelAt (suc (l .bucket))) where
-    over-long : capacity (l .bucket) < length (terms (part from len ww) (part from len wc))
+  module _ (over : l .cap < len) {k : Level} (ek : k ≡ levelAt (suc (l .bucket))) where
+    abbrev m : List (Term ℕ)
+    m = terms (part from len ww) (part from len wc)
+
+    over-long : capacity (l .bucket) < length m
     over-long = omega (arith, over, cap-is l (v .level-is), terms-long (v .work))
 
     pub next-bucket : k .bucket ≡ suc (l .bucket)
@@ -47,124 +50,120 @@ module _ {cmp : ℕ → ℕ → Ordering} {p : ℕ} {G : List (List (Term ℕ))}
     pub next-six : k .bucket < 6
     next-six = omega (arith, next-bucket, up (v .state) over-long)
 
-    pub next-end : headAt b (k .bucket) + lenAt b (k .bucket) ≤ 5460
-    next-end = row-end b (v .laid) (k .bucket) next-six
+    next-level : k ≡ levelAt (k .bucket)
+    next-level = ek ∙ ap levelAt (sym next-bucket)
 
     pub next-sum : k .start + len ≤ 10000
-    next-sum = omega (arith, next-fits k (ek ∙ ap levelAt (sym next-bucket)) next-six, v .work .short)
+    next-sum = omega (arith, next-fits k next-level next-six, v .work .short)
 
-    next-room : len + length (bucketAt b sw sc (k .bucket)) ≤ 4096
-    next-room = omega (arith, pair-room (v .state) over-long, terms-long (v .work), ap (λ (x : ℕ). length (bucketAt b sw sc x)) next-bucket)
+    -- the bucket is emptied
+    module _ {b₁ : Buckets} (eb : b₁ ≡ moved b (l .bucket) (l .start) 0) where
+      pub next-laid : Laid b₁
+      next-laid = emptied-laid (v .laid) (v .state .in-six) (start-is l (v .level-is)) eb
 
-    -- an empty bucket is not merged
-    pub again-empty : lenAt b (k .bucket) ≡ 0 → Carries cmp p G N sw sc (without b (l .bucket)) k ww wc from len n
-    again-empty e =
-        let m = terms (part from len ww) (part from len wc) in
-        let none : bucketAt b sw sc (suc (l .bucket)) ≡ [] = ap (bucketAt b sw sc) (sym next-bucket) ∙ bucket-none b (k .bucket) (v .laid) next-six sw sc e in
-        let on = carry-on (v .state) over-long O (omega (arith, v .modulus .two)) (bucketAt (without b (l .bucket)) sw sc) (without-here b (l .bucket) (v .laid) (v .state .in-six) sw sc) (without-other b (l .bucket) (v .laid) (v .state .in-six) sw sc) in
-        record {
-          modulus = v .modulus;
-          words-long = v .words-long;
-          coefs-long = v .coefs-long;
-          laid = without-laid b (l .bucket) (v .laid) (v .state .in-six);
-          level-is = ek ∙ ap levelAt (sym next-bucket);
-          work = v .work;
-          state = same-carrying on next-bucket (sym (ap (merge cmp p m) none ∙ merge-nil cmp p m)) (omega (arith, ap (mergeCount cmp m) none, count-right cmp m));
-        }
+      pub next-end : {h n : ℕ} → h ≡ headAt b₁ (k .bucket) → n ≡ lenAt b₁ (k .bucket) → h + n ≤ bucketPlaces
+      next-end eh en = omega (arith, eh, en, row-end b₁ next-laid (k .bucket) next-six)
 
-    -- where there is room in front of the bucket, the merge stays there
-    module _ (room : k .start + len ≤ headAt b (k .bucket)) {tw tc : List ℕ} (etw : tw ≡ part from len ww) (etc : tc ≡ part from len wc) where
-      next-level : k ≡ levelAt (k .bucket)
-      next-level = ek ∙ ap levelAt (sym next-bucket)
+      next-same : bucketAt b₁ sw sc (k .bucket) ≡ bucketAt b sw sc (k .bucket)
+      next-same = emptied-other (v .laid) (v .state .in-six) (start-is l (v .level-is)) eb sw sc (k .bucket) next-six (λ q. let z : ⊥ = omega (arith, next-bucket) in z)
 
-      next-same : bucketAt (without b (l .bucket)) sw sc (k .bucket) ≡ bucketAt b sw sc (k .bucket)
-      next-same = without-other b (l .bucket) (v .laid) (v .state .in-six) sw sc (k .bucket) next-six (λ q. let z : ⊥ = omega (arith, next-bucket) in z)
+      next-is : bucketAt b₁ sw sc (k .bucket) ≡ bucketAt b sw sc (suc (l .bucket))
+      next-is = next-same ∙ ap (bucketAt b sw sc) next-bucket
 
-      next-head : headAt (without b (l .bucket)) (k .bucket) ≡ headAt b (k .bucket)
-      next-head = getD-set-other b (6 + l .bucket) (k .bucket) 0 0 (λ q. let z : ⊥ = omega (arith, next-six) in z)
+      next-poly : Poly p (rowAt b₁ sw (k .bucket)) (rowAt b₁ sc (k .bucket))
+      next-poly = bucket-poly b₁ next-laid (k .bucket) next-six p cmp sw sc (v .words-long) (v .coefs-long) (subst (λ (x : List (Term ℕ)). Canonical cmp p x) (sym next-same) (v .state .ahead (k .bucket) (omega (arith, next-bucket)) next-six))
 
-      tw-long : length tw ≡ len
-      tw-long = ap length etw ∙ length-part from len ww (omega (arith, in-work (v .work), v .work .work-words))
+      -- and the next one merged in
+      module _ (O : TotalOrder ℕ cmp) where
+        on : {m' : List (Term ℕ)} {n' : ℕ} → m' ≡ merge cmp p m (bucketAt b sw sc (suc (l .bucket))) → n' ≡ n + mergeCount cmp m (bucketAt b sw sc (suc (l .bucket))) → Carrying cmp p G N (bucketAt b₁ sw sc) (k .bucket) m' n'
+        on em en =
+            same-carrying
+            (carry-on (v .state) over-long O (omega (arith, v .modulus .two)) (bucketAt b₁ sw sc) (emptied-here (v .laid) (v .state .in-six) (start-is l (v .level-is)) eb sw sc) (emptied-other (v .laid) (v .state .in-six) (start-is l (v .level-is)) eb sw sc))
+            next-bucket em en
 
-      pub place-asks : MergeIn p (without b (l .bucket)) k tw tc sw sc
-      place-asks =
-          let lw = without-laid b (l .bucket) (v .laid) (v .state .in-six) in
-          record {
+        goes : {ww' wc' : List ℕ} {from' len' n' : ℕ} → InHalf ww' wc' from' len' → Carrying cmp p G N (bucketAt b₁ sw sc) (k .bucket) (terms (part from' len' ww') (part from' len' wc')) n' → Carries cmp p G N sw sc b₁ k ww' wc' from' len' n'
+        goes w s = record { modulus = v .modulus; words-long = v .words-long; coefs-long = v .coefs-long; laid = next-laid; level-is = next-level; work = w; state = s }
+
+        -- an empty bucket is not merged
+        pub again-empty : lenAt b₁ (k .bucket) ≡ 0 → Carries cmp p G N sw sc b₁ k ww wc from len n
+        again-empty e =
+            let none : bucketAt b sw sc (suc (l .bucket)) ≡ [] = sym next-is ∙ bucket-none b₁ (k .bucket) next-laid next-six sw sc e in
+            goes (v .work) (on (sym (ap (merge cmp p m) none ∙ merge-nil cmp p m)) (omega (arith, ap (mergeCount cmp m) none, count-right cmp m)))
+
+        -- where there is room in front of the bucket, the merge stays there
+        module _ (room : k .start + len ≤ headAt b₁ (k .bucket)) {tw tc : List ℕ} (etw : tw ≡ part from len ww) (etc : tc ≡ part from len wc) where
+          tw-long : length tw ≡ len
+          tw-long = ap length etw ∙ length-part from len ww (omega (arith, in-work (v .work), v .work .work-words))
+
+          pub place-asks : MergeIn p b₁ k tw tc sw sc
+          place-asks = record {
             modulus = v .modulus;
-            laid = lw;
+            laid = next-laid;
             level-is = next-level;
             within = next-six;
             lent = rw (etw, etc) (record { long = same-long (v .work); reduced = v .state .canonical .reduced });
-            there = bucket-poly (without b (l .bucket)) lw (k .bucket) next-six p cmp sw sc (v .words-long) (v .coefs-long) (subst (λ (x : List (Term ℕ)). Canonical cmp p x) (sym next-same) (v .state .ahead (k .bucket) (omega (arith, next-bucket)) next-six));
-            room = omega (arith, room, tw-long, next-head, start-is k next-level);
+            there = next-poly;
+            room = omega (arith, room, tw-long, start-is k next-level);
             words-long = v .words-long;
             coefs-long = v .coefs-long;
           }
 
-      abbrev placed : List (Term ℕ)
-      placed = merge cmp p (terms tw tc) (bucketAt (without b (l .bucket)) sw sc (k .bucket))
+          abbrev placed : List (Term ℕ)
+          placed = merge cmp p (terms tw tc) (bucketAt b₁ sw sc (k .bucket))
 
-      pair-is : placed ≡ merge cmp p (terms (part from len ww) (part from len wc)) (bucketAt b sw sc (suc (l .bucket)))
-      pair-is = ap₂ (merge cmp p) (ap₂ terms etw etc) (next-same ∙ ap (bucketAt b sw sc) next-bucket)
+          pub placed-fits : length placed ≤ capacity (k .bucket)
+          placed-fits =
+              omega (
+                arith,
+                merge-size cmp p m (bucketAt b₁ sw sc (k .bucket)),
+                ap (λ (x : List (Term ℕ)). length (merge cmp p x (bucketAt b₁ sw sc (k .bucket)))) (ap₂ terms etw etc),
+                terms-long (v .work),
+                bucket-long b₁ next-laid (k .bucket) next-six sw sc (v .words-long) (v .coefs-long),
+                next-laid .high (k .bucket) next-six,
+                next-start (k .bucket),
+                start-is k next-level,
+                room,
+              )
 
-      pub placed-fits : length placed ≤ capacity (k .bucket)
-      placed-fits =
-          omega (
-            arith,
-            merge-size cmp p (terms (part from len ww) (part from len wc)) (bucketAt b sw sc (k .bucket)),
-            ap length (pair-is ∙ ap (λ (x : ℕ). merge cmp p (terms (part from len ww) (part from len wc)) (bucketAt b sw sc x)) (sym next-bucket)),
-            terms-long (v .work),
-            bucket-long b (v .laid) (k .bucket) next-six sw sc (v .words-long) (v .coefs-long),
-            v .laid .high (k .bucket) next-six,
-            next-start (k .bucket),
-            start-is k next-level,
-            room,
-          )
+          module _ {cnt : ℕ} (count : cnt ≡ mergeCount cmp (terms tw tc) (bucketAt b₁ sw sc (k .bucket))) where
+            cnt-is : n + cnt ≡ n + mergeCount cmp m (bucketAt b sw sc (suc (l .bucket)))
+            cnt-is = ap (λ (x : ℕ). n + x) (count ∙ ap₂ (mergeCount cmp) (ap₂ terms etw etc) next-is)
 
-      module _ {cnt : ℕ} (count : cnt ≡ mergeCount cmp (terms tw tc) (bucketAt (without b (l .bucket)) sw sc (k .bucket))) where
-        cnt-is : n + cnt ≡ n + mergeCount cmp (terms (part from len ww) (part from len wc)) (bucketAt b sw sc (suc (l .bucket)))
-        cnt-is = ap (λ (x : ℕ). n + x) (count ∙ ap₂ (mergeCount cmp) (ap₂ terms etw etc) (next-same ∙ ap (bucketAt b sw sc) next-bucket))
+            pub placed-count : n + cnt ≤ mostTerms * 8
+            placed-count = omega (arith, cnt-is, pair-count (v .state) over-long, up (v .state) over-long)
 
-        pub placed-count : n + cnt ≤ 4096 * 8
-        placed-count = omega (arith, cnt-is, pair-count (v .state) over-long, up (v .state) over-long)
+            pub placed-state : Carrying cmp p G N (bucketAt b₁ sw sc) (k .bucket) placed (n + cnt)
+            placed-state = on (ap₂ (merge cmp p) (ap₂ terms etw etc) next-is) cnt-is
 
-        pub placed-state : Carrying cmp p G N (bucketAt (without b (l .bucket)) sw sc) (k .bucket) placed (n + cnt)
-        placed-state =
-            same-carrying (carry-on (v .state) over-long O (omega (arith, v .modulus .two)) (bucketAt (without b (l .bucket)) sw sc) (without-here b (l .bucket) (v .laid) (v .state .in-six) sw sc) (without-other b (l .bucket) (v .laid) (v .state .in-six) sw sc))
-            next-bucket pair-is cnt-is
+        module _ {h c : ℕ} (eh : h ≡ headAt b₁ (k .bucket)) (ec : c ≡ lenAt b₁ (k .bucket)) where
+          -- the part that is lent is the next bucket's row
+          abbrev lent : List ℕ → List ℕ
+          lent s = take (h + c - h) (drop h s)
 
-    module _ (bw bc : List ℕ) (ew : bw ≡ rowAt b sw (k .bucket)) (ec : bc ≡ rowAt b sc (k .bucket)) where
-      next-long : len + length bw ≤ 4096
-      next-long = omega (arith, next-room, ap length ew, row-long b (v .laid) (k .bucket) next-six sw (v .words-long), bucket-long b (v .laid) (k .bucket) next-six sw sc (v .words-long) (v .coefs-long))
+          row : (s : List ℕ) → lent s ≡ rowAt b₁ s (k .bucket)
+          row = row-of b₁ (k .bucket) eh ec
 
-      pub within : Within p ww wc from len (4096 - from) bw bc
-      within = half-within (v .work) next-long (v .modulus) (v .state .canonical .reduced) (rw (ew, ec) (bucket-poly b (v .laid) (k .bucket) next-six p cmp sw sc (v .words-long) (v .coefs-long) (v .state .ahead (k .bucket) (omega (arith, next-bucket)) next-six)))
+          next-terms : terms (lent sw) (lent sc) ≡ bucketAt b sw sc (suc (l .bucket))
+          next-terms = ap₂ terms (row sw) (row sc) ∙ next-is
 
-      next-terms : terms bw bc ≡ bucketAt b sw sc (suc (l .bucket))
-      next-terms = ap₂ terms ew ec ∙ ap (bucketAt b sw sc) next-bucket
+          terms-room : len + length (terms (lent sw) (lent sc)) ≤ mostTerms
+          terms-room = omega (arith, ap length next-terms, terms-long (v .work), pair-room (v .state) over-long)
 
-      module _ {ww' wc' : List ℕ} {len' cnt : ℕ} (d : Made cmp p (terms (part from len ww) (part from len wc)) (terms bw bc) (4096 - from) ww wc ww' wc' len' cnt) where
-        terms-room : len + length (terms bw bc) ≤ 4096
-        terms-room = omega (arith, ap length next-terms, terms-long (v .work), pair-room (v .state) over-long)
+          pub within : Within p ww wc from len (mostTerms - from) (lent sw) (lent sc)
+          within =
+              half-within (v .work)
+              (omega (arith, terms-room, ap length (ap₂ terms (row sw) (row sc)), bucket-long b₁ next-laid (k .bucket) next-six sw sc (v .words-long) (v .coefs-long), ap length (row sw), row-long b₁ next-laid (k .bucket) next-six sw (v .words-long)))
+              (v .modulus) (v .state .canonical .reduced) (rw (row sw, row sc) next-poly)
 
-        count-is : n + cnt ≡ n + mergeCount cmp (terms (part from len ww) (part from len wc)) (bucketAt b sw sc (suc (l .bucket)))
-        count-is = ap (λ (x : ℕ). n + x) (d .count-is ∙ ap (mergeCount cmp (terms (part from len ww) (part from len wc))) next-terms)
+          module _ {ww' wc' : List ℕ} {len' cnt : ℕ} (d : Made cmp p m (terms (lent sw) (lent sc)) (mostTerms - from) ww wc ww' wc' len' cnt) where
+            count-is : n + cnt ≡ n + mergeCount cmp m (bucketAt b sw sc (suc (l .bucket)))
+            count-is = ap (λ (x : ℕ). n + x) (d .count-is ∙ ap (mergeCount cmp m) next-terms)
 
-        pub next-count : n + cnt ≤ 4096 * 8
-        next-count = omega (arith, count-is, pair-count (v .state) over-long, up (v .state) over-long)
+            pub next-count : n + cnt ≤ mostTerms * 8
+            next-count = omega (arith, count-is, pair-count (v .state) over-long, up (v .state) over-long)
 
-        pub again : Carries cmp p G N sw sc (without b (l .bucket)) k ww' wc' (4096 - from) len' (n + cnt)
-        again = record {
-          modulus = v .modulus;
-          words-long = v .words-long;
-          coefs-long = v .coefs-long;
-          laid = without-laid b (l .bucket) (v .laid) (v .state .in-six);
-          level-is = ek ∙ ap levelAt (sym next-bucket);
-          work = other-half (v .work) terms-room d;
-          state =
-              same-carrying (carry-on (v .state) over-long O (omega (arith, v .modulus .two)) (bucketAt (without b (l .bucket)) sw sc) (without-here b (l .bucket) (v .laid) (v .state .in-six) sw sc) (without-other b (l .bucket) (v .laid) (v .state .in-six) sw sc))
-              next-bucket (other-terms (v .work) terms-room d ∙ ap (merge cmp p (terms (part from len ww) (part from len wc))) next-terms) count-is;
-        }
+            pub again : Carries cmp p G N sw sc b₁ k ww' wc' (mostTerms - from) len' (n + cnt)
+            again = goes (other-half (v .work) terms-room d) (on (other-terms (v .work) terms-room d ∙ ap (merge cmp p m) next-terms) count-is)
 
 -- ---- the start and the end of the loop
 module _ {cmp : ℕ → ℕ → Ordering} {p : ℕ} {b : Buckets} {l : Level} {sw sc ww wc : List ℕ} {len n : ℕ} (c : Carry cmp p b l sw sc ww wc len n) where
@@ -174,7 +173,7 @@ module _ {cmp : ℕ → ℕ → Ordering} {p : ℕ} {b : Buckets} {l : Level} {s
   abbrev pub cost : ℕ
   cost = n + length (landedCompared cmp p (capacity (l .bucket)) (terms (part 0 len ww) (part 0 len wc)) (listFrom (bucketAt b sw sc) (suc (l .bucket)) (5 - l .bucket)))
 
-  len-short : len ≤ 4096
+  len-short : len ≤ mostTerms
   len-short = omega (arith, c .room)
 
   at-front : InHalf ww wc 0 len

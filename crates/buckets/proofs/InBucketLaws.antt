@@ -7,16 +7,17 @@ use native.Mathlib.Decide.{decLe}
 use native.Mathlib.Omega.{arith}
 use lib.ListN.{length, getD}
 use lib.Seq.{sets, length-sets, ext-getD}
+use Rattle.limits.specs.Limits.{bucketPlaces}
 use Rattle.polynomial.specs.Terms.{terms}
 use Rattle.polynomial.specs.Merge.{merge, mergeCount}
 use Rattle.polynomial.proofs.TermLists.{terms-of}
-use Rattle.merge.specs.Lent.{part}
-use Rattle.merge.proofs.Lists.{length-part, getD-part, getD-sets-other}
+use Rattle.merge_common.specs.Lent.{part}
+use Rattle.merge_common.proofs.Lists.{length-part, getD-part, getD-sets-other}
 use Rattle.merge_in.specs.declared.in_place.Placed.{Placed}
 use Rattle.merge_in.specs.Placing.{Into, PlacedIn}
 use Rattle.merge_in.proofs.ReadBack.{getD-sets}
 use Rattle.space.specs.Space.{Buckets, headAt, lenAt, start, bucketAt, moved}
-use Rattle.space.proofs.SpaceLaws.{part-to, row-end, moved-head, moved-len, laid-moved, bucket-other}
+use Rattle.space.proofs.SpaceLaws.{row-of, row-end, moved-head, moved-len, laid-moved, bucket-other}
 use Rattle.buckets.specs.declared.level.Level.{Level}
 use Rattle.buckets.specs.Adding.{MergeIn, Stored}
 
@@ -36,42 +37,41 @@ as-sets l o low e long h r stay = ext-getD 0 o (sets l low (part low (e - low) o
         ∙ (getD-sets l low (part low (e - low) o) (t - low) (omega (arith, lv)) (omega (arith, lv))
         ∙ (getD-part low (e - low) o (t - low) (omega arith) ∙ ap (λ (m : ℕ). getD o m 0) q)))
 
-module _ {p : ℕ} {b : Buckets} {l : Level} {fw fc sw sc : List ℕ} (a : MergeIn p b l fw fc sw sc) where
-  pub end : headAt b (l .bucket) + lenAt b (l .bucket) ≤ 5460
-  end = row-end b (a .laid) (l .bucket) (a .within)
+module _ {p : ℕ} {b : Buckets} {l : Level} {fw fc sw sc : List ℕ} (a : MergeIn p b l fw fc sw sc) {h n : ℕ} (eh : h ≡ headAt b (l .bucket)) (en : n ≡ lenAt b (l .bucket)) where
+  pub end : h + n ≤ bucketPlaces
+  end = omega (arith, eh, en, row-end b (a .laid) (l .bucket) (a .within))
 
-  pub into-asks : Into p fw fc sw sc (headAt b (l .bucket)) (headAt b (l .bucket) + lenAt b (l .bucket))
+  pub into-asks : Into p fw fc sw sc h (h + n)
   into-asks = record {
     modulus = a .modulus;
     lent = a .lent;
-    there = rw (part-to (headAt b (l .bucket)) (lenAt b (l .bucket)) sw, part-to (headAt b (l .bucket)) (lenAt b (l .bucket)) sc) (a .there);
-    room = omega (arith, a .room);
+    there = rw (row-of b (l .bucket) eh en sw, row-of b (l .bucket) eh en sc) (a .there);
+    room = omega (arith, eh, a .room);
     ends = omega arith;
     words-end = omega (arith, end, a .words-long);
     coefs-end = omega (arith, end, a .coefs-long);
   }
 
-  module _ {cmp : ℕ → ℕ → Ordering} {sw' sc' : List ℕ} {r : Placed} (d : PlacedIn cmp p (terms fw fc) (terms (part (headAt b (l .bucket)) (headAt b (l .bucket) + lenAt b (l .bucket) - headAt b (l .bucket)) sw) (part (headAt b (l .bucket)) (headAt b (l .bucket) + lenAt b (l .bucket) - headAt b (l .bucket)) sc)) (headAt b (l .bucket) - length fw) (headAt b (l .bucket) + lenAt b (l .bucket)) sw sc sw' sc' r) where
-    there-is : terms (part (headAt b (l .bucket)) (headAt b (l .bucket) + lenAt b (l .bucket) - headAt b (l .bucket)) sw) (part (headAt b (l .bucket)) (headAt b (l .bucket) + lenAt b (l .bucket) - headAt b (l .bucket)) sc) ≡ bucketAt b sw sc (l .bucket)
-    there-is = ap₂ terms (part-to (headAt b (l .bucket)) (lenAt b (l .bucket)) sw) (part-to (headAt b (l .bucket)) (lenAt b (l .bucket)) sc)
+  module _ {cmp : ℕ → ℕ → Ordering} {sw' sc' : List ℕ} {r : Placed} (d : PlacedIn cmp p (terms fw fc) (terms (part h (h + n - h) sw) (part h (h + n - h) sc)) (h - length fw) (h + n) sw sc sw' sc' r) where
+    there-is : terms (part h (h + n - h) sw) (part h (h + n - h) sc) ≡ bucketAt b sw sc (l .bucket)
+    there-is = ap₂ terms (row-of b (l .bucket) eh en sw) (row-of b (l .bucket) eh en sc)
 
     pub in-count : r .comparisons ≡ mergeCount cmp (terms fw fc) (bucketAt b sw sc (l .bucket))
     in-count = d .count-is ∙ ap (mergeCount cmp (terms fw fc)) there-is
 
-    pub merged-in : length sw' ≡ length sw → length sc' ≡ length sc → Stored b l (merge cmp p (terms fw fc) (bucketAt b sw sc (l .bucket))) sw sc sw' sc' (moved b (l .bucket) (r .head) (r .len))
-    merged-in hw hc =
+    pub merged-in : length sw' ≡ length sw → length sc' ≡ length sc → {b' : Buckets} → b' ≡ moved b (l .bucket) (r .head) (r .len) → Stored b l (merge cmp p (terms fw fc) (bucketAt b sw sc (l .bucket))) sw sc sw' sc' b'
+    merged-in hw hc {b'} eb =
         let i = l .bucket in
-        let low : ℕ = headAt b i - length fw in
-        let e : ℕ = headAt b i + lenAt b i in
-        let b' = moved b i (r .head) (r .len) in
-        let lo : start i ≤ low = omega (arith, a .room) in
-        let hi : e ≤ start (suc i) = a .laid .high i (a .within) in
-        let M = merge cmp p (terms fw fc) (terms (part (headAt b i) (headAt b i + lenAt b i - headAt b i) sw) (part (headAt b i) (headAt b i + lenAt b i - headAt b i) sc)) in
+        let low : ℕ = h - length fw in
+        let e : ℕ = h + n in
+        let lo : start i ≤ low = omega (arith, eh, a .room) in
+        let hi : e ≤ start (suc i) = omega (arith, eh, en, a .laid .high i (a .within)) in
+        let M = merge cmp p (terms fw fc) (terms (part h (h + n - h) sw) (part h (h + n - h) sc)) in
         let ew : sw' ≡ sets sw low (part low (e - low) sw') = as-sets sw sw' low e hw (omega arith) (omega (arith, end, a .words-long)) (d .words-else) in
         let ec : sc' ≡ sets sc low (part low (e - low) sc') = as-sets sc sc' low e hc (omega arith) (omega (arith, end, a .coefs-long)) (d .coefs-else) in
         let lw : length (part low (e - low) sw') ≡ e - low = length-part low (e - low) sw' (omega (arith, end, a .words-long)) in
         let lc : length (part low (e - low) sc') ≡ e - low = length-part low (e - low) sc' (omega (arith, end, a .coefs-long)) in
-        record {
+        rw eb (record {
           laid = laid-moved b i (r .head) (r .len) (a .laid) (a .within) (omega (arith, d .from-low)) (omega (arith, d .to-end));
           words-long = hw ∙ a .words-long;
           coefs-long = hc ∙ a .coefs-long;
@@ -79,6 +79,6 @@ module _ {p : ℕ} {b : Buckets} {l : Level} {fw fc sw sc : List ℕ} (a : Merge
               ap₂ (λ (x y : ℕ). terms (part x y sw') (part x y sc')) (moved-head b i (r .head) (r .len) (a .laid) (a .within)) (moved-len b i (r .head) (r .len) (a .laid) (a .within))
               ∙ (ap₂ terms (d .words-are) (d .coefs-are) ∙ (terms-of M ∙ ap (merge cmp p (terms fw fc)) there-is));
           others = λ j k ne.
-              ap₂ (λ (x y : List ℕ). bucketAt b' x y j) ew ec
+              ap₂ (λ (x y : List ℕ). bucketAt (moved b i (r .head) (r .len)) x y j) ew ec
               ∙ bucket-other b i (r .head) (r .len) (a .laid) (a .within) sw sc low low (part low (e - low) sw') (part low (e - low) sc') lo (omega arith) lo (omega arith) j k ne;
-        }
+        })

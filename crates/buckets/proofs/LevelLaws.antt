@@ -3,6 +3,7 @@ use mathlib.Core.Path.{_≡_, refl, sym, ap, ap₂, _∙_, subst}
 use Prim.Native.Nat.{ℕ, zero, suc, _+_, _-_, _*_, _<_, _≤_}
 use native.Mathlib.Decide.{decLe}
 use native.Mathlib.Omega.{arith}
+use Rattle.limits.specs.Limits.{bucketPlaces, mostTerms}
 use Rattle.space.specs.Space.{capacity, start}
 use Rattle.buckets.specs.declared.level.Level.{Level}
 use Rattle.buckets.specs.Levels.{levelAt, LevelFor}
@@ -14,7 +15,7 @@ start-is l e = ap (λ (k : Level). k .start) e
 pub cap-is : (l : Level) → l ≡ levelAt (l .bucket) → l .cap ≡ capacity (l .bucket)
 cap-is l e = ap (λ (k : Level). k .cap) e
 
-pub next-fits : (l : Level) → l ≡ levelAt (l .bucket) → l .bucket < 6 → l .start + l .cap ≤ 5460
+pub next-fits : (l : Level) → l ≡ levelAt (l .bucket) → l .bucket < 6 → l .start + l .cap ≤ bucketPlaces
 next-fits l e h = omega (arith, start-is l e, cap-is l e, next-start (l .bucket), start-end (l .bucket) h)
 
 pub next-cap : (l : Level) → l ≡ levelAt (l .bucket) → l .bucket < 6 → l .cap * 4 ≤ 16384
@@ -28,7 +29,7 @@ next-is l e =
     cc
 
 -- a bucket that is too small is not the last
-pub not-last : (i n : ℕ) → i < 6 → capacity i < n → n ≤ 4096 → suc i < 6
+pub not-last : (i n : ℕ) → i < 6 → capacity i < n → n ≤ mostTerms → suc i < 6
 not-last i n h k m = by (decLe 5 i)
   where
     by : Dec (5 ≤ i) → suc i < 6
@@ -46,7 +47,7 @@ unfolding start capacity
 climb-start n = record { is = refl; within = omega arith; least = λ j h. absurd (let z : ⊥ = omega arith in z) }
 
 module _ (n : ℕ) (l : Level) (c : Climbing n l) where
-  pub climb-on : n ≤ 4096 → l .cap < n → (k : Level) → k ≡ levelAt (suc (l .bucket)) → Climbing n k
+  pub climb-on : n ≤ mostTerms → l .cap < n → (k : Level) → k ≡ levelAt (suc (l .bucket)) → Climbing n k
   climb-on m h k e =
       let eb : k .bucket ≡ suc (l .bucket) = ap (λ (x : Level). x .bucket) e in
       let small : capacity (l .bucket) < n = omega (arith, cap-is l (c .is)) in

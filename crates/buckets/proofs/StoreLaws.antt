@@ -6,7 +6,7 @@ use native.Mathlib.Omega.{arith}
 use lib.ListN.{length}
 use lib.Seq.{sets, length-sets}
 use Rattle.polynomial.specs.Terms.{Term, terms}
-use Rattle.merge.specs.Lent.{part}
+use Rattle.merge_common.specs.Lent.{part}
 use Rattle.space.specs.Space.{Buckets, start, listFrom, bucketAt, bucketsIn, moved}
 use Rattle.buckets.specs.declared.level.Level.{Level}
 use Rattle.buckets.specs.Adding.{Store, Stored}
@@ -31,23 +31,22 @@ module _ {b : Buckets} {l : Level} {tw tc sw sc : List ℕ} (s : Store b l tw tc
   pub coefs-room : l .start + (l .cap - length tw) + length tc ≤ length sc
   coefs-room = omega (arith, ends, start-end (l .bucket) (s .within), s .coefs-long, s .long)
 
-  pub stored : {sw' sc' : List ℕ} → sw' ≡ sets sw (l .start + (l .cap - length tw)) tw → sc' ≡ sets sc (l .start + (l .cap - length tw)) tc → Stored b l (terms tw tc) sw sc sw' sc' (moved b (l .bucket) (l .start + (l .cap - length tw)) (length tw))
-  stored {sw'} {sc'} ew ec =
+  pub stored : {sw' sc' : List ℕ} → sw' ≡ sets sw (l .start + (l .cap - length tw)) tw → sc' ≡ sets sc (l .start + (l .cap - length tw)) tc → {b' : Buckets} → b' ≡ moved b (l .bucket) (l .start + (l .cap - length tw)) (length tw) → Stored b l (terms tw tc) sw sc sw' sc' b'
+  stored {sw'} {sc'} ew ec eb =
       let i = l .bucket in
       let h : ℕ = l .start + (l .cap - length tw) in
       let n = length tw in
-      let b' = moved b i h n in
       let mh = moved-head b i h n (s .laid) (s .within) in
       let mn = moved-len b i h n (s .laid) (s .within) in
-      record {
+      rw eb (record {
         laid = laid-moved b i h n (s .laid) (s .within) from-start ends;
         words-long = ap length ew ∙ (length-sets sw h tw ∙ s .words-long);
         coefs-long = ap length ec ∙ (length-sets sc h tc ∙ s .coefs-long);
         here =
             ap₂ (λ (x y : ℕ). terms (part x y sw') (part x y sc')) mh mn
             ∙ ap₂ terms (ap (part h n) ew ∙ part-put sw h tw words-room) (ap₂ (λ (m : ℕ) (x : List ℕ). part h m x) (sym (s .long)) ec ∙ part-put sc h tc coefs-room);
-        others = λ j k ne. ap₂ (λ (x y : List ℕ). bucketAt b' x y j) ew ec ∙ bucket-other b i h n (s .laid) (s .within) sw sc h h tw tc from-start ends from-start (omega (arith, ends, s .long)) j k ne;
-      }
+        others = λ j k ne. ap₂ (λ (x y : List ℕ). bucketAt (moved b i h n) x y j) ew ec ∙ bucket-other b i h n (s .laid) (s .within) sw sc h h tw tc from-start ends from-start (omega (arith, ends, s .long)) j k ne;
+      })
 
 -- the six buckets with ts in one of them
 pub stored-lists : {b : Buckets} {l : Level} {ts : List (Term ℕ)} {sw sc sw' sc' : List ℕ} {b' : Buckets} → l .bucket < 6 → Stored b l ts sw sc sw' sc' b'

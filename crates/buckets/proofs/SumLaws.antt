@@ -1,25 +1,21 @@
 -- The full sum, bucket by bucket: over lists, and then in the spaces. Assumes nothing.
 use mathlib.Core.Path.{_≡_, refl, sym, ap, ap₂, _∙_, subst}
-use mathlib.Core.List.{List, [], _∷_, _++_}
-use mathlib.Core.Logic.{_⊎_, inl, inr, ⊎-elim}
-use Prim.Native.Nat.{ℕ, zero, suc, _+_, _-_, _*_, _<_, _≤_, Ordering}
+use mathlib.Core.List.{List, [], _∷_}
+use mathlib.Core.Logic.{inl}
+use Prim.Native.Nat.{ℕ, suc, _+_, _-_, _*_, _<_, _≤_, Ordering}
 use native.Mathlib.Numerals.{add-one}
 use native.Mathlib.Omega.{arith}
-use lib.ListN.{length, length-append}
-use lib.Seq.{length-sets}
-use Rattle.residue.specs.Modular.{Modulus}
+use lib.ListN.{length, take, drop, length-append}
+use Rattle.limits.specs.Limits.{bucketPlaces, mostTerms}
 use Rattle.monomial.specs.TotalOrder.{TotalOrder}
-use Rattle.polynomial.specs.Terms.{Term, terms, words, coefs, Canonical}
+use Rattle.polynomial.specs.Terms.{Term, terms, Canonical}
 use Rattle.polynomial.specs.Merge.{merge, compared, mergeCount}
 use Rattle.polynomial.proofs.MergeLaws.{merge-size, merge-canonical, merge-nil, compared-nil, count-size}
-use Rattle.polynomial.proofs.TermLists.{length-terms}
-use Rattle.merge.specs.Lent.{Poly, part}
-use Rattle.merge.specs.Merging.{Made, Within}
-use Rattle.merge.proofs.Lists.{length-part}
-use Rattle.geobucket.specs.Buckets.{empty, held, Good, sumFrom, sumCompared, fullSum, emptied}
-use Rattle.space.specs.Space.{Buckets, headAt, lenAt, capacity, listFrom, rowAt, bucketAt, bucketsIn, Laid, Stands, noBuckets}
-use Rattle.space.proofs.SpaceLaws.{from-next, from-none, good-at, row-end, row-long, bucket-long, bucket-poly, bucket-none, held-cons, lists-none, stands-none}
-use Rattle.buckets.specs.declared.sum.Summed.{Summed}
+use Rattle.merge_common.specs.Lent.{part}
+use Rattle.merge_common.specs.Merging.{Made, Within}
+use Rattle.geobucket.specs.Buckets.{empty, held, sumFrom, sumCompared, fullSum, emptied}
+use Rattle.space.specs.Space.{Buckets, headAt, lenAt, listFrom, rowAt, bucketAt, bucketsIn, Stands, noBuckets}
+use Rattle.space.proofs.SpaceLaws.{from-next, from-none, good-at, row-of, row-end, row-long, bucket-long, bucket-poly, bucket-none, held-cons, lists-none, stands-none}
 use Rattle.buckets.specs.Summing.{Summation, SumDone}
 use Rattle.buckets.proofs.WorkLaws.{InHalf, in-work, terms-long, half-within, other-half, other-terms}
 
@@ -29,8 +25,8 @@ pub record Adding (cmp : ℕ → ℕ → Ordering) (p : ℕ) (S : List (Term ℕ
   pub sum-is : sumFrom cmp p f (listFrom g i (6 - i)) ≡ S
   pub count-is : n + length (sumCompared cmp p f (listFrom g i (6 - i))) ≡ N
   pub canonical : Canonical cmp p f
-  pub room : length f + held (listFrom g i (6 - i)) ≤ 4096
-  pub few : n ≤ 4096 * i
+  pub room : length f + held (listFrom g i (6 - i)) ≤ mostTerms
+  pub few : n ≤ mostTerms * i
 
 sum-cons : (cmp : ℕ → ℕ → Ordering) (p : ℕ) (f b : List (Term ℕ)) (bs : List (List (Term ℕ))) → (sumFrom cmp p f (b ∷ bs) ≡ sumFrom cmp p (merge cmp p f b) bs) × (length (sumCompared cmp p f (b ∷ bs)) ≡ mergeCount cmp f b + length (sumCompared cmp p (merge cmp p f b) bs))
 unfolding sumFrom sumCompared
@@ -45,10 +41,10 @@ module _ {cmp : ℕ → ℕ → Ordering} {p : ℕ} {S : List (Term ℕ)} {N : �
     ahead : listFrom g i (6 - i) ≡ g i ∷ listFrom g (suc i) (6 - suc i)
     ahead = ap (listFrom g i) (let e : 6 - i ≡ suc (6 - suc i) = omega arith in e) ∙ from-next g i (6 - suc i)
 
-    pub next-room : length f + length (g i) ≤ 4096
+    pub next-room : length f + length (g i) ≤ mostTerms
     next-room = omega (arith, s .room, ap held ahead, held-cons (g i) (listFrom g (suc i) (6 - suc i)))
 
-    pub next-few : n + mergeCount cmp f (g i) ≤ 4096 * suc i
+    pub next-few : n + mergeCount cmp f (g i) ≤ mostTerms * suc i
     next-few = omega (arith, s .few, count-size cmp p f (g i), next-room)
 
     pub adds-next : TotalOrder ℕ cmp → 0 < p → Canonical cmp p (g i) → Adding cmp p S N g (suc i) (merge cmp p f (g i)) (n + mergeCount cmp f (g i))
@@ -108,9 +104,6 @@ sums-start {cmp} {p} {b} {sw} {sc} s = record {
 
 module _ {cmp : ℕ → ℕ → Ordering} {p : ℕ} {sw sc : List ℕ} {b : Buckets} {ww wc : List ℕ} {from len n i : ℕ} (v : Sums cmp p sw sc b ww wc from len n i) where
   module _ (h : i < 6) where
-    pub sum-end : headAt b i + lenAt b i ≤ 5460
-    sum-end = row-end b (v .stands .laid) i h
-
     pub sum-none : lenAt b i ≡ 0 → Sums cmp p sw sc b ww wc from len n (i + 1)
     sum-none e = record {
       stands = v .stands;
@@ -121,32 +114,42 @@ module _ {cmp : ℕ → ℕ → Ordering} {p : ℕ} {sw sc : List ℕ} {b : Buck
     canonical : Canonical cmp p (bucketAt b sw sc i)
     canonical = good-at cmp p (bucketAt b sw sc) 6 0 4 (v .stands .good) i (omega arith) (omega arith)
 
-    module _ {bw bc : List ℕ} (ew : bw ≡ rowAt b sw i) (ec : bc ≡ rowAt b sc i) where
-      long : len + length bw ≤ 4096
+    module _ {at l : ℕ} (ea : at ≡ headAt b i) (el : l ≡ lenAt b i) where
+      pub sum-end : at + l ≤ bucketPlaces
+      sum-end = omega (arith, ea, el, row-end b (v .stands .laid) i h)
+
+      -- the part that is lent is the bucket's row
+      abbrev lent : List ℕ → List ℕ
+      lent s = take (at + l - at) (drop at s)
+
+      row : (s : List ℕ) → lent s ≡ rowAt b s i
+      row = row-of b i ea el
+
+      long : len + length (lent sw) ≤ mostTerms
       long =
           let s = v .stands in
-          omega (arith, next-room (v .state) h, terms-long (v .work), ap length ew, row-long b (s .laid) i h sw (s .words-long), bucket-long b (s .laid) i h sw sc (s .words-long) (s .coefs-long))
+          omega (arith, next-room (v .state) h, terms-long (v .work), ap length (row sw), row-long b (s .laid) i h sw (s .words-long), bucket-long b (s .laid) i h sw sc (s .words-long) (s .coefs-long))
 
-      pub within : Within p ww wc from len (4096 - from) bw bc
-      within = let s = v .stands in half-within (v .work) long (s .modulus) (v .state .canonical .reduced) (rw (ew, ec) (bucket-poly b (s .laid) i h p cmp sw sc (s .words-long) (s .coefs-long) canonical))
+      pub within : Within p ww wc from len (mostTerms - from) (lent sw) (lent sc)
+      within = let s = v .stands in half-within (v .work) long (s .modulus) (v .state .canonical .reduced) (rw (row sw, row sc) (bucket-poly b (s .laid) i h p cmp sw sc (s .words-long) (s .coefs-long) canonical))
 
-      module _ {ww' wc' : List ℕ} {len' cnt : ℕ} (d : Made cmp p (terms (part from len ww) (part from len wc)) (terms bw bc) (4096 - from) ww wc ww' wc' len' cnt) where
+      module _ {ww' wc' : List ℕ} {len' cnt : ℕ} (d : Made cmp p (terms (part from len ww) (part from len wc)) (terms (lent sw) (lent sc)) (mostTerms - from) ww wc ww' wc' len' cnt) where
         abbrev f : List (Term ℕ)
         f = terms (part from len ww) (part from len wc)
 
-        bucket-is : terms bw bc ≡ bucketAt b sw sc i
-        bucket-is = ap₂ terms ew ec
+        bucket-is : terms (lent sw) (lent sc) ≡ bucketAt b sw sc i
+        bucket-is = ap₂ terms (row sw) (row sc)
 
-        terms-room : len + length (terms bw bc) ≤ 4096
+        terms-room : len + length (terms (lent sw) (lent sc)) ≤ mostTerms
         terms-room = omega (arith, terms-long (v .work), ap length bucket-is, next-room (v .state) h)
 
         count-is : n + cnt ≡ n + mergeCount cmp f (bucketAt b sw sc i)
         count-is = ap (λ (x : ℕ). n + x) (d .count-is ∙ ap (mergeCount cmp f) bucket-is)
 
-        pub next-count : n + cnt ≤ 4096 * 6
+        pub next-count : n + cnt ≤ mostTerms * 6
         next-count = omega (arith, count-is, next-few (v .state) h)
 
-        pub sum-next : TotalOrder ℕ cmp → Sums cmp p sw sc b ww' wc' (4096 - from) len' (n + cnt) (i + 1)
+        pub sum-next : TotalOrder ℕ cmp → Sums cmp p sw sc b ww' wc' (mostTerms - from) len' (n + cnt) (i + 1)
         sum-next O = record {
           stands = v .stands;
           work = other-half (v .work) terms-room d;

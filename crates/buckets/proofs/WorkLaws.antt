@@ -6,31 +6,32 @@ use Prim.Native.Nat.{ℕ, _+_, _-_, _≤_, Ordering}
 use native.Mathlib.Omega.{arith}
 use lib.ListN.{length, length-map}
 use lib.Seq.{length-sets}
+use Rattle.limits.specs.Limits.{mostTerms, workPlaces}
 use Rattle.residue.specs.Modular.{Modulus}
 use Rattle.polynomial.specs.Terms.{Term, terms, words, coefs, Reduced}
 use Rattle.polynomial.specs.Merge.{merge}
 use Rattle.polynomial.proofs.MergeLaws.{merge-size}
 use Rattle.polynomial.proofs.TermLists.{length-terms, terms-of}
-use Rattle.merge.specs.Lent.{Poly, part}
-use Rattle.merge.specs.Merging.{Made, Within}
-use Rattle.merge.proofs.Lists.{length-part}
+use Rattle.merge_common.specs.Lent.{Poly, part}
+use Rattle.merge_common.specs.Merging.{Made, Within}
+use Rattle.merge_common.proofs.Lists.{length-part}
 use Rattle.space.proofs.SpaceLaws.{part-front}
 
 pub record InHalf (ww wc : List ℕ) (from len : ℕ) : Type 0 where
-  pub half : (from ≡ 0) ⊎ (from ≡ 4096)
-  pub work-words : length ww ≡ 8192
-  pub work-coefs : length wc ≡ 8192
-  pub short : len ≤ 4096
+  pub half : (from ≡ 0) ⊎ (from ≡ mostTerms)
+  pub work-words : length ww ≡ workPlaces
+  pub work-coefs : length wc ≡ workPlaces
+  pub short : len ≤ mostTerms
 
 -- its terms
 abbrev pub termsAt : (ww wc : List ℕ) (from len : ℕ) → List (Term ℕ)
 termsAt ww wc from len = terms (part from len ww) (part from len wc)
 
 module _ {ww wc : List ℕ} {from len : ℕ} (v : InHalf ww wc from len) where
-  pub in-work : from + len ≤ 8192
+  pub in-work : from + len ≤ workPlaces
   in-work = let k = v .short in ⊎-elim (λ e. omega arith) (λ e. omega arith) (v .half)
 
-  pub to-work : from ≤ 4096
+  pub to-work : from ≤ mostTerms
   to-work = ⊎-elim (λ e. omega arith) (λ e. omega arith) (v .half)
 
   words-part : length (part from len ww) ≡ len
@@ -45,8 +46,8 @@ module _ {ww wc : List ℕ} {from len : ℕ} (v : InHalf ww wc from len) where
   pub terms-long : length (termsAt ww wc from len) ≡ len
   terms-long = length-terms (part from len ww) (part from len wc) same-long ∙ words-part
 
-  module _ {bw bc : List ℕ} (room : len + length bw ≤ 4096) where
-    pub half-within : {p : ℕ} → Modulus p → Reduced p (termsAt ww wc from len) → Poly p bw bc → Within p ww wc from len (4096 - from) bw bc
+  module _ {bw bc : List ℕ} (room : len + length bw ≤ mostTerms) where
+    pub half-within : {p : ℕ} → Modulus p → Reduced p (termsAt ww wc from len) → Poly p bw bc → Within p ww wc from len (mostTerms - from) bw bc
     half-within m r b = record {
       modulus = m;
       a = record { long = same-long; reduced = r };
@@ -69,19 +70,19 @@ made-terms {cmp} {p} {f} {g} {to} {ow} {oc} {ow'} {oc'} {len} d hw hc =
     ap₂ terms w v ∙ terms-of M
 
 -- into the other half
-module _ {cmp : ℕ → ℕ → Ordering} {p : ℕ} {ww wc : List ℕ} {from len : ℕ} {g : List (Term ℕ)} {ww' wc' : List ℕ} {len' n : ℕ} (v : InHalf ww wc from len) (room : len + length g ≤ 4096) (d : Made cmp p (termsAt ww wc from len) g (4096 - from) ww wc ww' wc' len' n) where
-  size : length (merge cmp p (termsAt ww wc from len) g) ≤ 4096
+module _ {cmp : ℕ → ℕ → Ordering} {p : ℕ} {ww wc : List ℕ} {from len : ℕ} {g : List (Term ℕ)} {ww' wc' : List ℕ} {len' n : ℕ} (v : InHalf ww wc from len) (room : len + length g ≤ mostTerms) (d : Made cmp p (termsAt ww wc from len) g (mostTerms - from) ww wc ww' wc' len' n) where
+  size : length (merge cmp p (termsAt ww wc from len) g) ≤ mostTerms
   size = omega (arith, merge-size cmp p (termsAt ww wc from len) g, terms-long v, room)
 
-  pub other-half : InHalf ww' wc' (4096 - from) len'
+  pub other-half : InHalf ww' wc' (mostTerms - from) len'
   other-half =
       let M = merge cmp p (termsAt ww wc from len) g in
       record {
         half = ⊎-elim (λ e. inr (omega arith)) (λ e. inl (omega arith)) (v .half);
-        work-words = ap length (d .words-are) ∙ (length-sets ww (4096 - from) (words M ++ d .past-words) ∙ v .work-words);
-        work-coefs = ap length (d .coefs-are) ∙ (length-sets wc (4096 - from) (coefs M ++ d .past-coefs) ∙ v .work-coefs);
+        work-words = ap length (d .words-are) ∙ (length-sets ww (mostTerms - from) (words M ++ d .past-words) ∙ v .work-words);
+        work-coefs = ap length (d .coefs-are) ∙ (length-sets wc (mostTerms - from) (coefs M ++ d .past-coefs) ∙ v .work-coefs);
         short = omega (arith, d .len-is, size);
       }
 
-  pub other-terms : termsAt ww' wc' (4096 - from) len' ≡ merge cmp p (termsAt ww wc from len) g
+  pub other-terms : termsAt ww' wc' (mostTerms - from) len' ≡ merge cmp p (termsAt ww wc from len) g
   other-terms = made-terms d (omega (arith, size, v .work-words)) (omega (arith, size, v .work-coefs))

@@ -1,12 +1,16 @@
 // An addition to the buckets.
 use crate::level::Level;
 use crate::level::level_for;
-use merge::copy::put_coefs;
-use merge::copy::put_words;
+use limits::MOST_TERMS;
+use merge_by_order::merging::merge;
+use merge_by_order::within::merge_within;
+use merge_common::copy::put_coefs;
+use merge_common::copy::put_words;
 use merge_in::in_place::merge_into;
-use merges::merging::merge;
-use merges::within::merge_within;
 use monomial::order::Order;
+use space::state::head_of;
+use space::state::len_of;
+use space::state::place;
 ghost use mathlib.Core.Path.{_≡_};
 ghost use Rattle.monomial.specs.Words.{compareWords};
 ghost use Rattle.polynomial.specs.Terms.{terms};
@@ -34,9 +38,8 @@ pub fn add<'a>(
         return 0;
     }
     let l = level_for(fw.len());
-    let i = l.bucket;
-    let h = b[i];
-    let n = b[6 + i];
+    let h = head_of(b, l.bucket);
+    let n = len_of(b, l.bucket);
     if n == 0 {
         store(b, l, &fw[..], &fc[..], sw, sc);
         return 0;
@@ -72,19 +75,17 @@ fn carry(
     let mut len = terms;
     let mut n = comparisons;
     while l.cap < len {
-        let full = l.bucket;
+        place(b, l.bucket, l.start, 0);
         l = l.next();
-        let i = l.bucket;
-        let h = b[i];
-        let held = b[6 + i];
-        b[6 + full] = 0;
+        let h = head_of(b, l.bucket);
+        let held = len_of(b, l.bucket);
         if l.start + len <= h {
             let end = from + len;
             return n + merge_bucket(order, p, b, l, &ww[from..end], &wc[from..end], sw, sc);
         }
         if held != 0 {
             let e = h + held;
-            let to = 4096 - from;
+            let to = MOST_TERMS - from;
             let m = merge_within(order, p, ww, wc, from, len, to, &sw[h..e], &sc[h..e]);
             from = to;
             len = m.len;
@@ -110,12 +111,10 @@ fn merge_bucket(
     requires { ⌜ MergeIn p (now b) l (now fw) (now fc) (now sw) (now sc) ⌝ }
     ensures { λ r. ⌜ Stored (now (b .entry)) l (merge (compareWords order) p (terms (now (fw .entry)) (now (fc .entry))) (bucketAt (now (b .entry)) (now (sw .entry)) (now (sc .entry)) (l .bucket))) (now (sw .entry)) (now (sc .entry)) (now (sw .exit)) (now (sc .exit)) (now (b .exit)) × (r ≡ mergeCount (compareWords order) (terms (now (fw .entry)) (now (fc .entry))) (bucketAt (now (b .entry)) (now (sw .entry)) (now (sc .entry)) (l .bucket))) ⌝ }
 {
-    let i = l.bucket;
-    let h = b[i];
-    let e = h + b[6 + i];
+    let h = head_of(b, l.bucket);
+    let e = h + len_of(b, l.bucket);
     let m = merge_into(order, p, fw, fc, sw, sc, h, e);
-    b[i] = m.head;
-    b[6 + i] = m.len;
+    place(b, l.bucket, m.head, m.len);
     m.comparisons
 }
 
@@ -127,7 +126,5 @@ fn store(b: &mut [usize], l: Level, tw: &[u64], tc: &[u32], sw: &mut [u64], sc: 
     let at = l.start + (l.cap - tw.len());
     put_words(tw, sw, at);
     put_coefs(tc, sc, at);
-    let i = l.bucket;
-    b[i] = at;
-    b[6 + i] = tw.len();
+    place(b, l.bucket, at, tw.len());
 }

@@ -1,6 +1,7 @@
 // A bucket by its number, with its start and its capacity.
 ghost use mathlib.Core.Path.{_≡_};
 ghost use Prim.Native.Nat.{suc, _<_, _≤_};
+ghost use Rattle.limits.specs.Limits.{mostTerms};
 ghost use Rattle.buckets.specs.Levels.{levelAt, LevelFor};
 
 pub struct Level {
@@ -26,7 +27,7 @@ impl Level {
 
 // The lowest bucket whose capacity is at least n.
 pub fn level_for(n: usize) -> Level
-    requires { ⌜ n ≤ 4096 ⌝ }
+    requires { ⌜ n ≤ mostTerms ⌝ }
     ensures { λ r. ⌜ LevelFor n r ⌝ }
 {
     let mut l = Level {

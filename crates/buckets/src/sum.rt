@@ -1,7 +1,10 @@
 // The full sum of the buckets.
-use merges::within::merge_within;
+use limits::MOST_TERMS;
+use merge_by_order::within::merge_within;
 use monomial::order::Order;
 use space::state::clear;
+use space::state::head_of;
+use space::state::len_of;
 ghost use Rattle.monomial.specs.Words.{compareWords};
 ghost use Rattle.buckets.specs.Summing.{Summation, SumDone};
 
@@ -31,13 +34,13 @@ pub fn full_sum(
     let mut n: u64 = 0;
     let mut i = 0;
     while i < 6 {
-        let h = b[i];
-        let l = b[6 + i];
+        let h = head_of(b, i);
+        let l = len_of(b, i);
         if l == 0 {
             i += 1;
         } else {
             let e = h + l;
-            let to = 4096 - from;
+            let to = MOST_TERMS - from;
             let m = merge_within(order, p, ww, wc, from, len, to, &sw[h..e], &sc[h..e]);
             from = to;
             len = m.len;

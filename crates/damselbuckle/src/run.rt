@@ -1,26 +1,14 @@
 // Runs.
-use opening::refusal::number_of;
-use runs::Answer;
-use runs::Ran;
-use runs::Tally;
+use answers::course::RunAnswer;
+use answers::course::RunNumbers;
+use answers::course::of_run;
+use call::answer::Tally;
 use runs::run;
 ghost use mathlib.Core.Path.{_≡_};
+ghost use Rattle.polynomial.specs.Settings.{settingOf};
+ghost use Rattle.call.specs.Answers.{Outcome};
+ghost use Rattle.answers.specs.Course.{runStated};
 ghost use Rattle.runs.specs.Outcome.{runOutcome};
-ghost use Rattle.damselbuckle.specs.Runs.{answerNumbers, numbersOf, RunResult, resultOf};
-
-// Refusal 0 is none: then `finished` is the operations done, and `places` the output places written.
-// Where there is one, `finished` is the operations finished before it, and `places` 0.
-#[repr(C)]
-pub struct RunAnswer {
-    pub refusal: u64,
-    pub finished: u64,
-    pub places: u64,
-}
-
-pub struct RunNumbers {
-    pub answer: RunAnswer,
-    pub tally: Tally,
-}
 
 // The run `runs::run`, with the answer as numbers and the counts set in place. An opening refusal
 // changes nothing.
@@ -41,9 +29,9 @@ pub extern "C" fn damselbuckle_run<'t, 'a>(
     ow: &mut [u64],
     oc: &mut [u32],
 ) -> RunAnswer
-    ensures { λ r. ⌜ _≡_ {A = RunResult}
-        (record { answer = r; tally = now (tally .exit); bw = now (bw .exit); bc = now (bc .exit); ww = now (ww .exit); wc = now (wc .exit); ow = now (ow .exit); oc = now (oc .exit) })
-        (resultOf (runOutcome (now (tally .entry)) p order n (now (words .entry)) (now (coefs .entry)) (now (starts .entry)) (now (ops .entry)) (now (bw .entry)) (now (bc .entry)) (now (ww .entry)) (now (wc .entry)) (now (ow .entry)) (now (oc .entry)))) ⌝ }
+    ensures { λ r. ⌜ _≡_ {A = Outcome}
+        (record { answer = runStated r; tally = now (tally .exit); bw = now (bw .exit); bc = now (bc .exit); ww = now (ww .exit); wc = now (wc .exit); ow = now (ow .exit); oc = now (oc .exit) })
+        (runOutcome (now (tally .entry)) (settingOf p order n) (now (words .entry)) (now (coefs .entry)) (now (starts .entry)) (now (ops .entry)) (now (bw .entry)) (now (bc .entry)) (now (ww .entry)) (now (wc .entry)) (now (ow .entry)) (now (oc .entry))) ⌝ }
 {
     let ran = run_numbers(
         *tally,
@@ -82,9 +70,9 @@ pub fn run_numbers<'a>(
     ow: &mut [u64],
     oc: &mut [u32],
 ) -> RunNumbers
-    ensures { λ r. ⌜ _≡_ {A = RunResult}
-        (record { answer = r .answer; tally = r .tally; bw = now (bw .exit); bc = now (bc .exit); ww = now (ww .exit); wc = now (wc .exit); ow = now (ow .exit); oc = now (oc .exit) })
-        (resultOf (runOutcome tally p order n (now (words .entry)) (now (coefs .entry)) (now (starts .entry)) (now (ops .entry)) (now (bw .entry)) (now (bc .entry)) (now (ww .entry)) (now (wc .entry)) (now (ow .entry)) (now (oc .entry)))) ⌝ }
+    ensures { λ r. ⌜ _≡_ {A = Outcome}
+        (record { answer = runStated (r .answer); tally = r .tally; bw = now (bw .exit); bc = now (bc .exit); ww = now (ww .exit); wc = now (wc .exit); ow = now (ow .exit); oc = now (oc .exit) })
+        (runOutcome tally (settingOf p order n) (now (words .entry)) (now (coefs .entry)) (now (starts .entry)) (now (ops .entry)) (now (bw .entry)) (now (bc .entry)) (now (ww .entry)) (now (wc .entry)) (now (ow .entry)) (now (oc .entry))) ⌝ }
 {
     let ran = run(
         tally,
@@ -102,31 +90,5 @@ pub fn run_numbers<'a>(
         ow,
         oc,
     );
-    numbers(ran)
-}
-
-fn numbers(ran: Ran) -> RunNumbers
-    ensures { λ r. ⌜ r ≡ numbersOf ran ⌝ }
-{
-    let tally = ran.tally;
-    let given = ran.answer;
-    let answer = answered(given);
-    RunNumbers { answer, tally }
-}
-
-fn answered(answer: Answer) -> RunAnswer
-    ensures { λ r. ⌜ r ≡ answerNumbers answer ⌝ }
-{
-    match answer {
-        Answer::Done { operations, places } => RunAnswer {
-            refusal: 0,
-            finished: operations,
-            places,
-        },
-        Answer::Refused { refusal, finished } => RunAnswer {
-            refusal: number_of(refusal) as u64,
-            finished,
-            places: 0,
-        },
-    }
+    of_run(ran)
 }

@@ -10,64 +10,63 @@ use Rattle.polynomial.specs.Terms.{Term, All, Under, Falling}
 use Rattle.polynomial.specs.Merge.{merge}
 use Rattle.polynomial.proofs.MergeLaws.{merge-all, merge-under, under-more}
 use Rattle.polynomial.proofs.CoefLaws.{canonical-tail}
-use Rattle.division.specs.Division.{Fit, unfit, fits, firstFit, tailMultiple, StepBy, SumOf, Division}
+use Rattle.division.specs.Choice.{Fit, unfit, fits, Choice}
+use Rattle.division.specs.Division.{tailMultiple, StepBy, SumOf, Division}
 use Rattle.division.specs.Steps.{anyTooLarge}
 use Rattle.division.specs.Operations.{Operations}
-use Rattle.division.specs.Divisors.{Valid, AllOf, Among, Undivided}
+use Rattle.division.specs.Divisors.{Valid, AllOf, Undivided}
 use Rattle.division.specs.Combination.{Combination, AfterBy, LeadsOf}
 use Rattle.division.proofs.DivisionLaws.{sum-merge}
 use Rattle.division.proofs.TailLaws.{Added, DividedStep, tail-added}
-use Rattle.division.proofs.FitLaws.{fits-says, unfit-says, all-among}
+use Rattle.division.proofs.FitLaws.{choice-sound}
 use Rattle.division.proofs.Combining.{combination-none, combination-kept, combination-divided}
 
-module _ {A : Type 0} (cmp : A → A → Ordering) (divides : A → A → Bool) (quotient _·_ : A → A → A) (p : ℕ) (gs : List (List (Term A))) where
+module _ {A : Type 0} (cmp : A → A → Ordering) (choose : A → Fit A) (quotient _·_ : A → A → A) (p : ℕ) where
   abbrev Div : ℕ → (f r : List (Term A)) → Type 0
-  Div n f r = Division cmp divides quotient _·_ p gs n f r
+  Div n f r = Division cmp choose quotient _·_ p n f r
 
   abbrev Run : ℕ → (f ls : List (Term A)) → Type 0
-  Run n f ls = LeadsOf cmp divides quotient _·_ p gs n f ls
+  Run n f ls = LeadsOf cmp choose quotient _·_ p n f ls
 
   -- ---- the rules of the two relations
-  pub division-none : Division cmp divides quotient _·_ p gs 0 [] []
+  pub division-none : Division cmp choose quotient _·_ p 0 [] []
   unfolding Division
   division-none = (refl, refl)
 
-  pub division-kept : (n : ℕ) (t : Term A) (ts s : List (Term A)) → firstFit divides (t .mono) gs ≡ unfit → Division cmp divides quotient _·_ p gs n ts s → Division cmp divides quotient _·_ p gs (suc n) (t ∷ ts) (t ∷ s)
+  pub division-kept : (n : ℕ) (t : Term A) (ts s : List (Term A)) → choose (t .mono) ≡ unfit → Division cmp choose quotient _·_ p n ts s → Division cmp choose quotient _·_ p (suc n) (t ∷ ts) (t ∷ s)
   unfolding Division
-  division-kept n t ts s e d = subst (λ (x : Fit A). StepBy cmp divides quotient _·_ p gs (λ f u. Div n f u) x t ts (t ∷ s)) (sym e) (s, refl, d)
+  division-kept n t ts s e d = subst (λ (x : Fit A). StepBy cmp quotient _·_ p (λ f u. Div n f u) x t ts (t ∷ s)) (sym e) (s, refl, d)
 
-  pub division-divided : (n : ℕ) (t : Term A) (ts r : List (Term A)) (g : Term A) (tail h : List (Term A)) → firstFit divides (t .mono) gs ≡ fits g tail → SumOf cmp divides quotient _·_ p gs ts (tailMultiple quotient _·_ p t g tail) h → Division cmp divides quotient _·_ p gs n h r → Division cmp divides quotient _·_ p gs (suc n) (t ∷ ts) r
+  pub division-divided : (n : ℕ) (t : Term A) (ts r : List (Term A)) (j : ℕ) (g : Term A) (tail h : List (Term A)) → choose (t .mono) ≡ fits j g tail → SumOf cmp p ts (tailMultiple quotient _·_ p t g tail) h → Division cmp choose quotient _·_ p n h r → Division cmp choose quotient _·_ p (suc n) (t ∷ ts) r
   unfolding Division
-  division-divided n t ts r g tail h e a d = subst (λ (x : Fit A). StepBy cmp divides quotient _·_ p gs (λ f u. Div n f u) x t ts r) (sym e) (h, a, d)
+  division-divided n t ts r j g tail h e a d = subst (λ (x : Fit A). StepBy cmp quotient _·_ p (λ f u. Div n f u) x t ts r) (sym e) (h, a, d)
 
-  pub leads-none : (f : List (Term A)) → LeadsOf cmp divides quotient _·_ p gs 0 f []
+  pub leads-none : (f : List (Term A)) → LeadsOf cmp choose quotient _·_ p 0 f []
   unfolding LeadsOf
   leads-none f = refl
 
-  pub leads-kept : (n : ℕ) (t : Term A) (ts ks : List (Term A)) → firstFit divides (t .mono) gs ≡ unfit → LeadsOf cmp divides quotient _·_ p gs n ts ks → LeadsOf cmp divides quotient _·_ p gs (suc n) (t ∷ ts) (t ∷ ks)
+  pub leads-kept : (n : ℕ) (t : Term A) (ts ks : List (Term A)) → choose (t .mono) ≡ unfit → LeadsOf cmp choose quotient _·_ p n ts ks → LeadsOf cmp choose quotient _·_ p (suc n) (t ∷ ts) (t ∷ ks)
   unfolding LeadsOf
-  leads-kept n t ts ks e d = (ks, refl, subst (λ (x : Fit A). AfterBy cmp divides quotient _·_ p gs (λ f. Run n f ks) x t ts) (sym e) d)
+  leads-kept n t ts ks e d = (ks, refl, subst (λ (x : Fit A). AfterBy cmp quotient _·_ p (λ f. Run n f ks) x t ts) (sym e) d)
 
-  pub leads-divided : (n : ℕ) (t : Term A) (ts ks : List (Term A)) (g : Term A) (tail h : List (Term A)) → firstFit divides (t .mono) gs ≡ fits g tail → SumOf cmp divides quotient _·_ p gs ts (tailMultiple quotient _·_ p t g tail) h → LeadsOf cmp divides quotient _·_ p gs n h ks → LeadsOf cmp divides quotient _·_ p gs (suc n) (t ∷ ts) (t ∷ ks)
+  pub leads-divided : (n : ℕ) (t : Term A) (ts ks : List (Term A)) (j : ℕ) (g : Term A) (tail h : List (Term A)) → choose (t .mono) ≡ fits j g tail → SumOf cmp p ts (tailMultiple quotient _·_ p t g tail) h → LeadsOf cmp choose quotient _·_ p n h ks → LeadsOf cmp choose quotient _·_ p (suc n) (t ∷ ts) (t ∷ ks)
   unfolding LeadsOf
-  leads-divided n t ts ks g tail h e a d = (ks, refl, subst (λ (x : Fit A). AfterBy cmp divides quotient _·_ p gs (λ f. Run n f ks) x t ts) (sym e) (h, a, d))
+  leads-divided n t ts ks j g tail h e a d = (ks, refl, subst (λ (x : Fit A). AfterBy cmp quotient _·_ p (λ f. Run n f ks) x t ts) (sym e) (h, a, d))
 
+module _ {A : Type 0} (cmp : A → A → Ordering) (choose : A → Fit A) (quotient _·_ : A → A → A) (p : ℕ) (divides : A → A → Bool) (gs : List (List (Term A))) (choice : Choice divides gs choose) where
   -- ---- no term of a remainder is divisible by a divisor's lead
   abbrev pub Irreducible : List (Term A) → Type 0
   Irreducible r = All (λ u. Undivided divides gs (u .mono)) r
 
-  pub unfit-undivided : (α : A) → firstFit divides α gs ≡ unfit → Undivided divides gs α
-  unfit-undivided α e = unfit-says divides (λ g. Among g gs) α gs (all-among gs) e
-
-  pub division-irreducible : (n : ℕ) (f r : List (Term A)) → Division cmp divides quotient _·_ p gs n f r → All (λ u. Undivided divides gs (u .mono)) r
+  pub division-irreducible : (n : ℕ) (f r : List (Term A)) → Division cmp choose quotient _·_ p n f r → All (λ u. Undivided divides gs (u .mono)) r
   unfolding Division
   division-irreducible zero f r d = subst Irreducible (sym (d .1)) tt
   division-irreducible (suc n) [] r d = absurd d
-  division-irreducible (suc n) (t ∷ ts) r d = by (firstFit divides (t .mono) gs) refl d (λ f s e. division-irreducible n f s e)
+  division-irreducible (suc n) (t ∷ ts) r d = by (choose (t .mono)) refl d (λ f s e. division-irreducible n f s e)
     where
-      by : (x : Fit A) → firstFit divides (t .mono) gs ≡ x → StepBy cmp divides quotient _·_ p gs (λ f u. Div n f u) x t ts r → ((f s : List (Term A)) → Div n f s → Irreducible s) → Irreducible r
-      by unfit e (s, a, b) rest = subst Irreducible (sym a) (unfit-undivided (t .mono) e, rest ts s b)
-      by (fits g tail) e (h, a, b) rest = rest h r b
+      by : (x : Fit A) → choose (t .mono) ≡ x → StepBy cmp quotient _·_ p (λ f u. Division cmp choose quotient _·_ p n f u) x t ts r → ((f s : List (Term A)) → Division cmp choose quotient _·_ p n f s → Irreducible s) → Irreducible r
+      by unfit e (s, a, b) rest = subst Irreducible (sym a) (choice .none (t .mono) e, rest ts s b)
+      by (fits j g tail) e (h, a, b) rest = rest h r b
 
   -- ---- a division under operations that always fit
   module _ (O : TotalOrder A cmp) (Is : A → Type 0) (ops : Operations A cmp divides quotient _·_ (λ a b. false) Is) (prime : Prime p) (divisors : AllOf (Valid cmp p Is) gs) where
@@ -82,17 +81,17 @@ module _ {A : Type 0} (cmp : A → A → Ordering) (divides : A → A → Bool) 
     valid-tail : (t : Term A) (ts : List (Term A)) → Valid cmp p Is (t ∷ ts) → Valid cmp p Is ts
     valid-tail t ts v = record { canonical = canonical-tail cmp O p t ts (v .canonical); are = v .are .1 }
 
-    module _ (t : Term A) (ts : List (Term A)) (v : Valid cmp p Is (t ∷ ts)) (g : Term A) (tail h : List (Term A)) (e : firstFit divides (t .mono) gs ≡ fits g tail) (s : SumOf cmp divides quotient _·_ p gs ts (tailMultiple quotient _·_ p t g tail) h) where
-      step-of : DividedStep cmp divides quotient _·_ (λ a b. false) Is p gs t ts g tail h
-      step-of = record { is = v .are .0; not-zero = v .canonical .reduced .0 .0; small = v .canonical .reduced .0 .1; rest = valid-tail t ts v; fit = e; none-large = none-large (quotient (t .mono) (g .mono)) tail; sum = s }
+    module _ (t : Term A) (ts : List (Term A)) (v : Valid cmp p Is (t ∷ ts)) (j : ℕ) (g : Term A) (tail h : List (Term A)) (e : choose (t .mono) ≡ fits j g tail) (s : SumOf cmp p ts (tailMultiple quotient _·_ p t g tail) h) where
+      step-of : DividedStep cmp choose quotient _·_ (λ a b. false) Is p t ts g tail h
+      step-of = record { is = v .are .0; not-zero = v .canonical .reduced .0 .0; small = v .canonical .reduced .0 .1; rest = valid-tail t ts v; number = j; fit = e; none-large = none-large (quotient (t .mono) (g .mono)) tail; sum = s }
 
       adds : Added cmp p Is t (tailMultiple quotient _·_ p t g tail)
       adds =
-          let d = fits-says divides (Valid cmp p Is) (t .mono) gs g tail divisors e in
+          let d = choice-sound cmp p Is divides gs divisors choose choice (t .mono) j g tail e in
           tail-added cmp divides quotient _·_ (λ a b. false) Is ops p prime t g tail (v .are .0) (v .canonical .reduced .0 .0) (v .canonical .reduced .0 .1) (d .0) (d .1) (none-large (quotient (t .mono) (g .mono)) tail)
 
       merged : h ≡ merge cmp p ts (tailMultiple quotient _·_ p t g tail)
-      merged = sum-merge cmp O divides quotient _·_ p pos gs ts (tailMultiple quotient _·_ p t g tail) h (valid-tail t ts v .canonical) (adds .canonical) s
+      merged = sum-merge cmp O p pos ts (tailMultiple quotient _·_ p t g tail) h (valid-tail t ts v .canonical) (adds .canonical) s
 
       next-valid : Valid cmp p Is h
       next-valid = record { canonical = s .canonical; are = subst (All (λ u. Is (u .mono))) (sym merged) (merge-all cmp p (λ u. Is (u .mono)) (λ x y k a b i. a) ts (tailMultiple quotient _·_ p t g tail) (v .are .1) (adds .are)) }
@@ -102,31 +101,31 @@ module _ {A : Type 0} (cmp : A → A → Ordering) (divides : A → A → Bool) 
       next-under = subst (Under cmp (t .mono)) (sym merged) (merge-under cmp p (t .mono) ts (tailMultiple quotient _·_ p t g tail) (v .canonical .falling .0) (adds .under))
 
     -- the polynomial is the remainder and a sum of multiples of divisors
-    pub division-combines : (n : ℕ) (f r : List (Term A)) → Valid cmp p Is f → Division cmp divides quotient _·_ p gs n f r → Combination cmp _·_ p gs f r
+    pub division-combines : (n : ℕ) (f r : List (Term A)) → Valid cmp p Is f → Division cmp choose quotient _·_ p n f r → Combination cmp _·_ p gs f r
     unfolding Division
     division-combines zero f r v d = subst (Combination cmp _·_ p gs f) (d .0 ∙ sym (d .1)) (combination-none cmp _·_ p gs f)
     division-combines (suc n) [] r v d = absurd d
-    division-combines (suc n) (t ∷ ts) r v d = by (firstFit divides (t .mono) gs) refl d (λ f s w e. division-combines n f s w e)
+    division-combines (suc n) (t ∷ ts) r v d = by (choose (t .mono)) refl d (λ f s w e. division-combines n f s w e)
       where
-        by : (x : Fit A) → firstFit divides (t .mono) gs ≡ x → StepBy cmp divides quotient _·_ p gs (λ f u. Div n f u) x t ts r → ((f s : List (Term A)) → Valid cmp p Is f → Div n f s → Combination cmp _·_ p gs f s) → Combination cmp _·_ p gs (t ∷ ts) r
+        by : (x : Fit A) → choose (t .mono) ≡ x → StepBy cmp quotient _·_ p (λ f u. Division cmp choose quotient _·_ p n f u) x t ts r → ((f s : List (Term A)) → Valid cmp p Is f → Division cmp choose quotient _·_ p n f s → Combination cmp _·_ p gs f s) → Combination cmp _·_ p gs (t ∷ ts) r
         by unfit e (s, a, b) rest = subst (Combination cmp _·_ p gs (t ∷ ts)) (sym a) (combination-kept cmp _·_ p gs t ts s (rest ts s (valid-tail t ts v) b))
-        by (fits g tail) e (h, a, b) rest = combination-divided cmp _·_ p gs divides quotient (λ x y. false) Is ops prime divisors t ts g tail h (step-of t ts v g tail h e a) r (rest h r (next-valid t ts v g tail h e a) b)
+        by (fits j g tail) e (h, a, b) rest = combination-divided cmp _·_ p gs divides quotient (λ x y. false) Is ops prime divisors choose choice t ts g tail h (step-of t ts v j g tail h e a) r (rest h r (next-valid t ts v j g tail h e a) b)
 
     -- all leads that a division removes are below what the polynomial is below, and fall strictly
-    leads-below : (n : ℕ) (f ls : List (Term A)) → Valid cmp p Is f → LeadsOf cmp divides quotient _·_ p gs n f ls → Falling cmp ls × ((m : A) → Under cmp m f → Under cmp m ls)
+    leads-below : (n : ℕ) (f ls : List (Term A)) → Valid cmp p Is f → LeadsOf cmp choose quotient _·_ p n f ls → Falling cmp ls × ((m : A) → Under cmp m f → Under cmp m ls)
     unfolding LeadsOf
     leads-below zero f ls v d = (subst (Falling cmp) (sym d) tt, λ m u. subst (Under cmp m) (sym d) tt)
     leads-below (suc n) [] ls v d = absurd d
-    leads-below (suc n) (t ∷ ts) ls v (ks, a, d) = by (firstFit divides (t .mono) gs) refl d (λ f w e. leads-below n f ks w e)
+    leads-below (suc n) (t ∷ ts) ls v (ks, a, d) = by (choose (t .mono)) refl d (λ f w e. leads-below n f ks w e)
       where
         goes : (f : List (Term A)) → Under cmp (t .mono) f → Falling cmp ks × ((m : A) → Under cmp m f → Under cmp m ks) → Falling cmp ls × ((m : A) → Under cmp m (t ∷ ts) → Under cmp m ls)
         goes f u r =
             let b = r .1 (t .mono) u in
             (subst (Falling cmp) (sym a) (b, r .0), λ m w. subst (Under cmp m) (sym a) (w .0, under-more cmp O m (t .mono) (w .0) ks b))
 
-        by : (x : Fit A) → firstFit divides (t .mono) gs ≡ x → AfterBy cmp divides quotient _·_ p gs (λ f. Run n f ks) x t ts → ((f : List (Term A)) → Valid cmp p Is f → Run n f ks → Falling cmp ks × ((m : A) → Under cmp m f → Under cmp m ks)) → Falling cmp ls × ((m : A) → Under cmp m (t ∷ ts) → Under cmp m ls)
+        by : (x : Fit A) → choose (t .mono) ≡ x → AfterBy cmp quotient _·_ p (λ f. LeadsOf cmp choose quotient _·_ p n f ks) x t ts → ((f : List (Term A)) → Valid cmp p Is f → LeadsOf cmp choose quotient _·_ p n f ks → Falling cmp ks × ((m : A) → Under cmp m f → Under cmp m ks)) → Falling cmp ls × ((m : A) → Under cmp m (t ∷ ts) → Under cmp m ls)
         by unfit e b rest = goes ts (v .canonical .falling .0) (rest ts (valid-tail t ts v) b)
-        by (fits g tail) e (h, i, b) rest = goes h (next-under t ts v g tail h e i) (rest h (next-valid t ts v g tail h e i) b)
+        by (fits j g tail) e (h, i, b) rest = goes h (next-under t ts v j g tail h e i) (rest h (next-valid t ts v j g tail h e i) b)
 
-    pub leads-fall : (n : ℕ) (f ls : List (Term A)) → Valid cmp p Is f → LeadsOf cmp divides quotient _·_ p gs n f ls → Falling cmp ls
+    pub leads-fall : (n : ℕ) (f ls : List (Term A)) → Valid cmp p Is f → LeadsOf cmp choose quotient _·_ p n f ls → Falling cmp ls
     leads-fall n f ls v d = leads-below n f ls v d .0

@@ -14,11 +14,12 @@ use Rattle.polynomial.specs.Terms.{Term, term, here, total, coefAt}
 use Rattle.polynomial.specs.Multiple.{multiple}
 use Rattle.polynomial.proofs.CoefLaws.{total-nil, total-cons}
 use Rattle.geobucket.proofs.EventLaws.{total-append}
+use Rattle.division.specs.Choice.{Fit, Choice}
 use Rattle.division.specs.Operations.{Operations}
-use Rattle.division.specs.Divisors.{Valid, AllOf, Among}
+use Rattle.division.specs.Divisors.{Valid, AllOf}
 use Rattle.division.specs.Combination.{AllByDivisors, combined, Combination}
 use Rattle.division.proofs.TailLaws.{DividedStep}
-use Rattle.division.proofs.FitLaws.{fits-says, all-among}
+use Rattle.division.proofs.FitLaws.{numbered-among, choice-sound}
 
 -- ---- two multiples whose factors make 0
 module _ (p : ℕ) where
@@ -86,8 +87,8 @@ module _ {A : Type 0} (cmp : A → A → Ordering) (_·_ : A → A → A) (p : �
         ap (λ (n : ℕ). n % p) (total-cons cmp m t f) ∙ (add-both p s s (total cmp m f) (total cmp m (r ++ ms)) refl (c .same m) ∙ ap (λ (n : ℕ). n % p) (sym (total-cons cmp m t (r ++ ms))));
   }
 
-  module _ (divides : A → A → Bool) (quotient : A → A → A) (tooLarge : A → A → Bool) (Is : A → Type 0) (ops : Operations A cmp divides quotient _·_ tooLarge Is) (prime : Prime p) (divisors : AllOf (Valid cmp p Is) gs) where
-    module _ (t : Term A) (ts : List (Term A)) (g : Term A) (tail h : List (Term A)) (s : DividedStep cmp divides quotient _·_ tooLarge Is p gs t ts g tail h) where
+  module _ (divides : A → A → Bool) (quotient : A → A → A) (tooLarge : A → A → Bool) (Is : A → Type 0) (ops : Operations A cmp divides quotient _·_ tooLarge Is) (prime : Prime p) (divisors : AllOf (Valid cmp p Is) gs) (choose : A → Fit A) (choice : Choice divides gs choose) where
+    module _ (t : Term A) (ts : List (Term A)) (g : Term A) (tail h : List (Term A)) (s : DividedStep cmp choose quotient _·_ tooLarge Is p t ts g tail h) where
       q : A
       q = quotient (t .mono) (g .mono)
 
@@ -98,7 +99,7 @@ module _ {A : Type 0} (cmp : A → A → Ordering) (_·_ : A → A → A) (p : �
       d = product p (t .coef) (inverseOf p (g .coef))
 
       said : Valid cmp p Is (g ∷ tail) × (divides (g .mono) (t .mono) ≡ true)
-      said = fits-says divides (Valid cmp p Is) (t .mono) gs g tail divisors (s .fit)
+      said = choice-sound cmp p Is divides gs divisors choose choice (t .mono) (s .number) g tail (s .fit)
 
       -- the multiple of the whole divisor begins with the lead
       lead-share : (m : A) → here (cmp (_·_ q (g .mono)) m) (d * g .coef % p) ≡ here (cmp (t .mono) m) (t .coef)
@@ -118,7 +119,7 @@ module _ {A : Type 0} (cmp : A → A → Ordering) (_·_ : A → A → A) (p : �
       unfolding AllByDivisors combined
       combination-divided r k = record {
         multipliers = record { by = term q d; of = g ∷ tail } ∷ k .multipliers;
-        by-divisors = (fits-says divides (λ f. Among f gs) (t .mono) gs g tail (all-among gs) (s .fit) .0, k .by-divisors);
+        by-divisors = (numbered-among (s .number) (g ∷ tail) 1 gs (choice .taken (t .mono) (s .number) g tail (s .fit) .0), k .by-divisors);
         same = λ m.
             let M = multiple _·_ p d q (g ∷ tail) in
             let ms = combined _·_ p (k .multipliers) in

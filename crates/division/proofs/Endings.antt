@@ -7,6 +7,7 @@ use native.Mathlib.Decide.{decLe}
 use native.Mathlib.Omega.{arith}
 use borrow.Author.Tests.{le-leb, lt-leb}
 use lib.ListN.{length}
+use Rattle.limits.specs.Limits.{mostTerms}
 use Rattle.residue.specs.Prime.{Prime}
 use Rattle.monomial.specs.TotalOrder.{TotalOrder}
 use Rattle.polynomial.specs.Terms.{Term, term}
@@ -16,66 +17,67 @@ use Rattle.geobucket.specs.TrueSum.{sumAt, IsZero, IsLead}
 use Rattle.geobucket.proofs.SearchLaws.{Canon}
 use Rattle.geobucket.proofs.EventLaws.{good-canon}
 use Rattle.geobucket.proofs.LeadLaws.{Right, lead-right}
-use Rattle.division.specs.Division.{Fit, unfit, fits, firstFit}
+use Rattle.division.specs.Choice.{Fit, unfit, fits}
 use Rattle.division.specs.Steps.{Reduction, anyTooLarge, stepsFrom, reduction}
 use Rattle.division.specs.Operations.{Operations}
-use Rattle.division.specs.Divisors.{Valid, AllOf}
+use Rattle.division.specs.Divisors.{Valid}
 use Rattle.division.specs.Ending.{Stopping, finished, at-limit, over, too-many, no-place, Ending, first-too-many, by-steps}
+use Rattle.division.proofs.FitLaws.{Sound}
 use Rattle.division.proofs.StateLaws.{State, start-state}
 use Rattle.division.proofs.StepsAlong.{steps-along}
 use Rattle.division.proofs.WholeLaws.{left-sum, left-none, left-lead, left-held}
 
 -- ---- a reduction begins with polynomial 0, or refuses it
-module _ {A : Type 0} (cmp : A → A → Ordering) (divides : A → A → Bool) (quotient _·_ : A → A → A) (tooLarge : A → A → Bool) (p : ℕ) (gs : List (List (Term A))) (places limit : ℕ) (f : List (Term A)) where
+module _ {A : Type 0} (cmp : A → A → Ordering) (choose : A → Fit A) (quotient _·_ : A → A → A) (tooLarge : A → A → Bool) (p places limit : ℕ) (f : List (Term A)) where
   abbrev pub refused : Reduction A
   refused = record { stop = 11; leads = 0; remainder = []; work = start }
 
-  pub begins : length f ≤ 4096 → reduction cmp divides quotient _·_ tooLarge p gs places limit f ≡ stepsFrom cmp divides quotient _·_ tooLarge p gs places limit 0 [] (added cmp p f start)
+  pub begins : length f ≤ mostTerms → reduction cmp choose quotient _·_ tooLarge p places limit f ≡ stepsFrom cmp choose quotient _·_ tooLarge p places limit 0 [] (added cmp p f start)
   unfolding reduction
-  begins h = rw (le-leb (length f) 4096 h, reduction)
+  begins h = rw (le-leb (length f) mostTerms h, reduction)
 
-  pub begins-not : 4096 < length f → reduction cmp divides quotient _·_ tooLarge p gs places limit f ≡ record { stop = 11; leads = 0; remainder = []; work = start }
+  pub begins-not : mostTerms < length f → reduction cmp choose quotient _·_ tooLarge p places limit f ≡ record { stop = 11; leads = 0; remainder = []; work = start }
   unfolding reduction
-  begins-not h = rw (lt-leb (length f) 4096 h, reduction)
+  begins-not h = rw (lt-leb (length f) mostTerms h, reduction)
 
-  pub by-first : (P : Reduction A → Type 0) → (4096 < length f → P (record { stop = 11; leads = 0; remainder = []; work = start })) → (length f ≤ 4096 → P (stepsFrom cmp divides quotient _·_ tooLarge p gs places limit 0 [] (added cmp p f start))) → P (reduction cmp divides quotient _·_ tooLarge p gs places limit f)
-  by-first P many few = go (decLe (length f) 4096)
+  pub by-first : (P : Reduction A → Type 0) → (mostTerms < length f → P (record { stop = 11; leads = 0; remainder = []; work = start })) → (length f ≤ mostTerms → P (stepsFrom cmp choose quotient _·_ tooLarge p places limit 0 [] (added cmp p f start))) → P (reduction cmp choose quotient _·_ tooLarge p places limit f)
+  by-first P many few = go (decLe (length f) mostTerms)
     where
-      go : Dec (length f ≤ 4096) → P (reduction cmp divides quotient _·_ tooLarge p gs places limit f)
+      go : Dec (length f ≤ mostTerms) → P (reduction cmp choose quotient _·_ tooLarge p places limit f)
       go (yes h) = subst P (sym (begins h)) (few h)
-      go (no h) = let k : 4096 < length f = omega arith in subst P (sym (begins-not k)) (many k)
+      go (no h) = let k : mostTerms < length f = omega arith in subst P (sym (begins-not k)) (many k)
 
-module _ {A : Type 0} (cmp : A → A → Ordering) (O : TotalOrder A cmp) (divides : A → A → Bool) (quotient _·_ : A → A → A) (tooLarge : A → A → Bool) (Is : A → Type 0) (ops : Operations A cmp divides quotient _·_ tooLarge Is) (p : ℕ) (prime : Prime p) (gs : List (List (Term A))) (divisors : AllOf (Valid cmp p Is) gs) (places limit : ℕ) where
+module _ {A : Type 0} (cmp : A → A → Ordering) (O : TotalOrder A cmp) (divides : A → A → Bool) (quotient _·_ : A → A → A) (tooLarge : A → A → Bool) (Is : A → Type 0) (ops : Operations A cmp divides quotient _·_ tooLarge Is) (p : ℕ) (prime : Prime p) (choose : A → Fit A) (sound : Sound cmp p Is divides choose) (places limit : ℕ) where
   pos : 0 < p
   pos = omega (arith, prime .above)
 
-  canon-of : {leads : ℕ} {r : List (Term A)} {w : Work A} → State cmp p Is divides gs places leads r w → Canon cmp p (w .buckets)
+  canon-of : {leads : ℕ} {r : List (Term A)} {w : Work A} → State cmp p Is choose places leads r w → Canon cmp p (w .buckets)
   canon-of {w = w} s = good-canon cmp p 4 (w .buckets) (s .holds .good)
 
   abbrev Stops : Reduction A → Type 0
-  Stops x = Stopping cmp divides quotient tooLarge p gs places limit (x .stop) x
+  Stops x = Stopping cmp choose quotient tooLarge p places limit (x .stop) x
 
   -- the steps end as the definition says
-  pub steps-stop : (more leads : ℕ) (r : List (Term A)) (w : Work A) → State cmp p Is divides gs places leads r w → leads + more ≡ limit
-      → Stopping cmp divides quotient tooLarge p gs places limit (stepsFrom cmp divides quotient _·_ tooLarge p gs places more leads r w .stop) (stepsFrom cmp divides quotient _·_ tooLarge p gs places more leads r w)
+  pub steps-stop : (more leads : ℕ) (r : List (Term A)) (w : Work A) → State cmp p Is choose places leads r w → leads + more ≡ limit
+      → Stopping cmp choose quotient tooLarge p places limit (stepsFrom cmp choose quotient _·_ tooLarge p places more leads r w .stop) (stepsFrom cmp choose quotient _·_ tooLarge p places more leads r w)
   steps-stop =
-      steps-along cmp O divides quotient _·_ tooLarge Is ops p prime gs divisors places (λ more leads r w x. leads + more ≡ limit → Stops x)
+      steps-along cmp O divides quotient _·_ tooLarge Is ops p prime choose sound places (λ more leads r w x. leads + more ≡ limit → Stops x)
       (λ more leads r w s e l.
       let z : IsZero cmp p (w .buckets) = subst (Right cmp p (w .buckets)) e (lead-right cmp p O pos (w .buckets) (canon-of s)) in
       finished refl (omega arith) (record { zero-at = λ m. left-sum cmp p O pos (w .buckets) (canon-of s) m ∙ z .zero-at m }) (left-none cmp p O pos (w .buckets) (canon-of s) e))
       (λ leads r w at t s e l. at-limit t refl (omega arith) (left-lead cmp p O pos (w .buckets) (canon-of s) at t e))
       (λ more leads r w at t s e u h l. no-place t refl (omega arith) (left-lead cmp p O pos (w .buckets) (canon-of s) at t e) u (omega arith))
       (λ more leads r w at t x s e u k l. k (omega arith))
-      (λ more leads r w at t g tail s e u b l. over t g tail refl (omega arith) (left-lead cmp p O pos (w .buckets) (canon-of s) at t e) u b)
-      (λ more leads r w at t g tail s e u b h l. too-many t g tail refl (omega arith) (left-lead cmp p O pos (w .buckets) (canon-of s) at t e) u b (omega (arith, left-held cmp p O pos (w .buckets) (canon-of s) at t e)))
-      (λ more leads r w at t g tail x s e u b h k l. k (omega arith))
+      (λ more leads r w at t j g tail s e u b l. over t j g tail refl (omega arith) (left-lead cmp p O pos (w .buckets) (canon-of s) at t e) u b)
+      (λ more leads r w at t j g tail s e u b h l. too-many t j g tail refl (omega arith) (left-lead cmp p O pos (w .buckets) (canon-of s) at t e) u b (omega (arith, left-held cmp p O pos (w .buckets) (canon-of s) at t e)))
+      (λ more leads r w at t j g tail x s e u b h k l. k (omega arith))
 
   -- every reduction ends with the refusal whose condition holds
-  pub ending : (f : List (Term A)) → Valid cmp p Is f → Ending cmp divides quotient tooLarge p gs places limit (reduction cmp divides quotient _·_ tooLarge p gs places limit f .stop) f (reduction cmp divides quotient _·_ tooLarge p gs places limit f)
+  pub ending : (f : List (Term A)) → Valid cmp p Is f → Ending cmp choose quotient tooLarge p places limit (reduction cmp choose quotient _·_ tooLarge p places limit f .stop) f (reduction cmp choose quotient _·_ tooLarge p places limit f)
   ending f v =
-      by-first cmp divides quotient _·_ tooLarge p gs places limit f (λ x. Ending cmp divides quotient tooLarge p gs places limit (x .stop) f x)
+      by-first cmp choose quotient _·_ tooLarge p places limit f (λ x. Ending cmp choose quotient tooLarge p places limit (x .stop) f x)
       (λ h. first-too-many refl h refl refl refl)
-      (λ h. by-steps h (steps-stop limit 0 [] (added cmp p f start) (start-state cmp O divides quotient _·_ tooLarge Is ops p prime gs divisors places f (v .canonical) (v .are) h) (omega arith)))
+      (λ h. by-steps h (steps-stop limit 0 [] (added cmp p f start) (start-state cmp O divides quotient _·_ tooLarge Is ops p prime choose sound places f (v .canonical) (v .are) h) (omega arith)))
 
   -- ---- and no other condition holds
   lead-once : (bs : List (List (Term A))) (t u : Term A) → IsLead cmp p bs t → IsLead cmp p bs u → t ≡ u
@@ -92,20 +94,20 @@ module _ {A : Type 0} (cmp : A → A → Ordering) (O : TotalOrder A cmp) (divid
   -- the refusal of a step that finds the lead t and stops
   refusalAt : Term A → Fit A → ℕ
   refusalAt t unfit = 10
-  refusalAt t (fits g tail) = elim (anyTooLarge tooLarge (quotient (t .mono) (g .mono)) tail) [ true ↦ 12 | false ↦ 11 ]
+  refusalAt t (fits j g tail) = elim (anyTooLarge tooLarge (quotient (t .mono) (g .mono)) tail) [ true ↦ 12 | false ↦ 11 ]
 
   -- the three kinds of ending
   data Kind (k : ℕ) (x : Reduction A) : Type 0 where
     none-left : k ≡ 0 → IsZero cmp p (x .work .buckets) → Kind k x
     none-more : (t : Term A) → k ≡ 13 → x .leads ≡ limit → IsLead cmp p (x .work .buckets) t → Kind k x
-    in-step : (t : Term A) → k ≡ refusalAt t (firstFit divides (t .mono) gs) → x .leads < limit → IsLead cmp p (x .work .buckets) t → Kind k x
+    in-step : (t : Term A) → k ≡ refusalAt t (choose (t .mono)) → x .leads < limit → IsLead cmp p (x .work .buckets) t → Kind k x
 
-  kind : (k : ℕ) (x : Reduction A) → Stopping cmp divides quotient tooLarge p gs places limit k x → Kind k x
+  kind : (k : ℕ) (x : Reduction A) → Stopping cmp choose quotient tooLarge p places limit k x → Kind k x
   unfolding refusalAt
   kind k x (finished e l z h) = none-left e z
   kind k x (at-limit t e l a) = none-more t e l a
-  kind k x (over t g tail e l a u b) = in-step t (e ∙ sym (ap (refusalAt t) u ∙ ap (λ (c : Bool). elim c [ true ↦ 12 | false ↦ 11 ]) b)) l a
-  kind k x (too-many t g tail e l a u b h) = in-step t (e ∙ sym (ap (refusalAt t) u ∙ ap (λ (c : Bool). elim c [ true ↦ 12 | false ↦ 11 ]) b)) l a
+  kind k x (over t j g tail e l a u b) = in-step t (e ∙ sym (ap (refusalAt t) u ∙ ap (λ (c : Bool). elim c [ true ↦ 12 | false ↦ 11 ]) b)) l a
+  kind k x (too-many t j g tail e l a u b h) = in-step t (e ∙ sym (ap (refusalAt t) u ∙ ap (λ (c : Bool). elim c [ true ↦ 12 | false ↦ 11 ]) b)) l a
   kind k x (no-place t e l a u h) = in-step t (e ∙ sym (ap (refusalAt t) u)) l a
 
   one-kind : (k j : ℕ) (x : Reduction A) → Kind k x → Kind j x → k ≡ j
@@ -117,14 +119,14 @@ module _ {A : Type 0} (cmp : A → A → Ordering) (O : TotalOrder A cmp) (divid
   one-kind k j x (none-more t e l a) (in-step u d m b) = absurd (let z : ⊥ = omega arith in z)
   one-kind k j x (in-step t e l a) (none-left d y) = absurd (zero-no-lead (x .work .buckets) t y a)
   one-kind k j x (in-step t e l a) (none-more u d m b) = absurd (let z : ⊥ = omega arith in z)
-  one-kind k j x (in-step t e l a) (in-step u d m b) = e ∙ (ap (λ (v : Term A). refusalAt v (firstFit divides (v .mono) gs)) (lead-once (x .work .buckets) t u a b) ∙ sym d)
+  one-kind k j x (in-step t e l a) (in-step u d m b) = e ∙ (ap (λ (v : Term A). refusalAt v (choose (v .mono))) (lead-once (x .work .buckets) t u a b) ∙ sym d)
 
   -- no two refusals have their conditions met at once, so each is given exactly under its own
-  pub ending-once : (k j : ℕ) (f : List (Term A)) (x : Reduction A) → Ending cmp divides quotient tooLarge p gs places limit k f x → Ending cmp divides quotient tooLarge p gs places limit j f x → k ≡ j
+  pub ending-once : (k j : ℕ) (f : List (Term A)) (x : Reduction A) → Ending cmp choose quotient tooLarge p places limit k f x → Ending cmp choose quotient tooLarge p places limit j f x → k ≡ j
   ending-once k j f x (first-too-many e h l r w) (first-too-many d i m s v) = e ∙ sym d
   ending-once k j f x (first-too-many e h l r w) (by-steps i b) = absurd (let z : ⊥ = omega arith in z)
   ending-once k j f x (by-steps h a) (first-too-many d i m s v) = absurd (let z : ⊥ = omega arith in z)
   ending-once k j f x (by-steps h a) (by-steps i b) = one-kind k j x (kind k x a) (kind j x b)
 
-  pub ending-only : (f : List (Term A)) → Valid cmp p Is f → (k : ℕ) → Ending cmp divides quotient tooLarge p gs places limit k f (reduction cmp divides quotient _·_ tooLarge p gs places limit f) → reduction cmp divides quotient _·_ tooLarge p gs places limit f .stop ≡ k
+  pub ending-only : (f : List (Term A)) → Valid cmp p Is f → (k : ℕ) → Ending cmp choose quotient tooLarge p places limit k f (reduction cmp choose quotient _·_ tooLarge p places limit f) → reduction cmp choose quotient _·_ tooLarge p places limit f .stop ≡ k
   ending-only f v k e = ending-once _ k f _ (ending f v) e

@@ -1,27 +1,29 @@
 -- The last state of a reduction, finished or stopped: its counts, the leads that it removed, and its remainder so far. Assumes nothing.
 use mathlib.Core.Path.{_≡_, refl}
 use mathlib.Core.Bool.{Bool}
-use mathlib.Core.List.{List, [], _∷_, _++_}
+use mathlib.Core.List.{List, [], _∷_}
 use Prim.Native.Nat.{ℕ, zero, suc, _+_, _*_, _<_, _≤_, Ordering, Ordering·gt}
 use native.Mathlib.Omega.{arith}
 use lib.ListN.{length}
+use Rattle.limits.specs.Limits.{mostTerms}
 use Rattle.residue.specs.Prime.{Prime}
 use Rattle.monomial.specs.TotalOrder.{TotalOrder}
 use Rattle.polynomial.specs.Terms.{Term, All}
 use Rattle.polynomial.proofs.MergeLaws.{all-map}
-use Rattle.geobucket.specs.Buckets.{empty, held}
+use Rattle.geobucket.specs.Buckets.{empty, held, emptied}
 use Rattle.geobucket.specs.Search.{Lead, none, lead, search, putBack, withLead}
 use Rattle.geobucket.specs.Events.{Work, start, added, left}
-use Rattle.geobucket.proofs.SearchLaws.{Above, Fewer, finds, Within, search-within}
-use Rattle.geobucket.proofs.EventLaws.{good-canon, left-ends}
-use Rattle.division.specs.Division.{unfit, firstFit}
+use Rattle.geobucket.proofs.SearchLaws.{Canon, Above, Fewer, finds, Within, search-within}
+use Rattle.geobucket.proofs.EventLaws.{good-canon, emptied-good, left-ends}
+use Rattle.division.specs.Choice.{Fit, unfit}
 use Rattle.division.specs.Steps.{Reduction, stepsFrom, reduction}
 use Rattle.division.specs.Operations.{Operations}
-use Rattle.division.specs.Divisors.{Valid, AllOf}
+use Rattle.division.specs.Divisors.{Valid}
 use Rattle.division.proofs.HeldTerms.{Every, OfLead, search-every, above-every, every-above}
+use Rattle.division.proofs.FitLaws.{Sound}
 use Rattle.division.proofs.StateLaws.{Gone, gone-none, State, start-state}
 use Rattle.division.proofs.StepsAlong.{steps-along}
-use Rattle.division.proofs.WholeLaws.{put-held}
+use Rattle.division.proofs.WholeLaws.{put-held, left-canon}
 use Rattle.division.proofs.Endings.{by-first}
 
 -- ---- a lead that is put back
@@ -53,12 +55,13 @@ module _ {A : Type 0} (cmp : A → A → Ordering) (p : ℕ) where
     are = g .are;
   }
 
-  module _ (Is : A → Type 0) (divides : A → A → Bool) (gs : List (List (Term A))) (places limit : ℕ) where
+  module _ (Is : A → Type 0) (choose : A → Fit A) (places limit : ℕ) where
     -- What holds of a reduction x, to its end or up to the step that is stopped.
     pub record Last (x : Reduction A) : Type 0 where
       pub leads-few : x .leads ≤ limit
-      pub held-few : held (x .work .buckets) ≤ 4096
-      pub brought-few : length (x .work .brought) ≤ 4096 * suc (x .leads)
+      pub held-few : held (x .work .buckets) ≤ mostTerms
+      pub held-canon : Canon cmp p (x .work .buckets)
+      pub brought-few : length (x .work .brought) ≤ mostTerms * suc (x .leads)
       pub pairs-few : length (x .work .pairs) ≤ 35 * length (x .work .brought)
       -- the leads removed are what the geobucket gave out: they fall strictly, and each is larger than all that is held
       pub given-count : length (x .work .given) ≡ x .leads
@@ -67,28 +70,21 @@ module _ {A : Type 0} (cmp : A → A → Ordering) (p : ℕ) where
       pub out-few : length (x .remainder) ≤ x .leads
       pub out-places : length (x .remainder) ≤ places
       pub out-gone : Gone cmp p Is (x .work .buckets) (x .remainder)
-      pub out-unfit : All (λ u. firstFit divides (u .mono) gs ≡ unfit) (x .remainder)
+      pub out-unfit : All (λ u. choose (u .mono) ≡ unfit) (x .remainder)
 
-module _ {A : Type 0} (cmp : A → A → Ordering) (O : TotalOrder A cmp) (divides : A → A → Bool) (quotient _·_ : A → A → A) (tooLarge : A → A → Bool) (Is : A → Type 0) (ops : Operations A cmp divides quotient _·_ tooLarge Is) (p : ℕ) (prime : Prime p) (gs : List (List (Term A))) (divisors : AllOf (Valid cmp p Is) gs) (places : ℕ) where
+module _ {A : Type 0} (cmp : A → A → Ordering) (O : TotalOrder A cmp) (divides : A → A → Bool) (quotient _·_ : A → A → A) (tooLarge : A → A → Bool) (Is : A → Type 0) (ops : Operations A cmp divides quotient _·_ tooLarge Is) (p : ℕ) (prime : Prime p) (choose : A → Fit A) (sound : Sound cmp p Is divides choose) (places : ℕ) where
   pos : 0 < p
   pos = omega (arith, prime .above)
 
-  module _ {leads : ℕ} {r : List (Term A)} {w : Work A} (s : State cmp p Is divides gs places leads r w) where
-    -- ---- counts, for every state: 64 bits hold them (with at most 8,796,093,022,208 leads)
-    pub state-pairs : length (w .pairs) ≤ 143360 * suc leads
-    state-pairs = omega (arith, s .holds .paid, s .brought-few)
-
-    -- the search of a step is counted too
-    pub search-pairs : length (w .pairs ++ search cmp p (w .buckets) .pairs) ≤ 143360 * suc leads
-    search-pairs = omega (arith, left-ends cmp p O pos 6 (omega arith) w (s .holds) .paid, s .brought-few)
-
+  module _ {leads : ℕ} {r : List (Term A)} {w : Work A} (s : State cmp p Is choose places leads r w) where
     -- the state in which a step that finds a lead stops, or a search that finds zero
-    stopped : (refusal limit : ℕ) → leads ≤ limit → Last cmp p Is divides gs places limit (record { stop = refusal; leads = leads; remainder = r; work = left cmp p w })
+    stopped : (refusal limit : ℕ) → leads ≤ limit → Last cmp p Is choose places limit (record { stop = refusal; leads = leads; remainder = r; work = left cmp p w })
     stopped refusal limit l =
         let a = finds cmp p O pos (w .buckets) (good-canon cmp p 4 (w .buckets) (s .holds .good)) in
         record {
           leads-few = l;
           held-few = omega (arith, with-held cmp p (search cmp p (w .buckets) .answer) (search cmp p (w .buckets) .buckets) (w .buckets) (search-within cmp p (w .buckets)) (a .fewer), s .held-few);
+          held-canon = left-canon cmp p O pos (w .buckets) (good-canon cmp p 4 (w .buckets) (s .holds .good));
           brought-few = s .brought-few;
           pairs-few = left-ends cmp p O pos 6 (omega arith) w (s .holds) .paid;
           given-count = s .given-count;
@@ -99,24 +95,25 @@ module _ {A : Type 0} (cmp : A → A → Ordering) (O : TotalOrder A cmp) (divid
           out-unfit = s .out-unfit;
         }
 
-  steps-last : (limit more leads : ℕ) (r : List (Term A)) (w : Work A) → State cmp p Is divides gs places leads r w → leads + more ≤ limit → Last cmp p Is divides gs places limit (stepsFrom cmp divides quotient _·_ tooLarge p gs places more leads r w)
+  steps-last : (limit more leads : ℕ) (r : List (Term A)) (w : Work A) → State cmp p Is choose places leads r w → leads + more ≤ limit → Last cmp p Is choose places limit (stepsFrom cmp choose quotient _·_ tooLarge p places more leads r w)
   steps-last limit =
-      steps-along cmp O divides quotient _·_ tooLarge Is ops p prime gs divisors places (λ more leads r w x. leads + more ≤ limit → Last cmp p Is divides gs places limit x)
+      steps-along cmp O divides quotient _·_ tooLarge Is ops p prime choose sound places (λ more leads r w x. leads + more ≤ limit → Last cmp p Is choose places limit x)
       (λ more leads r w s e l. stopped s 0 limit (omega arith))
       (λ leads r w at t s e l. stopped s 13 limit (omega arith))
       (λ more leads r w at t s e u h l. stopped s 10 limit (omega arith))
       (λ more leads r w at t x s e u k l. k (omega arith))
-      (λ more leads r w at t g tail s e u b l. stopped s 12 limit (omega arith))
-      (λ more leads r w at t g tail s e u b h l. stopped s 11 limit (omega arith))
-      (λ more leads r w at t g tail x s e u b h k l. k (omega arith))
+      (λ more leads r w at t j g tail s e u b l. stopped s 12 limit (omega arith))
+      (λ more leads r w at t j g tail s e u b h l. stopped s 11 limit (omega arith))
+      (λ more leads r w at t j g tail x s e u b h k l. k (omega arith))
 
-  pub last : (limit : ℕ) (f : List (Term A)) → Valid cmp p Is f → Last cmp p Is divides gs places limit (reduction cmp divides quotient _·_ tooLarge p gs places limit f)
-  unfolding held
+  pub last : (limit : ℕ) (f : List (Term A)) → Valid cmp p Is f → Last cmp p Is choose places limit (reduction cmp choose quotient _·_ tooLarge p places limit f)
+  unfolding held emptied
   last limit f v =
-      by-first cmp divides quotient _·_ tooLarge p gs places limit f (Last cmp p Is divides gs places limit)
+      by-first cmp choose quotient _·_ tooLarge p places limit f (Last cmp p Is choose places limit)
       (λ h. record {
         leads-few = omega arith;
         held-few = omega arith;
+        held-canon = good-canon cmp p 4 empty (emptied-good cmp p 4 empty);
         brought-few = omega arith;
         pairs-few = omega arith;
         given-count = refl;
@@ -126,4 +123,4 @@ module _ {A : Type 0} (cmp : A → A → Ordering) (O : TotalOrder A cmp) (divid
         out-gone = gone-none cmp p Is empty;
         out-unfit = tt;
       })
-      (λ h. steps-last limit limit 0 [] (added cmp p f start) (start-state cmp O divides quotient _·_ tooLarge Is ops p prime gs divisors places f (v .canonical) (v .are) h) (omega arith))
+      (λ h. steps-last limit limit 0 [] (added cmp p f start) (start-state cmp O divides quotient _·_ tooLarge Is ops p prime choose sound places f (v .canonical) (v .are) h) (omega arith))

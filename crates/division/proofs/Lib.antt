@@ -14,7 +14,6 @@ pub mod Dividing
 pub mod Combining
 pub mod AnyDivision
 pub mod ExponentOperations
-pub mod WordSteps
 pub mod Remaining
 pub mod Reductions
 pub mod Renaming

@@ -12,13 +12,14 @@ use Rattle.polynomial.specs.Merge.{keep, merge}
 use Rattle.polynomial.specs.Multiple.{multiple}
 use Rattle.polynomial.proofs.MergeLaws.{along, merge-less, merge-same, merge-more, merge-nil, merge-all}
 use Rattle.polynomial.proofs.CoefLaws.{total-merge}
-use Rattle.division.specs.Division.{Fit, unfit, fits, firstFit, tailMultiple, Division}
+use Rattle.division.specs.Choice.{Fit, unfit, fits, firstFrom, chosen}
+use Rattle.division.specs.Division.{tailMultiple, Division}
 use Rattle.division.specs.Operations.{Operations}
 use Rattle.division.specs.Divisors.{Valid, AllOf}
 use Rattle.division.specs.InExponents.{renamed}
 use Rattle.division.proofs.DivisionLaws.{sum-merge}
 use Rattle.division.proofs.TailLaws.{DividedStep, tail-added}
-use Rattle.division.proofs.FitLaws.{all-of, fits-says}
+use Rattle.division.proofs.FitLaws.{Sound}
 use Rattle.division.proofs.AnyDivision.{division-kept, division-divided}
 
 module _ {A B : Type 0} (name : A → B) (Is : A → Type 0) where
@@ -34,6 +35,10 @@ module _ {A B : Type 0} (name : A → B) (Is : A → Type 0) where
 
   abbrev one : Term A → Term B
   one t = term (name (t .mono)) (t .coef)
+
+  abbrev pub fitRenamed : Fit A → Fit B
+  fitRenamed unfit = unfit
+  fitRenamed (fits k g tail) = fits k (one g) (renamed name tail)
 
   -- ---- lists
   keep-renamed : (m : A) (c : ℕ) (ts : List (Term A)) → keep (name m) c (renamed name ts) ≡ renamed name (keep m c ts)
@@ -80,38 +85,36 @@ module _ {A B : Type 0} (name : A → B) (Is : A → Type 0) where
         let c = product p (negative p (t .coef)) (inverseOf p (g .coef)) in
         ap (λ (m : B). multiple _·'_ p c m (renamed name tail)) (agrees .quotients (t .mono) (g .mono) i j d) ∙ multiple-renamed p c (quotient (t .mono) (g .mono)) k tail a
 
-    abbrev fitRenamed : Fit A → Fit B
-    fitRenamed unfit = unfit
-    fitRenamed (fits g tail) = fits (one g) (renamed name tail)
-
-    first-renamed : (α : A) → Is α → (gs : List (List (Term A))) → AllOf Are gs → firstFit divides' (name α) (map (renamed name) gs) ≡ fitRenamed (firstFit divides α gs)
-    unfolding firstFit AllOf
-    first-renamed α i [] u = refl
-    first-renamed α i ([] ∷ gs) u = first-renamed α i gs (u .1)
-    first-renamed α i ((g ∷ tail) ∷ gs) u = ap (λ (b : Bool). elim b [ true ↦ fits (one g) (renamed name tail) | false ↦ firstFit divides' (name α) (map (renamed name) gs) ]) (agrees .divide α (g .mono) i (u .0 .0)) ∙ both (divides (g .mono) α) (first-renamed α i gs (u .1))
+    -- document 01's rule, by names anew
+    first-renamed : (p j : ℕ) (α : A) → Is α → (gs : List (List (Term A))) → AllOf (Valid cmp p Is) gs → firstFrom divides' j (name α) (map (renamed name) gs) ≡ fitRenamed (firstFrom divides j α gs)
+    unfolding firstFrom AllOf
+    first-renamed p j α i [] u = refl
+    first-renamed p j α i ([] ∷ gs) u = first-renamed p (suc j) α i gs (u .1)
+    first-renamed p j α i ((g ∷ tail) ∷ gs) u = ap (λ (b : Bool). elim b [ true ↦ fits j (one g) (renamed name tail) | false ↦ firstFrom divides' (suc j) (name α) (map (renamed name) gs) ]) (agrees .divide α (g .mono) i (u .0 .are .0)) ∙ both (divides (g .mono) α) (first-renamed p (suc j) α i gs (u .1))
       where
-        both : (b : Bool) → firstFit divides' (name α) (map (renamed name) gs) ≡ fitRenamed (firstFit divides α gs) → elim b [ true ↦ fits (one g) (renamed name tail) | false ↦ firstFit divides' (name α) (map (renamed name) gs) ] ≡ fitRenamed (elim b [ true ↦ fits g tail | false ↦ firstFit divides α gs ])
+        both : (b : Bool) → firstFrom divides' (suc j) (name α) (map (renamed name) gs) ≡ fitRenamed (firstFrom divides (suc j) α gs) → elim b [ true ↦ fits j (one g) (renamed name tail) | false ↦ firstFrom divides' (suc j) (name α) (map (renamed name) gs) ] ≡ fitRenamed (elim b [ true ↦ fits j g tail | false ↦ firstFrom divides (suc j) α gs ])
         both true e = refl
         both false e = e
 
-    -- ---- a step of a division
-    module _ (O : TotalOrder A cmp) (O' : TotalOrder B cmp') (tooLarge : A → A → Bool) (ops : Operations A cmp divides quotient _·_ tooLarge Is) (p : ℕ) (prime : Prime p) (gs : List (List (Term A))) (divisors : AllOf (Valid cmp p Is) gs) where
-      first-is : (α : A) → Is α → firstFit divides' (name α) (map (renamed name) gs) ≡ fitRenamed (firstFit divides α gs)
-      first-is α i = first-renamed α i gs (all-of (Valid cmp p Is) Are (λ g v. v .are) gs divisors)
+    pub chosen-renamed : (p : ℕ) (gs : List (List (Term A))) → AllOf (Valid cmp p Is) gs → (α : A) → Is α → chosen divides' (map (renamed name) gs) (name α) ≡ fitRenamed (chosen divides gs α)
+    unfolding chosen
+    chosen-renamed p gs divisors α i = first-renamed p 1 α i gs divisors
 
-      pub renamed-kept : (n : ℕ) (t : Term A) (ts s : List (Term A)) → Is (t .mono) → firstFit divides (t .mono) gs ≡ unfit → Division cmp' divides' quotient' _·'_ p (map (renamed name) gs) n (renamed name ts) (renamed name s) → Division cmp' divides' quotient' _·'_ p (map (renamed name) gs) (suc n) (renamed name (t ∷ ts)) (renamed name (t ∷ s))
-      renamed-kept n t ts s i e d = division-kept cmp' divides' quotient' _·'_ p (map (renamed name) gs) n (one t) (renamed name ts) (renamed name s) (first-is (t .mono) i ∙ ap fitRenamed e) d
+    -- ---- a step of a division, where the choices agree
+    module _ (O : TotalOrder A cmp) (O' : TotalOrder B cmp') (tooLarge : A → A → Bool) (ops : Operations A cmp divides quotient _·_ tooLarge Is) (p : ℕ) (prime : Prime p) (choose : A → Fit A) (sound : Sound cmp p Is divides choose) (choose' : B → Fit B) (same : (α : A) → Is α → choose' (name α) ≡ fitRenamed (choose α)) where
+      pub renamed-kept : (n : ℕ) (t : Term A) (ts s : List (Term A)) → Is (t .mono) → choose (t .mono) ≡ unfit → Division cmp' choose' quotient' _·'_ p n (renamed name ts) (renamed name s) → Division cmp' choose' quotient' _·'_ p (suc n) (renamed name (t ∷ ts)) (renamed name (t ∷ s))
+      renamed-kept n t ts s i e d = division-kept cmp' choose' quotient' _·'_ p n (one t) (renamed name ts) (renamed name s) (same (t .mono) i ∙ ap fitRenamed e) d
 
-      pub renamed-divided : (n : ℕ) (t : Term A) (ts s : List (Term A)) (g : Term A) (tail h : List (Term A)) → DividedStep cmp divides quotient _·_ tooLarge Is p gs t ts g tail h → Division cmp' divides' quotient' _·'_ p (map (renamed name) gs) n (renamed name h) (renamed name s) → Division cmp' divides' quotient' _·'_ p (map (renamed name) gs) (suc n) (renamed name (t ∷ ts)) (renamed name s)
+      pub renamed-divided : (n : ℕ) (t : Term A) (ts s : List (Term A)) (g : Term A) (tail h : List (Term A)) → DividedStep cmp choose quotient _·_ tooLarge Is p t ts g tail h → Division cmp' choose' quotient' _·'_ p n (renamed name h) (renamed name s) → Division cmp' choose' quotient' _·'_ p (suc n) (renamed name (t ∷ ts)) (renamed name s)
       renamed-divided n t ts s g tail h a d =
           let u = tailMultiple quotient _·_ p t g tail in
-          let (v, b) = fits-says divides (Valid cmp p Is) (t .mono) gs g tail divisors (a .fit) in
+          let (v, b) = sound (t .mono) (a .number) g tail (a .fit) in
           let c = tail-added cmp divides quotient _·_ tooLarge Is ops p prime t g tail (a .is) (a .not-zero) (a .small) v b (a .none-large) in
-          let m = sum-merge cmp O divides quotient _·_ p (omega (arith, prime .above)) gs ts u h (a .rest .canonical) (c .canonical) (a .sum) in
+          let m = sum-merge cmp O p (omega (arith, prime .above)) ts u h (a .rest .canonical) (c .canonical) (a .sum) in
           let are : Are h = subst Are (sym m) (merge-all cmp p (λ x. Is (x .mono)) (λ x y q i j k. i) ts u (a .rest .are) (c .are)) in
           let tail-is = tail-renamed p t g tail (a .is) (v .are .0) b (ops .quotient-is (t .mono) (g .mono) (a .is) (v .are .0) b) (v .are .1) in
           let is : renamed name h ≡ merge cmp' p (renamed name ts) (renamed name u) = ap (renamed name) m ∙ sym (merge-renamed cmp cmp' (agrees .compares) p ts u (a .rest .are) (c .are)) in
-          division-divided cmp' divides' quotient' _·'_ p (map (renamed name) gs) n (one t) (renamed name ts) (renamed name s) (one g) (renamed name tail) (renamed name h) (first-is (t .mono) (a .is) ∙ ap fitRenamed (a .fit))
+          division-divided cmp' choose' quotient' _·'_ p n (one t) (renamed name ts) (renamed name s) (a .number) (one g) (renamed name tail) (renamed name h) (same (t .mono) (a .is) ∙ ap fitRenamed (a .fit))
           (record {
             canonical = canonical-renamed cmp cmp' (agrees .compares) p h are (a .sum .canonical);
             coefficients = λ k. ap (coefAt cmp' p k) is ∙ (total-merge cmp' O' p k (renamed name ts) (renamed name u) ∙ ap (λ (l : List (Term B)). (total cmp' k (renamed name ts) + total cmp' k l) % p) (sym tail-is));

@@ -5,6 +5,7 @@ use mathlib.Core.List.{List, [], _∷_, _++_}
 use Prim.Native.Nat.{ℕ, suc, _+_, _*_, _<_, _≤_, Ordering, Ordering·gt}
 use native.Mathlib.Omega.{arith}
 use lib.ListN.{length, length-append}
+use Rattle.limits.specs.Limits.{mostTerms}
 use Rattle.residue.specs.Prime.{Prime}
 use Rattle.monomial.specs.TotalOrder.{TotalOrder}
 use Rattle.polynomial.specs.Terms.{Term, All, Under, Falling, Canonical}
@@ -16,13 +17,13 @@ use Rattle.geobucket.specs.Events.{Work, start, leadTerms, added, removed}
 use Rattle.geobucket.proofs.AddLaws.{adds}
 use Rattle.geobucket.proofs.SearchLaws.{Above, Leads, Fewer, finds}
 use Rattle.geobucket.proofs.EventLaws.{Holds, room-six, good-canon, start-holds, added-holds, removed-holds}
-use Rattle.division.specs.Division.{unfit, fits, firstFit, tailMultiple}
+use Rattle.division.specs.Choice.{Fit, unfit, fits}
+use Rattle.division.specs.Division.{tailMultiple}
 use Rattle.division.specs.Steps.{anyTooLarge}
 use Rattle.division.specs.Operations.{Operations}
-use Rattle.division.specs.Divisors.{Valid, AllOf}
 use Rattle.division.proofs.HeldTerms.{Every, OfLead, add-every, search-every, above-every, every-above}
 use Rattle.division.proofs.TailLaws.{Added, tail-added, all-zip}
-use Rattle.division.proofs.FitLaws.{fits-says}
+use Rattle.division.proofs.FitLaws.{Sound}
 
 -- ---- a term more at the end of a list
 pub all-append : {A : Type 0} (P : Term A → Type 0) (xs ys : List (Term A)) → All P xs → All P ys → All P (xs ++ ys)
@@ -87,14 +88,14 @@ module _ {A : Type 0} (cmp : A → A → Ordering) (p : ℕ) (Is : A → Type 0)
     are = all-append (λ u. Is (u .mono)) ts (t ∷ []) (h .are) (f .is, tt);
   }
 
-  module _ (divides : A → A → Bool) (gs : List (List (Term A))) (places : ℕ) where
+  module _ (choose : A → Fit A) (places : ℕ) where
     -- What holds before each step: so many leads are removed, r is the remainder so far, and w what was done with the geobucket.
     pub record State (leads : ℕ) (r : List (Term A)) (w : Work A) : Type 0 where
       -- six good buckets, paid comparisons, and nothing lost
       pub holds : Holds cmp p 6 w
-      pub held-few : held (w .buckets) ≤ 4096
+      pub held-few : held (w .buckets) ≤ mostTerms
       pub are : Every Is (w .buckets)
-      pub brought-few : length (w .brought) ≤ 4096 * suc leads
+      pub brought-few : length (w .brought) ≤ mostTerms * suc leads
       -- the leads removed are what the geobucket gave out
       pub given-count : length (w .given) ≡ leads
       pub given-gone : Gone (w .buckets) (w .given)
@@ -102,14 +103,14 @@ module _ {A : Type 0} (cmp : A → A → Ordering) (p : ℕ) (Is : A → Type 0)
       pub out-few : length r ≤ leads
       pub out-places : length r ≤ places
       pub out-gone : Gone (w .buckets) r
-      pub out-unfit : All (λ u. firstFit divides (u .mono) gs ≡ unfit) r
+      pub out-unfit : All (λ u. choose (u .mono) ≡ unfit) r
 
-module _ {A : Type 0} (cmp : A → A → Ordering) (O : TotalOrder A cmp) (divides : A → A → Bool) (quotient _·_ : A → A → A) (tooLarge : A → A → Bool) (Is : A → Type 0) (ops : Operations A cmp divides quotient _·_ tooLarge Is) (p : ℕ) (prime : Prime p) (gs : List (List (Term A))) (divisors : AllOf (Valid cmp p Is) gs) (places : ℕ) where
+module _ {A : Type 0} (cmp : A → A → Ordering) (O : TotalOrder A cmp) (divides : A → A → Bool) (quotient _·_ : A → A → A) (tooLarge : A → A → Bool) (Is : A → Type 0) (ops : Operations A cmp divides quotient _·_ tooLarge Is) (p : ℕ) (prime : Prime p) (choose : A → Fit A) (sound : Sound cmp p Is divides choose) (places : ℕ) where
   pos : 0 < p
   pos = omega (arith, prime .above)
 
   -- ---- polynomial 0 is added
-  pub start-state : (f : List (Term A)) → Canonical cmp p f → All (λ t. Is (t .mono)) f → length f ≤ 4096 → State cmp p Is divides gs places 0 [] (added cmp p f start)
+  pub start-state : (f : List (Term A)) → Canonical cmp p f → All (λ t. Is (t .mono)) f → length f ≤ mostTerms → State cmp p Is choose places 0 [] (added cmp p f start)
   unfolding held Every
   start-state f c is few = record {
     holds = added-holds cmp p O pos 6 (omega arith) start (start-holds cmp p 6) f c (omega arith) (omega arith);
@@ -124,7 +125,7 @@ module _ {A : Type 0} (cmp : A → A → Ordering) (O : TotalOrder A cmp) (divid
     out-unfit = tt;
   }
 
-  module _ {leads : ℕ} {r : List (Term A)} {w : Work A} (s : State cmp p Is divides gs places leads r w) (at : ℕ) (t : Term A) (e : search cmp p (w .buckets) .answer ≡ lead at t) where
+  module _ {leads : ℕ} {r : List (Term A)} {w : Work A} (s : State cmp p Is choose places leads r w) (at : ℕ) (t : Term A) (e : search cmp p (w .buckets) .answer ≡ lead at t) where
     -- ---- the lead, and the buckets without it
     pub found : Found cmp p Is (w .buckets) t
     found =
@@ -157,7 +158,7 @@ module _ {A : Type 0} (cmp : A → A → Ordering) (O : TotalOrder A cmp) (divid
     given-more = gone-more cmp p Is (w .buckets) (w .given) t given-over found (gone-search cmp p Is (w .buckets) (w .given) (s .given-gone))
 
     -- ---- the lead goes to the remainder
-    pub kept-state : firstFit divides (t .mono) gs ≡ unfit → length r < places → State cmp p Is divides gs places (suc leads) (r ++ t ∷ []) (removed cmp p w)
+    pub kept-state : choose (t .mono) ≡ unfit → length r < places → State cmp p Is choose places (suc leads) (r ++ t ∷ []) (removed cmp p w)
     kept-state u free = record {
       holds = removed-holds cmp p O pos 6 (omega arith) w (s .holds);
       held-few = omega (arith, found .fewer, s .held-few);
@@ -168,14 +169,14 @@ module _ {A : Type 0} (cmp : A → A → Ordering) (O : TotalOrder A cmp) (divid
       out-few = omega (arith, s .out-few, length-append r (t ∷ []));
       out-places = omega (arith, length-append r (t ∷ []));
       out-gone = gone-more cmp p Is (w .buckets) r t out-over found (gone-search cmp p Is (w .buckets) r (s .out-gone));
-      out-unfit = all-append (λ v. firstFit divides (v .mono) gs ≡ unfit) r (t ∷ []) (s .out-unfit) (u, tt);
+      out-unfit = all-append (λ v. choose (v .mono) ≡ unfit) r (t ∷ []) (s .out-unfit) (u, tt);
     }
 
     -- ---- the multiple of a divisor's tail is added
-    module _ (g : Term A) (tail : List (Term A)) (fit : firstFit divides (t .mono) gs ≡ fits g tail) (none-large : anyTooLarge tooLarge (quotient (t .mono) (g .mono)) tail ≡ false) where
+    module _ (j : ℕ) (g : Term A) (tail : List (Term A)) (fit : choose (t .mono) ≡ fits j g tail) (none-large : anyTooLarge tooLarge (quotient (t .mono) (g .mono)) tail ≡ false) where
       pub step-adds : Added cmp p Is t (tailMultiple quotient _·_ p t g tail)
       step-adds =
-          let d = fits-says divides (Valid cmp p Is) (t .mono) gs g tail divisors fit in
+          let d = sound (t .mono) j g tail fit in
           tail-added cmp divides quotient _·_ tooLarge Is ops p prime t g tail (found .is) (found .not-zero) (found .small) (d .0) (d .1) none-large
 
       pub step-length : length (tailMultiple quotient _·_ p t g tail) ≡ length tail
@@ -187,12 +188,12 @@ module _ {A : Type 0} (cmp : A → A → Ordering) (O : TotalOrder A cmp) (divid
           all-map {P = λ u. cmp (u .mono) (t .mono) ≡ Ordering·gt} {Q = λ u. Under cmp (u .mono) (tailMultiple quotient _·_ p t g tail)}
           (λ u k. under-more cmp O (u .mono) (t .mono) k (tailMultiple quotient _·_ p t g tail) (step-adds .under)) ts o
 
-      pub divided-state : held (removed cmp p w .buckets) + length tail ≤ 4096 → State cmp p Is divides gs places (suc leads) r (added cmp p (tailMultiple quotient _·_ p t g tail) (removed cmp p w))
+      pub divided-state : held (removed cmp p w .buckets) + length tail ≤ mostTerms → State cmp p Is choose places (suc leads) r (added cmp p (tailMultiple quotient _·_ p t g tail) (removed cmp p w))
       divided-state few =
           let h = tailMultiple quotient _·_ p t g tail in
           let cs = search cmp p (w .buckets) .buckets in
           let hold = removed-holds cmp p O pos 6 (omega arith) w (s .holds) in
-          let few' : held cs + length h ≤ 4096 = omega (arith, step-length) in
+          let few' : held cs + length h ≤ mostTerms = omega (arith, step-length) in
           record {
             holds = added-holds cmp p O pos 6 (omega arith) (removed cmp p w) hold h (step-adds .canonical) few' few';
             held-few = omega (arith, adds cmp p O pos h cs (omega (arith, room-six cs (hold .six))) (step-adds .canonical) (hold .good) .size);

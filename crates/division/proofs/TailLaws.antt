@@ -13,7 +13,8 @@ use Rattle.residue.proofs.Inverses.{inverse-below, inverse-positive, zero-produ
 use Rattle.polynomial.specs.Terms.{Term, All, Under, Canonical}
 use Rattle.polynomial.specs.Multiple.{multiple}
 use Rattle.polynomial.proofs.MultipleLaws.{multiple-reduced, multiple-falling, multiple-under}
-use Rattle.division.specs.Division.{fits, firstFit, tailMultiple, SumOf}
+use Rattle.division.specs.Choice.{Fit, fits}
+use Rattle.division.specs.Division.{tailMultiple, SumOf}
 use Rattle.division.specs.Steps.{anyTooLarge}
 use Rattle.division.specs.Operations.{Operations}
 use Rattle.division.specs.Divisors.{Valid}
@@ -89,11 +90,12 @@ module _ {A : Type 0} (cmp : A → A → Ordering) (divides : A → A → Bool) 
       products (x ∷ xs) u = (ops .product-is q (x .mono) q-is (u .0 .0) (u .0 .1), products xs (u .1))
 
 -- A step that finds the lead t, with ts after it, and adds a multiple of a divisor's tail to these, which gives h.
-pub record DividedStep {A : Type 0} (cmp : A → A → Ordering) (divides : A → A → Bool) (quotient _·_ : A → A → A) (tooLarge : A → A → Bool) (Is : A → Type 0) (p : ℕ) (gs : List (List (Term A))) (t : Term A) (ts : List (Term A)) (g : Term A) (tail h : List (Term A)) : Type 0 where
+pub record DividedStep {A : Type 0} (cmp : A → A → Ordering) (choose : A → Fit A) (quotient _·_ : A → A → A) (tooLarge : A → A → Bool) (Is : A → Type 0) (p : ℕ) (t : Term A) (ts : List (Term A)) (g : Term A) (tail h : List (Term A)) : Type 0 where
   pub is : Is (t .mono)
   pub not-zero : 0 < t .coef
   pub small : t .coef < p
   pub rest : Valid cmp p Is ts
-  pub fit : firstFit divides (t .mono) gs ≡ fits g tail
+  pub number : ℕ
+  pub fit : choose (t .mono) ≡ fits number g tail
   pub none-large : anyTooLarge tooLarge (quotient (t .mono) (g .mono)) tail ≡ false
-  pub sum : SumOf cmp divides quotient _·_ p gs ts (tailMultiple quotient _·_ p t g tail) h
+  pub sum : SumOf cmp p ts (tailMultiple quotient _·_ p t g tail) h

@@ -1,6 +1,5 @@
 -- The full sum of the buckets as a polynomial: its lead is the lead that the search finds, and an addition adds to it. Assumes nothing.
 use mathlib.Core.Path.{_≡_, refl, sym, ap, _∙_, subst}
-use mathlib.Core.Bool.{Bool}
 use mathlib.Core.List.{List, [], _∷_}
 use Prim.Native.Nat.{ℕ, zero, suc, _+_, _%_, _<_, _≤_, Ordering, Ordering·gt}
 use native.Mathlib.Nat.{zero-mod}
@@ -99,17 +98,16 @@ module _ {A : Type 0} (cmp : A → A → Ordering) (p : ℕ) where
         left-held = ap (λ (x : Lead A). held (withLead x cs)) e ∙ put-held at t cs (subst (λ (x : Lead A). Within cmp p x cs) e (search-within cmp p bs))
 
     -- ---- an addition
-    module _ (divides : A → A → Bool) (quotient _·_ : A → A → A) (gs : List (List (Term A))) where
-      pub whole-added : (f : List (Term A)) (bs : List (List (Term A))) → length f + held bs ≤ room 4 bs → Canonical cmp p f → Good cmp p 4 bs → SumOf cmp divides quotient _·_ p gs (fullSum cmp p bs) f (fullSum cmp p (add cmp p f bs))
-      whole-added f bs few c g =
-          let a = adds cmp p O pos f bs few c g in
-          let b = sum-right cmp p O pos (add cmp p f bs) (good-canon cmp p 4 (add cmp p f bs) (a .good)) in
-          let d = sum-right cmp p O pos bs (good-canon cmp p 4 bs g) in
-          record {
-            canonical = b .0;
-            coefficients = λ m.
-                b .1 m
-                ∙ (a .sums m
-                ∙ (add-both p (total cmp m f) (total cmp m f) (totalIn cmp m bs) (total cmp m (fullSum cmp p bs)) refl (sym (d .1 m))
-                ∙ ap (λ (n : ℕ). n % p) (let e : total cmp m f + total cmp m (fullSum cmp p bs) ≡ total cmp m (fullSum cmp p bs) + total cmp m f = omega arith in e)));
-          }
+    pub whole-added : (f : List (Term A)) (bs : List (List (Term A))) → length f + held bs ≤ room 4 bs → Canonical cmp p f → Good cmp p 4 bs → SumOf cmp p (fullSum cmp p bs) f (fullSum cmp p (add cmp p f bs))
+    whole-added f bs few c g =
+        let a = adds cmp p O pos f bs few c g in
+        let b = sum-right cmp p O pos (add cmp p f bs) (good-canon cmp p 4 (add cmp p f bs) (a .good)) in
+        let d = sum-right cmp p O pos bs (good-canon cmp p 4 bs g) in
+        record {
+          canonical = b .0;
+          coefficients = λ m.
+              b .1 m
+              ∙ (a .sums m
+              ∙ (add-both p (total cmp m f) (total cmp m f) (totalIn cmp m bs) (total cmp m (fullSum cmp p bs)) refl (sym (d .1 m))
+              ∙ ap (λ (n : ℕ). n % p) (let e : total cmp m f + total cmp m (fullSum cmp p bs) ≡ total cmp m (fullSum cmp p bs) + total cmp m f = omega arith in e)));
+        }

@@ -1,11 +1,11 @@
 -- What a division means, apart from how it is done: the polynomial is the remainder and a sum of multiples of divisors, and the leads that it removes, one by one. Assumes nothing.
 use Prim.Native.Nat.{ℕ, zero, suc, Ordering}
 use mathlib.Core.Path.{_≡_}
-use mathlib.Core.Bool.{Bool}
 use mathlib.Core.List.{List, [], _∷_, _++_}
 use Rattle.polynomial.specs.Terms.{Term, Same}
 use Rattle.polynomial.specs.Multiple.{multiple}
-use Rattle.division.specs.Division.{Fit, unfit, fits, firstFit, tailMultiple, SumOf}
+use Rattle.division.specs.Choice.{Fit, unfit, fits}
+use Rattle.division.specs.Division.{tailMultiple, SumOf}
 use Rattle.division.specs.Divisors.{Among}
 
 -- the polynomial `of` times the term `by`
@@ -29,14 +29,15 @@ pub record Combination {A : Type 0} (cmp : A → A → Ordering) (_·_ : A → A
   pub by-divisors : AllByDivisors gs multipliers
   pub same : Same cmp p f (r ++ combined _·_ p multipliers)
 
-module _ {A : Type 0} (cmp : A → A → Ordering) (divides : A → A → Bool) (quotient _·_ : A → A → A) (p : ℕ) (gs : List (List (Term A))) where
+module _ {A : Type 0} (cmp : A → A → Ordering) (quotient _·_ : A → A → A) (p : ℕ) where
   -- what comes after the lead t is removed, as in `StepBy`
   abbrev pub AfterBy : (Rest : (f : List (Term A)) → Type 0) → Fit A → Term A → (ts : List (Term A)) → Type 0
   AfterBy Rest unfit t ts = Rest ts
-  AfterBy Rest (fits g tail) t ts = (h : List (Term A)) × SumOf cmp divides quotient _·_ p gs ts (tailMultiple quotient _·_ p t g tail) h × Rest h
+  AfterBy Rest (fits k g tail) t ts = (h : List (Term A)) × SumOf cmp p ts (tailMultiple quotient _·_ p t g tail) h × Rest h
 
+module _ {A : Type 0} (cmp : A → A → Ordering) (choose : A → Fit A) (quotient _·_ : A → A → A) (p : ℕ) where
   -- the first n steps of dividing f remove the leads ls, in this order
   unfoldable pub LeadsOf : (n : ℕ) → (f ls : List (Term A)) → Type 0
   LeadsOf zero f ls = ls ≡ []
   LeadsOf (suc n) [] ls = ⊥
-  LeadsOf (suc n) (t ∷ ts) ls = (ks : List (Term A)) × (ls ≡ t ∷ ks) × AfterBy (λ f. LeadsOf n f ks) (firstFit divides (t .mono) gs) t ts
+  LeadsOf (suc n) (t ∷ ts) ls = (ks : List (Term A)) × (ls ≡ t ∷ ks) × AfterBy cmp quotient _·_ p (λ f. LeadsOf n f ks) (choose (t .mono)) t ts

@@ -1,5 +1,5 @@
 -- Polynomials that pass the opening checks, divisors in a list, and monomials that none of them divides. Assumes nothing.
-use Prim.Native.Nat.{ℕ, Ordering}
+use Prim.Native.Nat.{ℕ, suc, Ordering}
 use mathlib.Core.Path.{_≡_}
 use mathlib.Core.Bool.{Bool, false}
 use mathlib.Core.List.{List, [], _∷_}
@@ -20,6 +20,11 @@ AllOf Q (g ∷ gs) = Q g × AllOf Q gs
 unfoldable pub Among : {A : Type 0} → List (Term A) → List (List (Term A)) → Type 0
 Among g [] = ⊥
 Among g (h ∷ hs) = (g ≡ h) ⊎ Among g hs
+
+-- g is the divisor number k, where the first in the list has the number j
+unfoldable pub Numbered : {A : Type 0} → (j k : ℕ) → List (Term A) → List (List (Term A)) → Type 0
+Numbered j k g [] = ⊥
+Numbered j k g (h ∷ hs) = ((k ≡ j) × (g ≡ h)) ⊎ Numbered (suc j) k g hs
 
 module _ {A : Type 0} (divides : A → A → Bool) where
   -- the lead monomial of g does not divide α

@@ -1,6 +1,7 @@
 -- Document 01, "Known results", reductions: "In reductions p = 7, dp, n = 2." The polynomials named there. Assumes nothing.
 use Prim.Native.Nat.{ℕ}
 use mathlib.Core.List.{List, [], _∷_}
+use Rattle.limits.specs.Limits.{mostTerms}
 use Rattle.monomial.specs.declared.order.Order.the-variants.{DegRevLex}
 use Rattle.monomial.specs.Layout.{wordOf}
 use Rattle.polynomial.specs.Terms.{Term, term}
@@ -26,4 +27,4 @@ by-x1 = in-dp 1 (0 ∷ 2 ∷ []) ∷ in-dp 6 (1 ∷ 0 ∷ []) ∷ []
 
 -- with 4,096 output places
 abbrev pub reducedIn7 : (limit : ℕ) → List (Term ℕ) → List (List (Term ℕ)) → Reduction ℕ
-reducedIn7 limit f gs = reductionOfWords DegRevLex 7 gs 4096 limit f
+reducedIn7 limit f gs = reductionOfWords DegRevLex 7 gs mostTerms limit f

@@ -1,3 +1,4 @@
+pub mod Choice
 pub mod Division
 pub mod Steps
 pub mod Operations

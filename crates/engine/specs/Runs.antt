@@ -1,14 +1,16 @@
 -- A run's operations (document 01, "Runs"), over the six lists. Assumes nothing.
-use Prim.Native.Nat.{ℕ, zero, suc, _+_, _≤_, Ordering}
+use Prim.Native.Nat.{ℕ, _+_, Ordering}
 use mathlib.Core.Bool.{Bool, true, false}
 use mathlib.Core.List.{List, [], _∷_, _++_}
 use lib.Dec.{leb, eqb}
 use lib.ListN.{length}
-use Rattle.polynomial.specs.Terms.{Term, term, terms}
-use Rattle.polynomial.specs.Opening.{partOf}
-use Rattle.geobucket.specs.Buckets.{empty, held, add, addCompared, fullSum, sumCompared, emptied}
-use Rattle.geobucket.specs.Search.{Lead, none, lead, Searched, search}
-use Rattle.geobucket.specs.Events.{leadTerms}
+use Rattle.limits.specs.Limits.{mostTerms}
+use Rattle.polynomial.specs.Terms.{Term, term}
+use Rattle.geobucket.specs.Buckets.{held, fullSum}
+use Rattle.geobucket.specs.Search.{Lead, none, lead, search}
+use Rattle.geobucket.specs.Events as E
+use Rattle.geobucket.specs.Events.{Work, start}
+use Rattle.call.specs.Lending.{polynomial}
 
 -- "(1, k) adds polynomial k; (2, 0) takes the lead; (3, 0) gives the full sum."
 pub data Operation : Type 0 where
@@ -16,22 +18,19 @@ pub data Operation : Type 0 where
   leads : Operation
   sums : Operation
 
--- The buckets, the tally's first three counts, the output places written, the operations finished, and the refusal that stopped the run, 0 for none.
+-- What was done with the geobucket, the output places written, the operations finished, and the refusal that stopped the run, 0 for none.
 pub record Running : Type 0 where
-  pub buckets : List (List (Term ℕ))
-  pub comparisons : ℕ
-  pub brought : ℕ
-  pub given : ℕ
+  pub work : Work ℕ
   pub output : List (Term ℕ)
   pub finished : ℕ
   pub stop : ℕ
 
 abbrev pub begun : Running
-begun = record { buckets = empty; comparisons = 0; brought = 0; given = 0; output = []; finished = 0; stop = 0 }
+begun = record { work = start; output = []; finished = 0; stop = 0 }
 
 -- a refused operation does nothing
 abbrev pub stopped : ℕ → Running → Running
-stopped r t = record { buckets = t .buckets; comparisons = t .comparisons; brought = t .brought; given = t .given; output = t .output; finished = t .finished; stop = r }
+stopped r t = record { work = t .work; output = t .output; finished = t .finished; stop = r }
 
 -- "A lead goes to the next output place; for zero, word 0 and coefficient 0 go there."
 abbrev pub placeOf : Lead ℕ → Term ℕ
@@ -39,41 +38,16 @@ placeOf none = term 0 0
 placeOf (lead at t) = t
 
 module _ (cmp : ℕ → ℕ → Ordering) (p : ℕ) where
+  -- an operation that is done is one more finished
   abbrev pub added : List (Term ℕ) → Running → Running
-  added f t = record {
-    buckets = add cmp p f (t .buckets);
-    comparisons = t .comparisons + length (addCompared cmp p f (t .buckets));
-    brought = t .brought + length f;
-    given = t .given;
-    output = t .output;
-    finished = t .finished + 1;
-    stop = 0;
-  }
+  added f t = record { work = E.added cmp p f (t .work); output = t .output; finished = t .finished + 1; stop = t .stop }
 
   abbrev pub taken : Running → Running
-  taken t =
-      let s = search cmp p (t .buckets) in
-      record {
-        buckets = s .buckets;
-        comparisons = t .comparisons + length (s .pairs);
-        brought = t .brought;
-        given = t .given + length (leadTerms (s .answer));
-        output = t .output ++ (placeOf (s .answer) ∷ []);
-        finished = t .finished + 1;
-        stop = 0;
-      }
+  taken t = record { work = E.removed cmp p (t .work); output = t .output ++ (placeOf (search cmp p (t .work .buckets) .answer) ∷ []); finished = t .finished + 1; stop = t .stop }
 
   -- "A full sum is followed by one such zero place."
   abbrev pub summed : Running → Running
-  summed t = record {
-    buckets = emptied (t .buckets);
-    comparisons = t .comparisons + length (sumCompared cmp p [] (t .buckets));
-    brought = t .brought;
-    given = t .given + length (fullSum cmp p (t .buckets));
-    output = t .output ++ (fullSum cmp p (t .buckets) ++ (term 0 0 ∷ []));
-    finished = t .finished + 1;
-    stop = 0;
-  }
+  summed t = record { work = E.summed cmp p (t .work); output = t .output ++ (fullSum cmp p (t .work .buckets) ++ (term 0 0 ∷ [])); finished = t .finished + 1; stop = t .stop }
 
   -- "11: terms held + terms to add > 4,096"; "10: too little output: a lead needs one free place; a full sum needs terms held + 1"; by whether there is room
   abbrev pub addedBy : Bool → List (Term ℕ) → Running → Running
@@ -90,9 +64,9 @@ module _ (cmp : ℕ → ℕ → Ordering) (p : ℕ) where
 
   -- one operation, with so many output places in all
   unfoldable pub operate : (places : ℕ) → Operation → Running → Running
-  operate places (adds f) t = addedBy (leb (held (t .buckets) + length f) 4096) f t
+  operate places (adds f) t = addedBy (leb (held (t .work .buckets) + length f) mostTerms) f t
   operate places leads t = takenBy (leb (length (t .output) + 1) places) t
-  operate places sums t = summedBy (leb (length (t .output) + (held (t .buckets) + 1)) places) t
+  operate places sums t = summedBy (leb (length (t .output) + (held (t .work .buckets) + 1)) places) t
 
   -- the operations in turn, up to one that is refused
   unfoldable pub operateAll : (places : ℕ) → List Operation → Running → Running
@@ -106,12 +80,8 @@ operationBy false true f = leads
 operationBy false false f = sums
 
 module _ (words coefs starts : List ℕ) where
-  -- "Polynomial k is handed on as that part of the slices"
-  abbrev pub polynomial : ℕ → List (Term ℕ)
-  polynomial k = terms (partOf starts k words) (partOf starts k coefs)
-
   abbrev pub operationOf : ℕ → ℕ → Operation
-  operationOf code k = operationBy (eqb code 1) (eqb code 2) (polynomial k)
+  operationOf code k = operationBy (eqb code 1) (eqb code 2) (polynomial words coefs starts k)
 
   unfoldable pub operationsOf : List ℕ → List Operation
   operationsOf [] = []

@@ -2,59 +2,45 @@
 use Prim.Native.Nat.{ℕ, _+_, _*_, _<_, _≤_, Ordering}
 use mathlib.Core.Path.{_≡_}
 use mathlib.Core.List.{List}
+use lib.Dec.{eqb}
 use lib.ListN.{length, drop, getD}
+use Rattle.limits.specs.Limits.{mostOperations, mostTerms}
 use Rattle.residue.specs.Modular.{Modulus}
 use Rattle.polynomial.specs.Terms.{Term, terms, Canonical}
 use Rattle.polynomial.specs.Opening.{Within}
-use Rattle.merge.specs.Lent.{part}
+use Rattle.merge_common.specs.Lent.{part}
 use Rattle.geobucket.specs.Buckets.{held}
-use Rattle.space.specs.Space.{Buckets, bucketsIn, Stands, noBuckets}
-use Rattle.engine.specs.declared.state.State.{State}
-use Rattle.engine.specs.Runs.{Operation, adds, Running, begun, operate, operateAll, polynomial, operationOf, operationsOf}
-
-abbrev pub halted : State → ℕ → State
-halted s refusal = record { comparisons = s .comparisons; brought = s .brought; given = s .given; places = s .places; finished = s .finished; stop = refusal }
+use Rattle.space.specs.Space.{Buckets, bucketsIn, Stands}
+use Rattle.call.specs.declared.state.State.{State}
+use Rattle.call.specs.States.{goesOn, stopOf}
+use Rattle.call.specs.Counts.{Counts}
+use Rattle.call.specs.Lending.{polynomial, Output, WorkSpace}
+use Rattle.engine.specs.Runs.{Operation, adds, Running, begun, operate, operateAll, operationsOf}
 
 -- what the state, the buckets and the slices stand for
-abbrev pub standsFor : State → Buckets → (bw bc ow oc : List ℕ) → Running
-standsFor s b bw bc ow oc = record {
-  buckets = bucketsIn b bw bc;
-  comparisons = s .comparisons;
-  brought = s .brought;
-  given = s .given;
-  output = terms (part 0 (s .places) ow) (part 0 (s .places) oc);
-  finished = s .finished;
-  stop = s .stop;
-}
+pub record StandsFor (s : State) (b : Buckets) (bw bc ow oc : List ℕ) (t : Running) : Type 0 where
+  pub counts : Counts s b bw bc (t .work)
+  pub given-are : s .given ≡ length (t .work .given)
+  pub output-is : terms (part 0 (s .places) ow) (part 0 (s .places) oc) ≡ t .output
+  pub finished-is : s .finished ≡ t .finished
+  pub stop-is : stopOf (s .course) ≡ t .stop
+  pub goes-on-is : goesOn (s .course) ≡ eqb (t .stop) 0
 
--- a run that goes on: its buckets and its counts, which are far from 64 bits
+-- the buckets of a run and its counts, which are far from 64 bits
 pub record Counting (cmp : ℕ → ℕ → Ordering) (p : ℕ) (s : State) (b : Buckets) (bw bc : List ℕ) : Type 0 where
   pub stands : Stands cmp p b bw bc
-  pub room : held (bucketsIn b bw bc) ≤ 4096
-  pub most : s .finished ≤ 16777216
+  pub room : held (bucketsIn b bw bc) ≤ mostTerms
+  pub most : s .finished ≤ mostOperations
   pub few : s .comparisons ≤ 100000 * s .finished
   pub some-brought : s .brought ≤ 100000 * s .finished
   pub some-given : s .given ≤ 100000 * s .finished
-
--- an output with so many places written
-pub record Output (places : ℕ) (ow oc : List ℕ) : Type 0 where
-  pub same-long : length oc ≡ length ow
-  pub fits : places ≤ length ow
-
-pub record Work (ww wc : List ℕ) : Type 0 where
-  pub words-long : length ww ≡ 8192
-  pub coefs-long : length wc ≡ 8192
-
--- a polynomial
-pub record Addend (cmp : ℕ → ℕ → Ordering) (p : ℕ) (fw fc : List ℕ) : Type 0 where
-  pub long : length fc ≡ length fw
-  pub canonical : Canonical cmp p (terms fw fc)
 
 -- the operation was done as defined, or was refused; output past the last place written is untouched
 pub record Operated (cmp : ℕ → ℕ → Ordering) (p : ℕ) (o : Operation) (s : State) (b : Buckets) (bw bc ow oc : List ℕ) (s' : State) (b' : Buckets) (bw' bc' ow' oc' : List ℕ) : Type 0 where
   pub counting : Counting cmp p s' b' bw' bc'
   pub output : Output (s' .places) ow' oc'
-  pub is : standsFor s' b' bw' bc' ow' oc' ≡ operate cmp p (length ow) o (standsFor s b bw bc ow oc)
+  pub is : (t : Running) → StandsFor s b bw bc ow oc t → StandsFor s' b' bw' bc' ow' oc' (operate cmp p (length ow) o t)
+  pub one-more : s' .finished ≤ s .finished + 1
   pub longer : s .places ≤ s' .places
   pub words-past : drop (s' .places) ow' ≡ drop (s' .places) ow
   pub coefs-past : drop (s' .places) oc' ≡ drop (s' .places) oc
@@ -66,9 +52,9 @@ pub record AddOperated (cmp : ℕ → ℕ → Ordering) (p : ℕ) (f : List (Ter
 -- an operation whose polynomial, if it adds one, is there
 pub record Operable (cmp : ℕ → ℕ → Ordering) (p : ℕ) (words coefs starts : List ℕ) (code k : ℕ) (s : State) (b : Buckets) (bw bc ww wc ow oc : List ℕ) : Type 0 where
   pub counting : Counting cmp p s b bw bc
-  pub work : Work ww wc
+  pub work : WorkSpace ww wc
   pub output : Output (s .places) ow oc
-  pub more : s .finished < 16777216
+  pub more : s .finished < mostOperations
   pub long : length coefs ≡ length words
   pub there : code ≡ 1 → Within starts k (length words) × Canonical cmp p (polynomial words coefs starts k)
 
@@ -80,24 +66,13 @@ pub record Loaded (cmp : ℕ → ℕ → Ordering) (p : ℕ) (words coefs starts
   pub canonical : (k : ℕ) → k + 1 < length starts → Canonical cmp p (polynomial words coefs starts k)
   pub pairs : ℕ
   pub whole : length ops ≡ 2 * pairs
-  pub most : pairs ≤ 16777216
+  pub most : pairs ≤ mostOperations
   pub there : (j : ℕ) → j < pairs → getD ops (2 * j) 0 ≡ 1 → getD ops (2 * j + 1) 0 + 1 < length starts
-
--- empty buckets, and spaces of the right sizes, with anything in them
-pub record Lent (b : Buckets) (bw bc ww wc ow oc : List ℕ) : Type 0 where
-  pub none : b ≡ noBuckets
-  pub words-long : length bw ≡ 5460
-  pub coefs-long : length bc ≡ 5460
-  pub work : Work ww wc
-  pub same-long : length oc ≡ length ow
-
-abbrev pub initial : State
-initial = record { comparisons = 0; brought = 0; given = 0; places = 0; finished = 0; stop = 0 }
 
 -- all operations were done as defined, up to one that is refused
 pub record RanAll (cmp : ℕ → ℕ → Ordering) (p : ℕ) (words coefs starts ops : List ℕ) (ow oc : List ℕ) (s : State) (b' : Buckets) (bw' bc' ow' oc' : List ℕ) : Type 0 where
   pub counting : Counting cmp p s b' bw' bc'
   pub output : Output (s .places) ow' oc'
-  pub is : standsFor s b' bw' bc' ow' oc' ≡ operateAll cmp p (length ow) (operationsOf words coefs starts ops) begun
+  pub is : StandsFor s b' bw' bc' ow' oc' (operateAll cmp p (length ow) (operationsOf words coefs starts ops) begun)
   pub words-past : drop (s .places) ow' ≡ drop (s .places) ow
   pub coefs-past : drop (s .places) oc' ≡ drop (s .places) oc

@@ -1,4 +1,3 @@
 // Runs of operations on a geobucket in lent space.
 pub mod operations; // one operation each
 pub mod run; // the operations in turn
-pub mod state; // what a run keeps between operations

@@ -2,18 +2,14 @@
 use crate::operations::add_operation;
 use crate::operations::lead_operation;
 use crate::operations::sum_operation;
-use crate::state::State;
-use crate::state::initial;
+use call::state::State;
 use monomial::order::Order;
 use polynomial::part::coefs_of;
 use polynomial::part::words_of;
-ghost use mathlib.Core.Path.{_≡_};
-ghost use Prim.Native.Nat.{_+_, _<_};
-ghost use lib.ListN.{length};
 ghost use Rattle.monomial.specs.Words.{compareWords};
-ghost use Rattle.polynomial.specs.Opening.{Within};
+ghost use Rattle.call.specs.Lending.{Lent};
 ghost use Rattle.engine.specs.Runs.{operationOf};
-ghost use Rattle.engine.specs.States.{Operable, Operated, Loaded, Lent, RanAll};
+ghost use Rattle.engine.specs.States.{Operable, Operated, Loaded, RanAll};
 
 // One operation of a list that passed the opening checks.
 pub fn operate<'a>(
@@ -66,9 +62,9 @@ pub fn operate_all<'a>(
     requires { ⌜ Loaded (compareWords order) p (now words) (now coefs) (now starts) (now ops) × Lent (now b) (now bw) (now bc) (now ww) (now wc) (now ow) (now oc) ⌝ }
     ensures { λ r. ⌜ RanAll (compareWords order) p (now (words .entry)) (now (coefs .entry)) (now (starts .entry)) (now (ops .entry)) (now (ow .entry)) (now (oc .entry)) r (now (b .exit)) (now (bw .exit)) (now (bc .exit)) (now (ow .exit)) (now (oc .exit)) ⌝ }
 {
-    let mut s = initial();
+    let mut s = State::new();
     let mut i = 0;
-    while i < ops.len() && s.stop == 0 {
+    while i < ops.len() && s.goes_on() {
         let code = ops[i];
         let k = ops[i + 1];
         s = operate(

@@ -7,6 +7,7 @@ use native.Mathlib.Decide.{decLe}
 use native.Mathlib.Omega.{arith}
 use borrow.Author.Tests.{le-leb, lt-leb}
 use lib.ListN.{length, length-append}
+use Rattle.limits.specs.Limits.{mostTerms}
 use Rattle.residue.proofs.Remainder.{add-same, add-both}
 use Rattle.monomial.specs.TotalOrder.{TotalOrder}
 use Rattle.polynomial.specs.Terms.{Term, here, total, Canonical}
@@ -22,7 +23,7 @@ use Rattle.geobucket.proofs.SearchCost.{search-paid}
 use Rattle.geobucket.proofs.SumLaws.{sum-totals, sum-paid, emptied-credit, emptied-held}
 
 -- ---- six buckets
-pub room-six : {A : Type 0} (bs : List (List (Term A))) → length bs ≡ 6 → 4096 ≤ room 4 bs
+pub room-six : {A : Type 0} (bs : List (List (Term A))) → length bs ≡ 6 → mostTerms ≤ room 4 bs
 unfolding room
 room-six [] h = absurd (let z : ⊥ = omega arith in z)
 room-six (a ∷ []) h = absurd (let z : ⊥ = omega arith in z)
@@ -93,21 +94,21 @@ module _ {A : Type 0} (cmp : A → A → Ordering) (p : ℕ) where
   module _
       (P : List (Event A) → Work A → Work A → Type 0)
       (ends : (w : Work A) → P [] w w)
-      (adds-on : (f : List (Term A)) (es : List (Event A)) (w v : Work A) → held (w .buckets) + length f ≤ 4096 → P es (added cmp p f w) v → P (addition f ∷ es) w v)
-      (refuses : (f : List (Term A)) (es : List (Event A)) (w : Work A) → 4096 < held (w .buckets) + length f → P (addition f ∷ es) w w)
+      (adds-on : (f : List (Term A)) (es : List (Event A)) (w v : Work A) → held (w .buckets) + length f ≤ mostTerms → P es (added cmp p f w) v → P (addition f ∷ es) w v)
+      (refuses : (f : List (Term A)) (es : List (Event A)) (w : Work A) → mostTerms < held (w .buckets) + length f → P (addition f ∷ es) w w)
       (removes : (es : List (Event A)) (w v : Work A) → P es (removed cmp p w) v → P (removal ∷ es) w v)
       (sums-up : (es : List (Event A)) (w v : Work A) → P es (summed cmp p w) v → P (summation ∷ es) w v)
       (leaves : (es : List (Event A)) (w : Work A) → P (finding ∷ es) w (left cmp p w)) where
     pub perform-along : (es : List (Event A)) (w : Work A) → P es w (perform cmp p es w)
     unfolding perform
     perform-along [] w = ends w
-    perform-along (addition f ∷ es) w = go (decLe (held (w .buckets) + length f) 4096) (perform-along es (added cmp p f w))
+    perform-along (addition f ∷ es) w = go (decLe (held (w .buckets) + length f) mostTerms) (perform-along es (added cmp p f w))
       where
-        go : Dec (held (w .buckets) + length f ≤ 4096) → P es (added cmp p f w) (perform cmp p es (added cmp p f w)) → P (addition f ∷ es) w (perform cmp p (addition f ∷ es) w)
-        go (yes h) r = rw (le-leb (held (w .buckets) + length f) 4096 h, perform) (adds-on f es w _ h r)
+        go : Dec (held (w .buckets) + length f ≤ mostTerms) → P es (added cmp p f w) (perform cmp p es (added cmp p f w)) → P (addition f ∷ es) w (perform cmp p (addition f ∷ es) w)
+        go (yes h) r = rw (le-leb (held (w .buckets) + length f) mostTerms h, perform) (adds-on f es w _ h r)
         go (no h) r =
-            let k : 4096 < held (w .buckets) + length f = omega arith in
-            rw (lt-leb (held (w .buckets) + length f) 4096 k, perform) (refuses f es w k)
+            let k : mostTerms < held (w .buckets) + length f = omega arith in
+            rw (lt-leb (held (w .buckets) + length f) mostTerms k, perform) (refuses f es w k)
     perform-along (removal ∷ es) w = removes es w _ (perform-along es (removed cmp p w))
     perform-along (summation ∷ es) w = sums-up es w _ (perform-along es (summed cmp p w))
     perform-along (finding ∷ es) w = leaves es w
@@ -166,7 +167,7 @@ module _ {A : Type 0} (cmp : A → A → Ordering) (p : ℕ) where
   adds-up c B F P Q d e h k = omega arith
 
   module _ (O : TotalOrder A cmp) (pos : 0 < p) (M : ℕ) (one : 1 ≤ M) (w : Work A) (h : Holds M w) where
-    pub added-holds : (f : List (Term A)) → Canonical cmp p f → held (w .buckets) + length f ≤ 4096 → held (w .buckets) + length f ≤ 4 ^ M → Holds M (added cmp p f w)
+    pub added-holds : (f : List (Term A)) → Canonical cmp p f → held (w .buckets) + length f ≤ mostTerms → held (w .buckets) + length f ≤ 4 ^ M → Holds M (added cmp p f w)
     added-holds f c small few =
         let a = adds cmp p O pos f (w .buckets) (let e : length f + held (w .buckets) ≤ room 4 (w .buckets) = omega (arith, room-six (w .buckets) (h .six)) in e) c (h .good) in
         let b = add-paid cmp p M one f (w .buckets) (let e : length f + held (w .buckets) ≤ 4 ^ M = omega arith in e) (good-fit 4 (w .buckets) (h .good)) (h .low) in
@@ -226,7 +227,7 @@ module _ {A : Type 0} (cmp : A → A → Ordering) (p : ℕ) where
 
   module _ (O : TotalOrder A cmp) (pos : 0 < p) where
     -- with M levels, which have room for n terms or for 4,096: no less is brought in in the end, and where that is up to n, all holds
-    performs : (M : ℕ) → 1 ≤ M → (n : ℕ) → ((k : ℕ) → k ≤ n → k ≤ 4096 → k ≤ 4 ^ M) → (es : List (Event A)) (w : Work A)
+    performs : (M : ℕ) → 1 ≤ M → (n : ℕ) → ((k : ℕ) → k ≤ n → k ≤ mostTerms → k ≤ 4 ^ M) → (es : List (Event A)) (w : Work A)
         → (length (w .brought) ≤ length (perform cmp p es w .brought)) × (Polynomials cmp p es → Holds M w → length (perform cmp p es w .brought) ≤ n → Ends M (perform cmp p es w))
     unfolding Polynomials
     performs M one n enough =

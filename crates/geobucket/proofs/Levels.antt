@@ -4,6 +4,7 @@ use Prim.Native.Nat.{ℕ, zero, suc, _+_, _^_, _<_, _≤_}
 use native.Mathlib.Decide.{decLe}
 use native.Mathlib.Omega.{arith}
 use borrow.Author.Tests.{le-leb, lt-leb}
+use Rattle.limits.specs.Limits.{mostTerms}
 use Rattle.geobucket.specs.Events.{levelFrom, levels}
 use Rattle.geobucket.proofs.Credit.{climbs}
 
@@ -11,7 +12,7 @@ pub record Level (n M : ℕ) : Type 0 where
   pub one : 1 ≤ M
   pub six : M ≤ 6
   -- no more terms can be held than the levels have room for; so n too, where it is up to 4,096
-  pub enough : (h : ℕ) → h ≤ n → h ≤ 4096 → h ≤ 4 ^ M
+  pub enough : (h : ℕ) → h ≤ n → h ≤ mostTerms → h ≤ 4 ^ M
   pub least : (m : ℕ) → 1 ≤ m → n ≤ 4 ^ m → M ≤ m
 
 level-from : (n more i : ℕ) → 1 ≤ i → i + more ≡ 6 → ((m : ℕ) → 1 ≤ m → n ≤ 4 ^ m → i ≤ m) → Level n (levelFrom more i n)

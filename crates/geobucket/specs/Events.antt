@@ -4,6 +4,7 @@ use mathlib.Core.Bool.{true, false}
 use mathlib.Core.List.{List, [], _∷_, _++_}
 use lib.Dec.{leb}
 use lib.ListN.{length}
+use Rattle.limits.specs.Limits.{mostTerms}
 use Rattle.polynomial.specs.Terms.{Term, Canonical}
 use Rattle.geobucket.specs.Buckets.{empty, held, add, addCompared, fullSum, sumCompared, emptied}
 use Rattle.geobucket.specs.Search.{Lead, none, lead, search, withLead}
@@ -45,7 +46,7 @@ module _ {A : Type 0} (cmp : A → A → Ordering) (p : ℕ) where
   -- "11: terms held + terms to add > 4,096": such an addition is refused, and ends the list
   unfoldable pub perform : List (Event A) → Work A → Work A
   perform [] w = w
-  perform (addition f ∷ es) w = elim (leb (held (w .buckets) + length f) 4096) [ true ↦ perform es (added f w) | false ↦ w ]
+  perform (addition f ∷ es) w = elim (leb (held (w .buckets) + length f) mostTerms) [ true ↦ perform es (added f w) | false ↦ w ]
   perform (removal ∷ es) w = perform es (removed w)
   perform (summation ∷ es) w = perform es (summed w)
   perform (finding ∷ es) w = left w

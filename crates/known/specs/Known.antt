@@ -9,7 +9,7 @@ use Rattle.monomial.specs.Exponents.{compareIn}
 use Rattle.monomial.specs.Layout.{wordOf}
 use Rattle.monomial.specs.Words.{compareWords}
 use Rattle.polynomial.specs.Terms.{Term, term}
-use Rattle.block.specs.declared.header.Setting.{Setting}
+use Rattle.polynomial.specs.declared.setting.Setting.{Setting}
 use Rattle.block.specs.Block.{numberAt, blocksOf}
 use Rattle.division.specs.Examples.{in-dp, dividend, by-x1x2, by-x2², by-x1, reducedIn7}
 use Rattle.geobucket.specs.Events.{Event, addition, removal, summation, start, perform, bound}

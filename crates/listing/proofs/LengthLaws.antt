@@ -3,7 +3,7 @@ use Prim.Native.Nat.{ℕ, zero, suc, _+_, _*_, _/_, _%_, _≤_, _<_}
 use native.Mathlib.Nat.{div-add-mod', mul-le-mul, mul-le-mul-right}
 use native.Mathlib.Decide.{decLe}
 use native.Mathlib.Omega.{arith}
-use mathlib.Core.Path.{_≡_, refl, ap, ap₂, _∙_}
+use mathlib.Core.Path.{_≡_, refl, ap, ap₂, _∙_, subst}
 use mathlib.Core.Bool.{Bool, true, false}
 use mathlib.Core.List.{List, [], _∷_, _++_, map}
 use mathlib.Core.Option.{Option, none, some}
@@ -11,6 +11,7 @@ use borrow.Author.Tests.{ne-eqb}
 use lib.Dec.{eqb}
 use lib.ListN.{length, take, drop, getD, replicate, length-append, length-map, length-take}
 use lib.Seq.{take-at}
+use Rattle.limits.specs.Limits.{bucketPlaces, largestPrime, listingBytes, scriptTerms, workPlaces}
 use Rattle.monomial.specs.declared.order.Order.{Order}
 use Rattle.monomial.specs.Exponents.{orderOf}
 use Rattle.monomial.specs.Words.{compareWords}
@@ -25,17 +26,16 @@ use Rattle.polynomial.proofs.OpeningLaws.{passes}
 use Rattle.polynomial.proofs.TermLists.{terms-of}
 use Rattle.geobucket.specs.Events.{levels, bound}
 use Rattle.geobucket.proofs.Levels.{levels-are}
-use Rattle.opening.specs.declared.refusal.Refusal.{Refusal}
-use Rattle.opening.specs.declared.refusal.Refusal.the-variants.{NotPrime, BadOrder, BadVariables, BadCoefficient, BadLayout, NotFalling, ZeroDivisor, BadShape, BadOperation, NoOutput, TooManyTerms, ExponentOver, StepLimit, NotBlocks, BadCheck, BadBlock, BadScript}
-use Rattle.opening.specs.Refusals.{numberOf, refusalNamed}
-use Rattle.opening.specs.Run.{Opened, runRefusal}
+use Rattle.opening.specs.Run.{runRefusal}
 use Rattle.opening.proofs.RunLaws.{opened}
-use Rattle.engine.specs.Runs.{Operation, adds, leads, sums, Running, begun, operationsOf}
-use Rattle.runs.specs.Outcome.{runOutcome, ranThrough, ended, decidedBy, answerBy, tallyOf}
+use Rattle.call.specs.Answers.{Outcome, decidedBy}
+use Rattle.call.specs.Places.{unlessZero, nonZero}
+use Rattle.engine.specs.Runs.{Operation, adds, leads, sums, Running, operationsOf}
+use Rattle.polynomial.specs.Settings.{settingOf}
+use Rattle.runs.specs.Outcome.{runOutcome, ranThrough, ended, tallyOf}
 use Rattle.runs.specs.Ending.{Ending, all-done, too-many-terms, no-place, no-places}
-use Rattle.runs.proofs.Follow.{all-addable}
-use Rattle.runs.proofs.Demands.{demand-1-operations, demand-3-bound}
-use Rattle.runs.specs.Demanded.{unlessZero, nonZero}
+use Rattle.runs.proofs.Follow.{all-polynomials, sound}
+use Rattle.runs.proofs.Demands.{outcome-is, demand-1-operations, demand-3-bound}
 use Rattle.text.specs.Bytes.{joined}
 use Rattle.text.specs.Numbers.{decimal}
 use Rattle.text.proofs.NumberLaws.{decimal-digit, decimal-more, decimal-some}
@@ -48,7 +48,8 @@ use Rattle.listing.specs.Listing.{exponentsText, termText, placeBy, plac
 use Rattle.listing.specs.Whole.{ranText, noTally, outcomeText, listingBy, listingOf}
 use Rattle.listing.proofs.WholeLaws.{operations-short}
 use Rattle.listing.proofs.SizeLaws.{Sizes, inside, sizes}
-use Rattle.listing.proofs.GivenLaws.{CoefsBelow, gives, gives-begun, script-adds}
+use Rattle.listing.proofs.GivenLaws.{CoefsBelow, gives, script-adds}
+use Rattle.listing.proofs.NeverFull.{opening-most}
 
 -- ---- numbers
 -- ten to the power k + 1
@@ -181,7 +182,7 @@ module _ (o : Order) (n : ℕ) where
       omega (arith, sum-most ts h, answers-most k ls us (small-drop (length (sumTerms ts) + 1) ts h), length-append (sumText o n ts) (answersText o n (pairsFrom k ls) us))
 
 -- ---- the last line, which the first three of the script pay for
-cost-most : (c b : ℕ) → c ≤ bound b → b ≤ 4096 → length (costText c b) ≤ 22
+cost-most : (c b : ℕ) → c ≤ bound b → b ≤ scriptTerms → length (costText c b) ≤ 22
 unfolding costText
 cost-most c b h l =
     let m : 6 * b * levels b ≤ 24576 * 6 = mul-le-mul (let z : 6 * b ≤ 24576 = omega arith in z) (levels-are b .six) in
@@ -194,29 +195,10 @@ cost-most c b h l =
       length-append (decimal (bound b)) (10 ∷ []),
     )
 
-refused-most : (number finished : ℕ) → number < 100 → finished < 100000 → length (refusedText number finished) ≤ 65536
+refused-most : (number finished : ℕ) → number < 100 → finished < 100000 → length (refusedText number finished) ≤ listingBytes
 unfolding refusedText
 refused-most number finished h l =
     omega (arith, decimal-long 1 number h, decimal-long 4 finished l, length-append (decimal number) (at-word ++ (decimal finished ++ (10 ∷ []))), length-append (decimal finished) (10 ∷ []))
-
-number-small : (r : Refusal) → numberOf r < 100
-number-small NotPrime = omega arith
-number-small BadOrder = omega arith
-number-small BadVariables = omega arith
-number-small BadCoefficient = omega arith
-number-small BadLayout = omega arith
-number-small NotFalling = omega arith
-number-small ZeroDivisor = omega arith
-number-small BadShape = omega arith
-number-small BadOperation = omega arith
-number-small NoOutput = omega arith
-number-small TooManyTerms = omega arith
-number-small ExponentOver = omega arith
-number-small StepLimit = omega arith
-number-small NotBlocks = omega arith
-number-small BadCheck = omega arith
-number-small BadBlock = omega arith
-number-small BadScript = omega arith
 
 finished-most : {places before : ℕ} {os : List Operation} {t : Running} → Ending places before os t → t .finished ≤ before + length os
 finished-most (all-done z e) = omega (arith, e)
@@ -224,8 +206,14 @@ finished-most (too-many-terms done rest f e n h z) = omega (arith, n, ap length 
 finished-most (no-place done rest e n h z) = omega (arith, n, ap length e, length-append done (leads ∷ rest))
 finished-most (no-places done rest e n h z) = omega (arith, n, ap length e, length-append done (sums ∷ rest))
 
+stop-most : {places before : ℕ} {os : List Operation} {t : Running} → Ending places before os t → t .stop ≤ 11
+stop-most (all-done z e) = omega (arith, z)
+stop-most (too-many-terms done rest f e n h z) = omega (arith, z)
+stop-most (no-place done rest e n h z) = omega (arith, z)
+stop-most (no-places done rest e n h z) = omega (arith, z)
+
 -- ---- the listing
-below-small : (p : ℕ) (ts : List (Term ℕ)) → p ≤ 65521 → CoefsBelow p ts → Small ts
+below-small : (p : ℕ) (ts : List (Term ℕ)) → p ≤ largestPrime → CoefsBelow p ts → Small ts
 below-small p [] l h = tt
 below-small p (t ∷ ts) l h = ((let z : t .coef < 65536 = omega (arith, h .0) in z), below-small p ts l (h .1))
 
@@ -234,55 +222,64 @@ written-back ts ow oc = ap₂ terms (take-at (T.words ts) ow (length ts) (length
 
 module _ (s : Script) (g : GoodScript s) (z : Sizes s) (bw bc ww wc ow oc : List ℕ) where
   abbrev last : Running
-  last = ranThrough (s .prime) (orderNumber (s .order)) (wordsOf s) (coefsOf s) (startsOf s) (pairsOf s) (length ow)
+  last = ranThrough (settingOf (s .prime) (orderNumber (s .order)) (s .vars)) (wordsOf s) (coefsOf s) (startsOf s) (pairsOf s) (length ow)
 
-  done-most : Opened (s .prime) (orderNumber (s .order)) (s .vars) (wordsOf s) (coefsOf s) (startsOf s) (pairsOf s) (length bw) (length bc) (length ww) (length wc) (length ow) (length oc) → length (answersText (s .order) (s .vars) (pairsOf s) (last .output)) + length (costText (last .comparisons) (last .brought)) ≤ 65536
-  done-most o =
-      let order = orderOf (orderNumber (s .order)) in
+  abbrev refusal : ℕ
+  refusal = runRefusal (settingOf (s .prime) (orderNumber (s .order)) (s .vars)) (wordsOf s) (coefsOf s) (startsOf s) (pairsOf s) (length bw) (length bc) (length ww) (length wc) (length ow) (length oc)
+
+  done-most : refusal ≡ 0 → length (answersText (s .order) (s .vars) (pairsOf s) (last .output)) + length (costText (length (last .work .pairs)) (length (last .work .brought))) ≤ listingBytes
+  done-most e =
+      let number = orderNumber (s .order) in
+      let order = orderOf number in
       let cmp = compareWords order in
       let p = s .prime in
       let os = operationsOf (wordsOf s) (coefsOf s) (startsOf s) (pairsOf s) in
-      let addable = all-addable cmp p (wordsOf s) (coefsOf s) (startsOf s) (pairsOf s) (o .operations) (λ k h. passes order (s .vars) p _ (o .polynomials k (omega arith)) .0) in
-      let a = gives cmp p (words-order order) (let pos : 0 < p = omega (arith, o .prime .above) in pos) (length ow) os begun 0 addable (gives-begun cmp p) in
+      let o = opened (settingOf p number (s .vars)) (wordsOf s) (coefsOf s) (startsOf s) (pairsOf s) (length bw) (length bc) (length ww) (length wc) (length ow) (length oc) e in
+      let pos : 0 < p = omega (arith, o .prime .above) in
+      let all = all-polynomials cmp p (wordsOf s) (coefsOf s) (startsOf s) (pairsOf s) (o .operations) (λ k h. passes order (s .vars) p _ (o .polynomials k (omega arith)) .0) in
+      let a = gives cmp p (words-order order) pos (length ow) os all in
       let t = script-adds (wordsOf s) (coefsOf s) (startsOf s) 0 0 (s .lines) (λ j. ap (λ (i : ℕ). getD (startsOf s) i 0) (let q : 0 + j ≡ j = omega arith in q)) in
-      let few : length (nonZero (last .output)) ≤ length (entriesIn (s .lines)) = omega (arith, a .given, t) in
+      let few : length (nonZero (last .output)) ≤ length (entriesIn (s .lines)) = omega (arith, ap length (sound cmp p (words-order order) pos (length ow) os all .output-is), a .given, t) in
       let k : length (nonZero (last .output)) * most (s .vars) ≤ length (entriesIn (s .lines)) * most (s .vars) = mul-le-mul-right (most (s .vars)) few in
-      let b : last .brought ≤ 4096 = omega (arith, a .brought, t, z .terms) in
+      let b : length (last .work .brought) ≤ scriptTerms = omega (arith, a .brought, t, z .terms) in
+      let c : length (last .work .pairs) ≤ bound (length (last .work .brought)) = subst (λ (x : Outcome). x .tally .comparisons ≤ bound (x .tally .brought)) (outcome-is noTally (settingOf p number (s .vars)) (wordsOf s) (coefsOf s) (startsOf s) (pairsOf s) bw bc ww wc ow oc e) (demand-3-bound noTally (settingOf p number (s .vars)) (wordsOf s) (coefsOf s) (startsOf s) (pairsOf s) bw bc ww wc ow oc e) in
       omega (
         arith,
         answers-most (s .order) (s .vars) 0 (s .lines) (last .output) (below-small p (last .output) (o .limit) (a .below)),
         k,
         lines-pay (s .vars) (s .lines) (g .lines-good),
-        cost-most (last .comparisons) (last .brought) (demand-3-bound o (length ow)) b,
+        cost-most (length (last .work .pairs)) (length (last .work .brought)) c b,
         inside s,
         g .not-long,
       )
 
+  ended-so : Ending (length ow) 0 (operationsOf (wordsOf s) (coefsOf s) (startsOf s) (pairsOf s)) last
+  ended-so = demand-1-operations (settingOf (s .prime) (orderNumber (s .order)) (s .vars)) (wordsOf s) (coefsOf s) (startsOf s) (pairsOf s) (length ow)
+
   last-finished : last .finished < 100000
-  last-finished =
-      let e = demand-1-operations (s .prime) (orderNumber (s .order)) (wordsOf s) (coefsOf s) (startsOf s) (pairsOf s) (length ow) in
-      omega (arith, finished-most e, operations-short (wordsOf s) (coefsOf s) (startsOf s) (pairsOf s) .1, pairs-long 0 (s .lines), z .operations)
+  last-finished = omega (arith, finished-most ended-so, operations-short (wordsOf s) (coefsOf s) (startsOf s) (pairsOf s) .1, pairs-long 0 (s .lines), z .operations)
 
-  run-most : length (outcomeText (s .order) (s .vars) (pairsOf s) (runOutcome noTally (s .prime) (orderNumber (s .order)) (s .vars) (wordsOf s) (coefsOf s) (startsOf s) (pairsOf s) bw bc ww wc ow oc)) ≤ 65536
+  run-most : length (outcomeText (s .order) (s .vars) (pairsOf s) (runOutcome noTally (settingOf (s .prime) (orderNumber (s .order)) (s .vars)) (wordsOf s) (coefsOf s) (startsOf s) (pairsOf s) bw bc ww wc ow oc)) ≤ listingBytes
   unfolding ranText
-  run-most = go (runRefusal (s .prime) (orderNumber (s .order)) (s .vars) (wordsOf s) (coefsOf s) (startsOf s) (pairsOf s) (length bw) (length bc) (length ww) (length wc) (length ow) (length oc)) refl
+  run-most = go refusal refl
     where
-      ends : (b : Bool) → length (answersText (s .order) (s .vars) (pairsOf s) (last .output)) + length (costText (last .comparisons) (last .brought)) ≤ 65536
-          → length (ranText (s .order) (s .vars) (pairsOf s) (ended last ow oc .ow) (ended last ow oc .oc) (tallyOf last) (answerBy b (last .stop) (last .finished) (length (last .output)))) ≤ 65536
-      ends true h =
+      ends : (n : ℕ) → last .stop ≡ n → length (answersText (s .order) (s .vars) (pairsOf s) (last .output)) + length (costText (length (last .work .pairs)) (length (last .work .brought))) ≤ listingBytes
+          → length (ranText (s .order) (s .vars) (pairsOf s) (ended last ow oc .ow) (ended last ow oc .oc) (tallyOf last) (record { number = n; finished = last .finished; places = length (last .output) })) ≤ listingBytes
+      ends zero e h =
           let ts = last .output in
-          omega (arith, h, ap (λ (x : List (Term ℕ)). length (answersText (s .order) (s .vars) (pairsOf s) x ++ costText (last .comparisons) (last .brought))) (written-back ts (drop (length ts) ow) (drop (length ts) oc)), length-append (answersText (s .order) (s .vars) (pairsOf s) ts) (costText (last .comparisons) (last .brought)))
-      ends false h = refused-most (numberOf (refusalNamed (last .stop))) (last .finished) (number-small (refusalNamed (last .stop))) last-finished
+          let cost = costText (length (last .work .pairs)) (length (last .work .brought)) in
+          omega (arith, h, ap (λ (x : List (Term ℕ)). length (answersText (s .order) (s .vars) (pairsOf s) x ++ cost)) (written-back ts (drop (length ts) ow) (drop (length ts) oc)), length-append (answersText (s .order) (s .vars) (pairsOf s) ts) cost)
+      ends (suc n) e h = refused-most (suc n) (last .finished) (omega (arith, e, stop-most ended-so)) last-finished
 
-      go : (r : ℕ) → runRefusal (s .prime) (orderNumber (s .order)) (s .vars) (wordsOf s) (coefsOf s) (startsOf s) (pairsOf s) (length bw) (length bc) (length ww) (length wc) (length ow) (length oc) ≡ r → length (outcomeText (s .order) (s .vars) (pairsOf s) (decidedBy r noTally last bw bc ww wc ow oc)) ≤ 65536
-      go (suc r) e = refused-most (numberOf (refusalNamed (suc r))) 0 (number-small (refusalNamed (suc r))) (omega arith)
-      go zero e = ends (eqb (last .stop) 0) (done-most (opened (s .prime) (orderNumber (s .order)) (s .vars) (wordsOf s) (coefsOf s) (startsOf s) (pairsOf s) (length bw) (length bc) (length ww) (length wc) (length ow) (length oc) e))
+      go : (r : ℕ) → refusal ≡ r → length (outcomeText (s .order) (s .vars) (pairsOf s) (decidedBy r noTally (ended last ow oc) bw bc ww wc ow oc)) ≤ listingBytes
+      go (suc r) e = refused-most (suc r) 0 (omega (arith, e, opening-most (settingOf (s .prime) (orderNumber (s .order)) (s .vars)) (wordsOf s) (coefsOf s) (startsOf s) (pairsOf s) (length bw) (length bc) (length ww) (length wc) (length ow) (length oc))) (omega arith)
+      go zero e = ends (last .stop) refl (done-most e)
 
 -- 65,536 bytes are enough, whatever the script: nothing of a listing is cut off
-pub suffices : (s : List ℕ) → length (listingOf s) ≤ 65536
+pub suffices : (s : List ℕ) → length (listingOf s) ≤ listingBytes
 unfolding listingOf
 suffices s = go (scriptOf s) refl
   where
-    go : (x : Option Script) → scriptOf s ≡ x → length (listingBy x) ≤ 65536
+    go : (x : Option Script) → scriptOf s ≡ x → length (listingBy x) ≤ listingBytes
     go none e = refused-most 17 0 (omega arith) (omega arith)
-    go (some t) e = run-most t (text-read s t e .0) (sizes s t e) (replicate 5460 0) (replicate 5460 0) (replicate 8192 0) (replicate 8192 0) (replicate 4096 0) (replicate 4096 0)
+    go (some t) e = run-most t (text-read s t e .0) (sizes s t e) (replicate bucketPlaces 0) (replicate bucketPlaces 0) (replicate workPlaces 0) (replicate workPlaces 0) (replicate scriptTerms 0) (replicate scriptTerms 0)

@@ -1,13 +1,14 @@
 -- A script's run is refused at its opening or not at all: 10 and 11 cannot come from a script, whatever its bytes. Each term, each `lead` and each `sum` takes four bytes of the 16,384, and places written + terms held are never more than these. Assumes nothing.
 use Prim.Native.Nat.{ℕ, zero, suc, _+_, _-_, _*_, _≤_, Ordering}
 use native.Mathlib.Omega.{arith}
-use mathlib.Core.Path.{_≡_, refl, sym, ap, _∙_}
+use mathlib.Core.Path.{_≡_, refl, ap, _∙_}
 use mathlib.Core.Bool.{Bool, true, false, _&&_}
 use mathlib.Core.List.{List, [], _∷_, _++_}
 use mathlib.Core.Option.{Option, none, some}
-use borrow.Author.Tests.{le-leb, eq-eqb}
+use borrow.Author.Tests.{le-leb}
 use lib.ListN.{length, take, drop, getD, replicate, length-append, length-take}
 use lib.Dec.{leb, ltb}
+use Rattle.limits.specs.Limits.{bucketPlaces, largestPrime, mostTerms, scriptTerms, workPlaces, mostVariables}
 use Rattle.polynomial.specs.Terms.{Term, term, terms}
 use Rattle.monomial.specs.declared.order.Order.{Order}
 use Rattle.monomial.specs.Exponents.{orderOf}
@@ -20,16 +21,15 @@ use Rattle.geobucket.specs.Search.{seek, pass, search}
 use Rattle.geobucket.proofs.AddLaws.{carry-along, place-along}
 use Rattle.geobucket.proofs.SearchLaws.{seek-along, search-along}
 use Rattle.geobucket.proofs.SumLaws.{sum-size, emptied-held}
-use Rattle.engine.specs.Runs.{Operation, adds, leads, sums, Running, begun, operate, operateAll, added, taken, summed, addedBy, takenBy, summedBy, placeOf, polynomial, operationsOf}
-use Rattle.opening.specs.declared.refusal.Refusal.{Refusal}
-use Rattle.opening.specs.Refusals.{numberOf, refusalNamed}
+use Rattle.polynomial.specs.declared.setting.Setting.{Setting}
 use Rattle.opening.specs.Run.{unless, between, setting, shapeGood, operationsGood, refusalFrom, refusalAt, polynomialsRefusal, runRefusal}
-use Rattle.opening.proofs.RefusalLaws.{number-named}
 use Rattle.residue.specs.Prime.{isPrime}
-use Rattle.runs.specs.declared.Tally.{Tally}
-use Rattle.runs.specs.declared.Answer.{Answer}
-use Rattle.runs.specs.declared.Answer.the-variants.{Done, Refused}
-use Rattle.runs.specs.Outcome.{answerBy, decidedBy}
+use Rattle.call.specs.declared.answer.Tally.{Tally}
+use Rattle.call.specs.Answers.{Stated, decidedBy}
+use Rattle.call.specs.Lending.{polynomial}
+use Rattle.engine.specs.Runs.{adds, leads, sums, Running, begun, operate, operateAll, added, taken, summed, addedBy, takenBy, summedBy, placeOf, operationsOf}
+use Rattle.polynomial.specs.Settings.{settingOf}
+use Rattle.runs.specs.Outcome.{ranThrough, ended}
 use Rattle.runs.proofs.Follow.{all-on}
 use Rattle.script.specs.Grammar.{Line, addLine, leadLine, sumLine, Script, entriesText, linesText, GoodLines}
 use Rattle.script.specs.Reading.{scriptOf}
@@ -37,9 +37,9 @@ use Rattle.script.specs.Loading.{endsFrom, pairsFrom, orderNumber, wordsOf, coe
 use Rattle.script.proofs.Accepted.{text-read}
 use Rattle.script.proofs.FieldLaws.{entries-size}
 use Rattle.listing.specs.Listing.{answersText, costText, refusedText}
-use Rattle.listing.specs.Whole.{ranText, noTally, scriptOutcome, listingBy, listingOf}
+use Rattle.listing.specs.Whole.{ranBy, ranText, noTally, scriptOutcome, listingBy, listingOf}
 use Rattle.listing.proofs.SizeLaws.{inside}
-use Rattle.listing.proofs.WholeLaws.{terms-most}
+use Rattle.listing.proofs.WholeLaws.{terms-most, ran-some}
 
 -- ---- no operation makes terms
 module _ {A : Type 0} (cmp : A → A → Ordering) (p : ℕ) where
@@ -115,12 +115,9 @@ at-place (a ∷ l) (suc k) x xs e =
 
 -- ---- along the lines
 module _ (cmp : ℕ → ℕ → Ordering) (p places : ℕ) where
-  goes-on : (o : Operation) (os : List Operation) (t u : Running) → operate cmp p places o t ≡ u → u .stop ≡ 0 → operateAll cmp p places os u .stop ≡ 0 → operateAll cmp p places (o ∷ os) t .stop ≡ 0
-  goes-on o os t u is z r = ap (λ (x : Running). x .stop) (all-on cmp p places o os t (ap (λ (x : Running). x .stop) is ∙ z) ∙ ap (operateAll cmp p places os) is) ∙ r
-
-  module _ (few : places ≤ 4096) (words coefs starts : List ℕ) where
+  module _ (few : places ≤ scriptTerms) (words coefs starts : List ℕ) where
     -- with room for what the lines want beside the places written and the terms held, no operation is refused
-    never-stops : (ls : List Line) (k at : ℕ) (t : Running) → drop k starts ≡ at ∷ endsFrom at ls → t .stop ≡ 0 → length (t .output) + held (t .buckets) + wanted ls ≤ places → operateAll cmp p places (operationsOf words coefs starts (pairsFrom k ls)) t .stop ≡ 0
+    never-stops : (ls : List Line) (k at : ℕ) (t : Running) → drop k starts ≡ at ∷ endsFrom at ls → t .stop ≡ 0 → length (t .output) + held (t .work .buckets) + wanted ls ≤ places → operateAll cmp p places (operationsOf words coefs starts (pairsFrom k ls)) t .stop ≡ 0
     unfolding wanted endsFrom pairsFrom operationsOf operateAll operate
     never-stops [] k at t s z h = z
     never-stops (addLine ts ∷ ls) k at t s z h =
@@ -128,26 +125,26 @@ module _ (cmp : ℕ → ℕ → Ordering) (p places : ℕ) where
         let a = at-place starts k at ((at + length ts) ∷ endsFrom (at + length ts) ls) s in
         let b = at-place starts (k + 1) (at + length ts) (endsFrom (at + length ts) ls) (a .1) in
         let m : length f ≤ length ts = omega (arith, polynomial-most words coefs starts k, a .0, b .0) in
-        let fits : held (t .buckets) + length f ≤ 4096 = omega (arith, m, h, few) in
-        goes-on (adds f) (operationsOf words coefs starts (pairsFrom (k + 1) ls)) t (added cmp p f t) (ap (λ (b : Bool). addedBy cmp p b f t) (le-leb (held (t .buckets) + length f) 4096 fits)) refl
-        (never-stops ls (k + 1) (at + length ts) (added cmp p f t) (a .1) refl (omega (arith, m, h, add-held cmp p f (t .buckets))))
+        let fits : held (t .work .buckets) + length f ≤ mostTerms = omega (arith, m, h, few) in
+        ap (λ (x : Running). x .stop) (all-on cmp p places (adds f) (operationsOf words coefs starts (pairsFrom (k + 1) ls)) t (ap (λ (b : Bool). addedBy cmp p b f t) (le-leb (held (t .work .buckets) + length f) mostTerms fits)) z)
+        ∙ never-stops ls (k + 1) (at + length ts) (added cmp p f t) (a .1) z (omega (arith, m, h, add-held cmp p f (t .work .buckets)))
     never-stops (leadLine ∷ ls) k at t s z h =
         let fits : length (t .output) + 1 ≤ places = omega (arith, h) in
-        goes-on leads (operationsOf words coefs starts (pairsFrom k ls)) t (taken cmp p t) (ap (λ (b : Bool). takenBy cmp p b t) (le-leb (length (t .output) + 1) places fits)) refl
-        (never-stops ls k at (taken cmp p t) s refl (omega (arith, h, search-held cmp p (t .buckets), length-append (t .output) (placeOf (search cmp p (t .buckets) .answer) ∷ []))))
+        ap (λ (x : Running). x .stop) (all-on cmp p places leads (operationsOf words coefs starts (pairsFrom k ls)) t (ap (λ (b : Bool). takenBy cmp p b t) (le-leb (length (t .output) + 1) places fits)) z)
+        ∙ never-stops ls k at (taken cmp p t) s z (omega (arith, h, search-held cmp p (t .work .buckets), length-append (t .output) (placeOf (search cmp p (t .work .buckets) .answer) ∷ [])))
     never-stops (sumLine ∷ ls) k at t s z h =
-        let fits : length (t .output) + (held (t .buckets) + 1) ≤ places = omega (arith, h) in
-        let sum = fullSum cmp p (t .buckets) in
-        goes-on sums (operationsOf words coefs starts (pairsFrom k ls)) t (summed cmp p t) (ap (λ (b : Bool). summedBy cmp p b t) (le-leb (length (t .output) + (held (t .buckets) + 1)) places fits)) refl
-        (never-stops ls k at (summed cmp p t) s refl (omega (arith, h, sum-size cmp p [] (t .buckets), emptied-held (t .buckets), length-append (t .output) (sum ++ (term 0 0 ∷ [])), length-append sum (term 0 0 ∷ []))))
+        let fits : length (t .output) + (held (t .work .buckets) + 1) ≤ places = omega (arith, h) in
+        let sum = fullSum cmp p (t .work .buckets) in
+        ap (λ (x : Running). x .stop) (all-on cmp p places sums (operationsOf words coefs starts (pairsFrom k ls)) t (ap (λ (b : Bool). summedBy cmp p b t) (le-leb (length (t .output) + (held (t .work .buckets) + 1)) places fits)) z)
+        ∙ never-stops ls k at (summed cmp p t) s z (omega (arith, h, sum-size cmp p [] (t .work .buckets), emptied-held (t .work .buckets), length-append (t .output) (sum ++ (term 0 0 ∷ [])), length-append sum (term 0 0 ∷ [])))
 
 -- ---- the operations of a script are all done
-pub never-full : (bytes : List ℕ) (s : Script) → scriptOf bytes ≡ some s → (cmp : ℕ → ℕ → Ordering) (p : ℕ) → operateAll cmp p 4096 (operationsOf (wordsOf s) (coefsOf s) (startsOf s) (pairsOf s)) begun .stop ≡ 0
+pub never-full : (bytes : List ℕ) (s : Script) → scriptOf bytes ≡ some s → (cmp : ℕ → ℕ → Ordering) (p : ℕ) → operateAll cmp p scriptTerms (operationsOf (wordsOf s) (coefsOf s) (startsOf s) (pairsOf s)) begun .stop ≡ 0
 unfolding held
 never-full bytes s e cmp p =
     let g = text-read bytes s e .0 in
-    let room : wanted (s .lines) ≤ 4096 = omega (arith, lines-wanted (s .vars) (s .lines) (g .lines-good), inside s, g .not-long) in
-    never-stops cmp p 4096 (omega arith) (wordsOf s) (coefsOf s) (startsOf s) (s .lines) 0 0 begun refl refl (omega (arith, room))
+    let room : wanted (s .lines) ≤ scriptTerms = omega (arith, lines-wanted (s .vars) (s .lines) (g .lines-good), inside s, g .not-long) in
+    never-stops cmp p scriptTerms (omega arith) (wordsOf s) (coefsOf s) (startsOf s) (s .lines) 0 0 begun refl refl (omega (arith, room))
 
 -- ---- an opening refusal is one of 1 to 9
 first-most : (a b : ℕ) → a ≤ 9 → b ≤ 9 → first a b ≤ 9
@@ -177,69 +174,69 @@ module _ (o : Order) (n p : ℕ) where
   unfolding refusalOf
   polynomial-refused-most ts = first-most (termsRefusal o n p ts) (orderBy (fall (compareWords o) ts)) (terms-refused-most ts) (order-most (fall (compareWords o) ts))
 
-  from-most : (words coefs starts : List ℕ) (more k : ℕ) → refusalFrom o n p words coefs starts more k ≤ 9
+module _ (t : Setting) where
+  from-most : (words coefs starts : List ℕ) (more k : ℕ) → refusalFrom t words coefs starts more k ≤ 9
   unfolding refusalFrom
   from-most words coefs starts zero k = omega arith
   from-most words coefs starts (suc more) k =
-      first-most (refusalAt o n p words coefs starts k) (refusalFrom o n p words coefs starts more (k + 1)) (polynomial-refused-most (polynomial words coefs starts k)) (from-most words coefs starts more (k + 1))
+      first-most (refusalAt t words coefs starts k) (refusalFrom t words coefs starts more (k + 1)) (polynomial-refused-most (orderOf (t .order)) (t .n) (t .p) (polynomial words coefs starts k)) (from-most words coefs starts more (k + 1))
 
-opening-most : (p order n : ℕ) (words coefs starts ops : List ℕ) (bw bc ww wc ow oc : ℕ) → runRefusal p order n words coefs starts ops bw bc ww wc ow oc ≤ 9
-unfolding runRefusal setting
-opening-most p order n words coefs starts ops bw bc ww wc ow oc =
-    let one = unless (isPrime p && leb p 65521) 1 in
-    let two = unless (between 1 3 order) 2 in
-    let three = unless (between 1 6 n) 3 in
-    let shape = shapeGood (length words) (length coefs) starts (length ops) bw bc ww wc ow oc in
-    let good = operationsGood ops (length starts - 1) in
-    let last = polynomialsRefusal (orderOf order) n p words coefs starts in
-    first-most (first one (first two three)) (first (unless shape 8) (first (unless good 9) last))
-    (first-most one (first two three) (unless-most (isPrime p && leb p 65521) 1 (omega arith)) (first-most two three (unless-most (between 1 3 order) 2 (omega arith)) (unless-most (between 1 6 n) 3 (omega arith))))
-    (first-most (unless shape 8) (first (unless good 9) last) (unless-most shape 8 (omega arith)) (first-most (unless good 9) last (unless-most good 9 (omega arith)) (from-most (orderOf order) n p words coefs starts (length starts - 1) 0)))
+  pub opening-most : (words coefs starts ops : List ℕ) (bw bc ww wc ow oc : ℕ) → runRefusal t words coefs starts ops bw bc ww wc ow oc ≤ 9
+  unfolding runRefusal setting
+  opening-most words coefs starts ops bw bc ww wc ow oc =
+      let one = unless (isPrime (t .p) && leb (t .p) largestPrime) 1 in
+      let two = unless (between 1 3 (t .order)) 2 in
+      let three = unless (between 1 mostVariables (t .n)) 3 in
+      let shape = shapeGood (length words) (length coefs) starts (length ops) bw bc ww wc ow oc in
+      let good = operationsGood ops (length starts - 1) in
+      let last = polynomialsRefusal t words coefs starts in
+      first-most (first one (first two three)) (first (unless shape 8) (first (unless good 9) last))
+      (first-most one (first two three) (unless-most (isPrime (t .p) && leb (t .p) largestPrime) 1 (omega arith)) (first-most two three (unless-most (between 1 3 (t .order)) 2 (omega arith)) (unless-most (between 1 mostVariables (t .n)) 3 (omega arith))))
+      (first-most (unless shape 8) (first (unless good 9) last) (unless-most shape 8 (omega arith)) (first-most (unless good 9) last (unless-most good 9 (omega arith)) (from-most words coefs starts (length starts - 1) 0)))
 
 -- ---- a refusal, where all operations are done, is the opening's
-opening-alone : (refusal : ℕ) (tally : Tally) (t : Running) (bw bc ww wc ow oc : List ℕ) → refusal ≤ 9 → t .stop ≡ 0 → (r : Refusal) (finished : ℕ) → decidedBy refusal tally t bw bc ww wc ow oc .answer ≡ Refused r finished → (numberOf r ≤ 9) × (finished ≡ 0)
-opening-alone zero tally t bw bc ww wc ow oc h z r finished e =
-    let d : Done (t .finished) (length (t .output)) ≡ Refused r finished = ap (λ (b : Bool). answerBy b (t .stop) (t .finished) (length (t .output))) (sym (eq-eqb (t .stop) 0 z)) ∙ e in
-    absurd (let y : _≡_ {A = ℕ} 0 1 = cc in let w : ⊥ = omega arith in w)
-opening-alone (suc n) tally t bw bc ww wc ow oc h z r finished e =
-    let d : Refused (refusalNamed (suc n)) 0 ≡ Refused r finished = e in
-    let a : refusalNamed (suc n) ≡ r = cc in
-    let b : 0 ≡ finished = cc in
-    (omega (arith, sym (ap numberOf a) ∙ number-named (suc n) (omega arith) (omega (arith, h)), h), sym b)
+opening-alone : (refusal : ℕ) (tally : Tally) (t : Running) (bw bc ww wc ow oc : List ℕ) → refusal ≤ 9 → t .stop ≡ 0 → (let a : Stated = decidedBy refusal tally (ended t ow oc) bw bc ww wc ow oc .answer in (a .number ≤ 9) × ((a .number ≡ 0 → ⊥) → a .finished ≡ 0))
+opening-alone zero tally t bw bc ww wc ow oc h z = (omega (arith, z), λ some. absurd (some z))
+opening-alone (suc n) tally t bw bc ww wc ow oc h z = (h, λ some. refl)
 
 -- The run of an accepted script is refused by its opening checks, with one of 1 to 9 and no operation finished, or not at all.
-pub refused-at-opening : (bytes : List ℕ) (s : Script) → scriptOf bytes ≡ some s → (r : Refusal) (finished : ℕ) → scriptOutcome s .answer ≡ Refused r finished → (numberOf r ≤ 9) × (finished ≡ 0)
-refused-at-opening bytes s is r finished e =
-    opening-alone _ noTally _ (replicate 5460 0) (replicate 5460 0) (replicate 8192 0) (replicate 8192 0) (replicate 4096 0) (replicate 4096 0)
-    (opening-most (s .prime) (orderNumber (s .order)) (s .vars) (wordsOf s) (coefsOf s) (startsOf s) (pairsOf s) _ _ _ _ _ _)
-    (never-full bytes s is (compareWords (orderOf (orderNumber (s .order)))) (s .prime)) r finished e
+pub refused-at-opening : (bytes : List ℕ) (s : Script) → scriptOf bytes ≡ some s → (scriptOutcome s .answer .number ≤ 9) × ((scriptOutcome s .answer .number ≡ 0 → ⊥) → scriptOutcome s .answer .finished ≡ 0)
+refused-at-opening bytes s is =
+    let order = orderNumber (s .order) in
+    let l : ℕ → ℕ = λ n. length {A = ℕ} (replicate n 0) in
+    opening-alone (runRefusal (settingOf (s .prime) order (s .vars)) (wordsOf s) (coefsOf s) (startsOf s) (pairsOf s) (l bucketPlaces) (l bucketPlaces) (l workPlaces) (l workPlaces) (l scriptTerms) (l scriptTerms)) noTally (ranThrough (settingOf (s .prime) order (s .vars)) (wordsOf s) (coefsOf s) (startsOf s) (pairsOf s) (l scriptTerms)) (replicate bucketPlaces 0) (replicate bucketPlaces 0) (replicate workPlaces 0) (replicate workPlaces 0) (replicate scriptTerms 0) (replicate scriptTerms 0)
+    (opening-most (settingOf (s .prime) order (s .vars)) (wordsOf s) (coefsOf s) (startsOf s) (pairsOf s) (l bucketPlaces) (l bucketPlaces) (l workPlaces) (l workPlaces) (l scriptTerms) (l scriptTerms))
+    (never-full bytes s is (compareWords (orderOf order)) (s .prime))
 
 -- so neither with 10 nor with 11
-pub no-refusal-10-11 : (bytes : List ℕ) (s : Script) → scriptOf bytes ≡ some s → (r : Refusal) (finished : ℕ) → scriptOutcome s .answer ≡ Refused r finished → (numberOf r ≡ 10 → ⊥) × (numberOf r ≡ 11 → ⊥)
-no-refusal-10-11 bytes s is r finished e =
-    let h = refused-at-opening bytes s is r finished e .0 in
+pub no-refusal-10-11 : (bytes : List ℕ) (s : Script) → scriptOf bytes ≡ some s → (scriptOutcome s .answer .number ≡ 10 → ⊥) × (scriptOutcome s .answer .number ≡ 11 → ⊥)
+no-refusal-10-11 bytes s is =
+    let h = refused-at-opening bytes s is .0 in
     (λ q. let z : ⊥ = omega (arith, h, q) in z, λ q. let z : ⊥ = omega (arith, h, q) in z)
+
+-- the lines of all leads and sums, and the cost
+abbrev pub doneText : Script → List ℕ
+doneText s =
+    let r = scriptOutcome s in
+    answersText (s .order) (s .vars) (pairsOf s) (terms (take (r .answer .places) (r .ow)) (take (r .answer .places) (r .oc))) ++ costText (r .tally .comparisons) (r .tally .brought)
 
 -- ---- the listing of any bytes: not a script; or refused by an opening check; or the lines of all leads and sums, and the cost
 pub data Printed (bytes : List ℕ) : Type 0 where
   bad-script : scriptOf bytes ≡ none → listingOf bytes ≡ refusedText 17 0 → Printed bytes
-  refused : (r : Refusal) → numberOf r ≤ 9 → listingOf bytes ≡ refusedText (numberOf r) 0 → Printed bytes
-  done : (s : Script) → scriptOf bytes ≡ some s → (operations places : ℕ) → scriptOutcome s .answer ≡ Done operations places
-      → listingOf bytes ≡ answersText (s .order) (s .vars) (pairsOf s) (terms (take places (scriptOutcome s .ow)) (take places (scriptOutcome s .oc))) ++ costText (scriptOutcome s .tally .comparisons) (scriptOutcome s .tally .brought) → Printed bytes
+  refused : (number : ℕ) → (number ≡ 0 → ⊥) → number ≤ 9 → listingOf bytes ≡ refusedText number 0 → Printed bytes
+  done : (s : Script) → scriptOf bytes ≡ some s → scriptOutcome s .answer .number ≡ 0 → listingOf bytes ≡ doneText s → Printed bytes
 
 pub printed : (bytes : List ℕ) → Printed bytes
 unfolding listingOf ranText
 printed bytes = by (scriptOf bytes) refl
   where
-    text-is : (s : Script) → scriptOf bytes ≡ some s → (a : Answer) → scriptOutcome s .answer ≡ a → listingOf bytes ≡ ranText (s .order) (s .vars) (pairsOf s) (scriptOutcome s .ow) (scriptOutcome s .oc) (scriptOutcome s .tally) a
-    text-is s e a q = ap listingBy e ∙ ap (ranText (s .order) (s .vars) (pairsOf s) (scriptOutcome s .ow) (scriptOutcome s .oc) (scriptOutcome s .tally)) q
-
-    ran : (s : Script) → scriptOf bytes ≡ some s → (a : Answer) → scriptOutcome s .answer ≡ a → Printed bytes
-    ran s e (Done operations places) q = done s e operations places q (text-is s e (Done operations places) q)
-    ran s e (Refused r finished) q =
-        let h = refused-at-opening bytes s e r finished q in
-        refused r (h .0) (text-is s e (Refused r finished) q ∙ ap (refusedText (numberOf r)) (h .1))
+    ran : (s : Script) → scriptOf bytes ≡ some s → (number : ℕ) → scriptOutcome s .answer .number ≡ number → Printed bytes
+    ran s e zero q = done s e q (ap listingBy e ∙ ap (λ (n : ℕ). ranBy n (scriptOutcome s .answer .finished) (doneText s)) q)
+    ran s e (suc k) q =
+        let some : scriptOutcome s .answer .number ≡ 0 → ⊥ = λ z. let w : ⊥ = omega (arith, q, z) in w in
+        let h = refused-at-opening bytes s e in
+        refused (scriptOutcome s .answer .number) some (h .0) (ap listingBy e ∙ (ran-some (scriptOutcome s .answer .number) (scriptOutcome s .answer .finished) (doneText s) some ∙ ap (refusedText (scriptOutcome s .answer .number)) (h .1 some)))
 
     by : (x : Option Script) → scriptOf bytes ≡ x → Printed bytes
     by none e = bad-script e (ap listingBy e)
-    by (some s) e = ran s e (scriptOutcome s .answer) refl
+    by (some s) e = ran s e (scriptOutcome s .answer .number) refl

@@ -11,7 +11,7 @@ use lib.ListN.{length, take, getD, set, length-append}
 use lib.Seq.{sets, length-sets, take-suc, take-all, set-out}
 use Rattle.text.specs.Numbers.{decimal}
 use Rattle.text.proofs.NumberLaws.{decimal-digit, decimal-more}
-use Rattle.merge.proofs.Lists.{sets-append}
+use Rattle.merge_common.proofs.Lists.{sets-append}
 use Rattle.script.proofs.Prefix.{sets-out}
 use Rattle.listing.specs.Put.{Put}
 

@@ -6,6 +6,7 @@ use mathlib.Core.List.{List, [], _∷_, _++_, map}
 use mathlib.Core.Option.{Option, none, some}
 use lib.ListN.{length, take, drop, replicate, length-append, length-map, length-replicate}
 use lib.Seq.{sets, sets-eq, length-sets, take-at, length-take-le}
+use Rattle.limits.specs.Limits.{scriptNumbers, scriptTerms}
 use Rattle.monomial.specs.declared.order.Order.{Order}
 use Rattle.script.specs.declared.reader.Loaded.{Loaded}
 use Rattle.script.specs.declared.reader.Found.{Found}
@@ -46,9 +47,9 @@ ends-many at (leadLine ∷ ls) = omega (arith, ends-many at ls)
 ends-many at (sumLine ∷ ls) = omega (arith, ends-many at ls)
 
 pub record Sizes (s : Script) : Type 0 where
-  pub terms : length (entriesIn (s .lines)) ≤ 4096
-  pub polynomials : length (endsFrom 0 (s .lines)) ≤ 4096
-  pub operations : length (s .lines) ≤ 4096
+  pub terms : length (entriesIn (s .lines)) ≤ scriptTerms
+  pub polynomials : length (endsFrom 0 (s .lines)) ≤ scriptTerms
+  pub operations : length (s .lines) ≤ scriptTerms
 
 -- six bytes of the first line stand before the others
 pub inside : (s : Script) → 6 + length (linesText (s .lines)) ≤ length (scriptText s)
@@ -78,17 +79,17 @@ pub record Read (s : List ℕ) (l : Loaded) (words coefs starts ops : List ℕ) 
   pub script : Script
   pub is : scriptOf s ≡ some script
   pub loaded : l ≡ loadedOf script
-  pub terms-in : l .counts .terms ≤ 4096
+  pub terms-in : l .counts .terms ≤ scriptTerms
   pub starts-in : l .counts .polynomials + 1 ≤ 4097
-  pub pairs-in : 2 * l .counts .operations ≤ 8192
+  pub pairs-in : 2 * l .counts .operations ≤ scriptNumbers
   pub words-are : take (l .counts .terms) words ≡ wordsOf script
   pub coefs-are : take (l .counts .terms) coefs ≡ coefsOf script
   pub starts-are : take (l .counts .polynomials + 1) starts ≡ startsOf script
   pub pairs-are : take (2 * l .counts .operations) ops ≡ pairsOf script
-  pub words-long : length words ≡ 4096
-  pub coefs-long : length coefs ≡ 4096
+  pub words-long : length words ≡ scriptTerms
+  pub coefs-long : length coefs ≡ scriptTerms
   pub starts-long : length starts ≡ 4097
-  pub ops-long : length ops ≡ 8192
+  pub ops-long : length ops ≡ scriptNumbers
 
 module _ {s words₀ coefs₀ starts₀ ops₀ words coefs starts ops : List ℕ} {r : Found} (d : ReadScript s words₀ coefs₀ starts₀ ops₀ words coefs starts ops r) where
   pub bad-listing : r ≡ Found·Bad → {out out' : List ℕ} {k : ℕ} → Put (refusedText 17 0) 0 out out' k → Put (listingOf s) 0 out out' k
@@ -99,7 +100,7 @@ module _ {s words₀ coefs₀ starts₀ ops₀ words coefs starts ops : List ℕ
       go none q = refl
       go (some t) q = absurd (let y : r ≡ Found·Script (loadedOf t) = q .0 in let z : _≡_ {A = ℕ} 0 1 = cc in let w : ⊥ = omega arith in w)
 
-  pub good-read : length words₀ ≡ 4096 → length coefs₀ ≡ 4096 → length starts₀ ≡ 4097 → length ops₀ ≡ 8192 → (l : Loaded) → r ≡ Found·Script l → Read s l words coefs starts ops
+  pub good-read : length words₀ ≡ scriptTerms → length coefs₀ ≡ scriptTerms → length starts₀ ≡ 4097 → length ops₀ ≡ scriptNumbers → (l : Loaded) → r ≡ Found·Script l → Read s l words coefs starts ops
   good-read lw lc lt lo l e = go (scriptOf s) refl (d .is)
     where
       go : (x : Option Script) → scriptOf s ≡ x → ScriptAs x words₀ coefs₀ starts₀ ops₀ words coefs starts ops r → Read s l words coefs starts ops
@@ -115,10 +116,10 @@ module _ {s words₀ coefs₀ starts₀ ops₀ words coefs starts ops : List ℕ
             terms-in = z .terms;
             starts-in = omega (arith, z .polynomials);
             pairs-in = omega (arith, z .operations);
-            words-are = taken-back 4096 (length (entriesIn (t .lines))) words₀ words (wordsOf t) lw (q .1) (length-map (entriesIn (t .lines)) (entryWord (t .order))) (z .terms);
-            coefs-are = taken-back 4096 (length (entriesIn (t .lines))) coefs₀ coefs (coefsOf t) lc (q .2) (length-map (entriesIn (t .lines)) entryCoef) (z .terms);
+            words-are = taken-back scriptTerms (length (entriesIn (t .lines))) words₀ words (wordsOf t) lw (q .1) (length-map (entriesIn (t .lines)) (entryWord (t .order))) (z .terms);
+            coefs-are = taken-back scriptTerms (length (entriesIn (t .lines))) coefs₀ coefs (coefsOf t) lc (q .2) (length-map (entriesIn (t .lines)) entryCoef) (z .terms);
             starts-are = taken-back 4097 (length (endsFrom 0 (t .lines)) + 1) starts₀ starts (startsOf t) lt (q .3) (omega arith) (omega (arith, z .polynomials));
-            pairs-are = taken-back 8192 (2 * length (t .lines)) ops₀ ops (pairsOf t) lo (q .4) (pairs-long 0 (t .lines)) (omega (arith, z .operations));
+            pairs-are = taken-back scriptNumbers (2 * length (t .lines)) ops₀ ops (pairsOf t) lo (q .4) (pairs-long 0 (t .lines)) (omega (arith, z .operations));
             words-long = ap length (q .1) ∙ (length-sets words₀ 0 (wordsOf t) ∙ lw);
             coefs-long = ap length (q .2) ∙ (length-sets coefs₀ 0 (coefsOf t) ∙ lc);
             starts-long = ap length (q .3) ∙ (length-sets starts₀ 0 (startsOf t) ∙ lt);

@@ -2,17 +2,23 @@
 use crate::answers::put_answers;
 use crate::ending::put_cost;
 use crate::ending::put_refused;
+use call::answer::Answer;
+use call::answer::Tally;
+use limits::BUCKET_PLACES;
+use limits::SCRIPT_NUMBERS;
+use limits::SCRIPT_TERMS;
+use limits::WORK_PLACES;
 use monomial::order::Order;
 use monomial::order::order_of;
-use opening::refusal::number_of;
-use runs::Answer;
-use runs::Tally;
+use refusal::number_of;
 use runs::run;
 use script::reader::Found;
 use script::reader::Loaded;
 use script::reader::read_script;
 ghost use Prim.Native.Nat.{_≤_};
 ghost use lib.ListN.{length};
+ghost use Rattle.limits.specs.Limits.{scriptNumbers, scriptTerms};
+ghost use Rattle.call.specs.Answers.{stated};
 ghost use Rattle.listing.specs.Put.{Put};
 ghost use Rattle.listing.specs.Whole.{ranText, RanRoom, loadedText, listingOf};
 
@@ -27,19 +33,23 @@ fn put_ran(
     oc: &[u32],
     out: &mut [u8],
 ) -> usize
-    requires { ⌜ RanRoom tally answer (length (now ow)) (length (now oc)) ⌝ }
-    ensures { λ r. ⌜ Put (ranText order n (now (ops .entry)) (now (ow .entry)) (now (oc .entry)) tally answer) 0 (now (out .entry)) (now (out .exit)) r ⌝ }
+    requires { ⌜ RanRoom tally (stated answer) (length (now ow)) (length (now oc)) ⌝ }
+    ensures { λ r. ⌜ Put (ranText order n (now (ops .entry)) (now (ow .entry)) (now (oc .entry)) tally (stated answer)) 0 (now (out .entry)) (now (out .exit)) r ⌝ }
 {
     match answer {
         Answer::Done {
-            operations: _,
+            finished: _,
             places,
         } => {
             let m = places as usize;
             let at = put_answers(order, n, ops, &ow[..m], &oc[..m], out);
             put_cost(tally.comparisons, tally.brought, out, at)
         }
-        Answer::Refused { refusal, finished } => put_refused(number_of(refusal), finished, out, 0),
+        Answer::Refused {
+            refusal,
+            finished,
+            places: _,
+        } => put_refused(number_of(refusal), finished, out, 0),
     }
 }
 
@@ -52,15 +62,15 @@ fn list_run<'a>(
     ops: &[usize],
     out: &mut [u8],
 ) -> usize
-    requires { ⌜ (length (now words) ≤ 4096) × (length (now ops) ≤ 8192) ⌝ }
+    requires { ⌜ (length (now words) ≤ scriptTerms) × (length (now ops) ≤ scriptNumbers) ⌝ }
     ensures { λ r. ⌜ Put (loadedText l (now (words .entry)) (now (coefs .entry)) (now (starts .entry)) (now (ops .entry))) 0 (now (out .entry)) (now (out .exit)) r ⌝ }
 {
-    let mut bw = [0u64; 5460];
-    let mut bc = [0u32; 5460];
-    let mut ww = [0u64; 8192];
-    let mut wc = [0u32; 8192];
-    let mut ow = [0u64; 4096];
-    let mut oc = [0u32; 4096];
+    let mut bw = [0u64; BUCKET_PLACES];
+    let mut bc = [0u32; BUCKET_PLACES];
+    let mut ww = [0u64; WORK_PLACES];
+    let mut wc = [0u32; WORK_PLACES];
+    let mut ow = [0u64; SCRIPT_TERMS];
+    let mut oc = [0u32; SCRIPT_TERMS];
     let none = Tally {
         comparisons: 0,
         brought: 0,
@@ -92,10 +102,10 @@ fn list_run<'a>(
 pub fn put_listing(script: &[u8], out: &mut [u8]) -> usize
     ensures { λ r. ⌜ Put (listingOf (now (script .entry))) 0 (now (out .entry)) (now (out .exit)) r ⌝ }
 {
-    let mut words = [0u64; 4096];
-    let mut coefs = [0u32; 4096];
+    let mut words = [0u64; SCRIPT_TERMS];
+    let mut coefs = [0u32; SCRIPT_TERMS];
     let mut starts = [0usize; 4097];
-    let mut ops = [0usize; 8192];
+    let mut ops = [0usize; SCRIPT_NUMBERS];
     let found = read_script(script, &mut words, &mut coefs, &mut starts, &mut ops);
     match found {
         Found::Script(l) => {

@@ -1,17 +1,17 @@
 // The merges for the order dp. There is a crate for each order, so that no turn of a loop asks for the
 // order; the three differ in the order's name alone.
-use merge::copy::move_coefs;
-use merge::copy::move_words;
-use merge::copy::put_coefs;
-use merge::copy::put_words;
-use merge::copy::rest_coefs;
-use merge::copy::rest_words;
-use merge::merging::Merged;
-use merge::merging::choose_coef;
-use merge::merging::choose_word;
-use merge::merging::larger;
-use merge::merging::like;
-use merge::merging::not_zero;
+use merge_common::copy::move_coefs;
+use merge_common::copy::move_words;
+use merge_common::copy::put_coefs;
+use merge_common::copy::put_words;
+use merge_common::copy::rest_coefs;
+use merge_common::copy::rest_words;
+use merge_common::merging::Merged;
+use merge_common::merging::choose_coef;
+use merge_common::merging::choose_word;
+use merge_common::merging::larger;
+use merge_common::merging::like;
+use merge_common::merging::not_zero;
 use monomial::order::Order;
 use residue::arithmetic::add;
 ghost use mathlib.Core.Path.{_≡_};
@@ -20,8 +20,8 @@ ghost use Rattle.monomial.specs.declared.order.Order.the-variants.{DegRevLex};
 ghost use Rattle.monomial.specs.Words.{compareWords};
 ghost use Rattle.polynomial.specs.Terms.{terms};
 ghost use Rattle.polynomial.specs.Opening.{isLarger};
-ghost use Rattle.merge.specs.Lent.{flag, part};
-ghost use Rattle.merge.specs.Merging.{Sides, Within, Made};
+ghost use Rattle.merge_common.specs.Lent.{flag, part};
+ghost use Rattle.merge_common.specs.Merging.{Sides, Within, Made};
 
 // The merge by flags: x is larger for l, y is for m, and the two are like for e.
 pub fn by_flags<'a>(

@@ -12,10 +12,10 @@ use Rattle.monomial.specs.declared.order.Order.{Order}
 use Rattle.monomial.specs.Words.{compareWords}
 use Rattle.polynomial.specs.Terms.{Term, terms, words, coefs}
 use Rattle.polynomial.specs.Merge.{merge, mergeCount}
-use Rattle.merge.specs.Lent.{restOf, part, flag, chosen}
-use Rattle.merge.proofs.Lists.{rest-left, rest-right, part-from, length-part, getD-part, getD-sets-other}
-use Rattle.merge.proofs.State.{used-up, rest-words, rest-coefs, end-length, end-count}
-use Rattle.merge.proofs.Turns.{Going, going-start, Flags, addends, turn-by-flags}
+use Rattle.merge_common.specs.Lent.{restOf, part, flag, chosen}
+use Rattle.merge_common.proofs.Lists.{rest-left, rest-right, part-from, length-part, getD-part, getD-sets-other}
+use Rattle.merge_common.proofs.State.{used-up, rest-words, rest-coefs, end-length, end-count}
+use Rattle.merge_common.proofs.Turns.{Going, going-start, Flags, addends, turn-by-flags}
 use Rattle.merge_in.specs.declared.in_place.Placed.{Placed}
 use Rattle.merge_in.specs.Placing.{Into, PlacedIn}
 use Rattle.merge_in.proofs.ReadBack.{put-read, gap-read}

@@ -8,8 +8,8 @@ use native.Mathlib.Omega.{arith}
 use lib.ListN.{length, set, getD, length-set, length-map, length-append, List·getD-append}
 use lib.Seq.{sets, length-sets, ext-getD, getD-set-same, getD-append-add}
 use Rattle.polynomial.specs.Terms.{Term}
-use Rattle.merge.specs.Lent.{part}
-use Rattle.merge.proofs.Lists.{sets-append, getD-sets-other, length-part, getD-part}
+use Rattle.merge_common.specs.Lent.{part}
+use Rattle.merge_common.proofs.Lists.{sets-append, getD-sets-other, length-part, getD-part}
 
 -- what is put is read
 pub getD-sets : (l : List ℕ) (to : ℕ) (vs : List ℕ) (t : ℕ) → to + length vs ≤ length l → t < length vs → getD (sets l to vs) (to + t) 0 ≡ getD vs t 0

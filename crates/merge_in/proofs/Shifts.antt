@@ -7,8 +7,8 @@ use native.Mathlib.Nat.{le-of-eq}
 use native.Mathlib.Omega.{arith}
 use lib.ListN.{length, take, drop, set, getD, length-set, drop-of-length-le, take-append-drop}
 use lib.Seq.{sets, sets-eq, set-comm, drop-cons, drop-drop}
-use Rattle.merge.specs.Lent.{part}
-use Rattle.merge.proofs.Lists.{getD-sets-other, length-part, getD-part}
+use Rattle.merge_common.specs.Lent.{part}
+use Rattle.merge_common.proofs.Lists.{getD-sets-other, length-part, getD-part}
 
 -- a store in front of a run of places
 set-sets : (l : List ℕ) (j : ℕ) (vs : List ℕ) (i v : ℕ) → i < j → set (sets l j vs) i v ≡ sets (set l i v) j vs

@@ -7,7 +7,7 @@ use lib.ListN.{length, getD}
 use Rattle.residue.specs.Modular.{Modulus}
 use Rattle.polynomial.specs.Terms.{Term, terms, words, coefs}
 use Rattle.polynomial.specs.Merge.{merge, mergeCount}
-use Rattle.merge.specs.Lent.{Poly, part}
+use Rattle.merge_common.specs.Lent.{Poly, part}
 use Rattle.merge_in.specs.declared.in_place.Placed.{Placed}
 
 -- a lent polynomial f, and one at places h up to e of a space, with as many places in front of it as f has terms

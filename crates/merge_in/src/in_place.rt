@@ -7,7 +7,7 @@ ghost use Prim.Native.Nat.{_-_};
 ghost use lib.ListN.{length};
 ghost use Rattle.monomial.specs.Words.{compareWords};
 ghost use Rattle.polynomial.specs.Terms.{terms};
-ghost use Rattle.merge.specs.Lent.{part};
+ghost use Rattle.merge_common.specs.Lent.{part};
 ghost use Rattle.merge_in.specs.Placing.{Into, PlacedIn};
 
 // Where a merge lies, and the comparisons.

@@ -2,13 +2,13 @@
 // for the order; the three differ in the order's name alone.
 use crate::in_place::Placed;
 use crate::shift::close_gap;
-use merge::copy::put_coefs;
-use merge::copy::put_words;
-use merge::merging::choose_coef;
-use merge::merging::choose_word;
-use merge::merging::larger;
-use merge::merging::like;
-use merge::merging::not_zero;
+use merge_common::copy::put_coefs;
+use merge_common::copy::put_words;
+use merge_common::merging::choose_coef;
+use merge_common::merging::choose_word;
+use merge_common::merging::larger;
+use merge_common::merging::like;
+use merge_common::merging::not_zero;
 use monomial::order::Order;
 use residue::arithmetic::add;
 ghost use mathlib.Core.Path.{_≡_};
@@ -18,7 +18,7 @@ ghost use Rattle.monomial.specs.declared.order.Order.the-variants.{Lex};
 ghost use Rattle.monomial.specs.Words.{compareWords};
 ghost use Rattle.polynomial.specs.Terms.{terms};
 ghost use Rattle.polynomial.specs.Opening.{isLarger};
-ghost use Rattle.merge.specs.Lent.{flag, part};
+ghost use Rattle.merge_common.specs.Lent.{flag, part};
 ghost use Rattle.merge_in.specs.Placing.{Into, PlacedIn};
 
 // The merge by flags: x is larger for l, y is for m, and the two are like for q. Once f is used up, the

@@ -3,7 +3,7 @@ ghost use mathlib.Core.Path.{_≡_};
 ghost use Prim.Native.Nat.{_+_, _-_, _≤_};
 ghost use lib.ListN.{length};
 ghost use lib.Seq.{sets};
-ghost use Rattle.merge.specs.Lent.{part};
+ghost use Rattle.merge_common.specs.Lent.{part};
 
 // Moves the terms at places `from` up to k so that they end at place j, and gives their new place.
 pub fn close_gap(sw: &mut [u64], sc: &mut [u32], from: usize, k: usize, j: usize) -> usize

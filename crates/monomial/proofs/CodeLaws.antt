@@ -1,30 +1,27 @@
 -- What the functions compute, on plain numbers: each law is a step of one of them. Assumes nothing.
-use mathlib.Core.Path.{_≡_, refl, sym, ap, ap₂, _∙_, subst}
-use mathlib.Core.Bool.{Bool, true, false, _&&_}
-use mathlib.Core.List.{List, [], _∷_, _++_, reverse, append-nil}
-use Prim.Native.Nat.{ℕ, zero, suc, _+_, _-_, _*_, _/_, _%_, _^_, _<_, _≤_, zero-le, compare, Ordering, Ordering·lt, Ordering·eq, Ordering·gt}
+use mathlib.Core.Path.{_≡_, refl, sym, ap, ap₂, _∙_}
+use mathlib.Core.Bool.{Bool, true, false}
+use mathlib.Core.List.{List, [], reverse}
+use Prim.Native.Nat.{ℕ, _+_, _-_, _*_, _/_, _%_, _^_, _<_, _≤_, zero-le, compare}
 use native.Mathlib.Nat.{mod-eq-of-lt, div-mul-le-self, div-add-mod', div-div-eq-div-mul, mul-le-mul}
 use native.Mathlib.Decide.{decLe}
 use native.Mathlib.Numerals.{add-one}
 use native.Mathlib.Omega.{arith}
 use borrow.Author.Tests.{eq-eqb, ne-eqb}
-use lib.Dec.{eqb, lit<, lit≤}
+use lib.Dec.{eqb, lit<}
 use lib.Bits.{bitAnd, bitXor, xor-block, xor-zero-r, xor-add-and, and-mask}
 use lib.Pow.{pow-mono}
-use lib.ListN.{length, getD, take, drop, set, length-set, take-append-drop}
-use lib.Seq.{take-suc, take-all, drop-cons, drop-length, append-snoc, set-at, length-take-le}
+use lib.ListN.{length, getD, take, drop, take-append-drop}
+use lib.Seq.{take-suc, take-all, length-take-le}
 use Rattle.monomial.specs.declared.order.Order.{Order}
 use Rattle.monomial.specs.declared.order.Order.the-variants.{Lex, DegLex, DegRevLex}
-use Rattle.monomial.specs.declared.order.Comparison.{Comparison}
 use Rattle.monomial.specs.declared.order.Comparison.the-variants.{Smaller, Same, Larger}
-use Rattle.monomial.specs.declared.word.Product.{Product}
-use Rattle.monomial.specs.declared.word.Product.the-variants.{Word, Over}
-use Rattle.monomial.specs.Exponents.{degree, orderBy, orderOf, product}
-use Rattle.monomial.specs.Layout.{bytes, ofBytes, six, upward, lowBit, wordOf, fields, exponents, Below, below, inLayout}
-use Rattle.monomial.specs.Words.{low, high, compareWords, keyOf, answer, Packed, dividesWord, productBy, productOf}
+use Rattle.monomial.specs.Exponents.{degree, orderBy, orderOf}
+use Rattle.monomial.specs.Layout.{bytes, ofBytes, six, upward, lowBit, wordOf, fields, below, inLayout}
+use Rattle.monomial.specs.Words.{low, high, compareWords, keyOf, answer, Packed, dividesWord}
 use Rattle.monomial.proofs.Comparing.{lt-compare, eq-compare, gt-compare}
 use Rattle.monomial.proofs.Places.{length-each, below-reverse, degree-append, degree-upward, degree-zeros, true-below, zeros}
-use Rattle.monomial.proofs.ByteLaws.{length-bytes, bytes-below, ofBytes-bytes, bytes-of, bytes-add, tops, tops-clear, tops-set, apart, apart-sum, apart-below, apart-full, full, ofBytes-drop, ofBytes-take, zero-bytes}
+use Rattle.monomial.proofs.ByteLaws.{length-bytes, bytes-below, ofBytes-bytes, bytes-of, tops, tops-clear, tops-set, apart, apart-sum, apart-below, apart-full, full, ofBytes-drop, ofBytes-take, zero-bytes}
 use Rattle.monomial.proofs.LayoutLaws.{below-fields}
 use Rattle.monomial.proofs.KeyLaws.{key-compare}
 use Rattle.monomial.proofs.FieldLaws.{pow-bytes, drop-reverse, word-more}
@@ -67,7 +64,7 @@ module _ (o : Order) (x y a b : ℕ) (hx : x < 2 ^ 64) (hy : y < 2 ^ 64) (ea : a
   pub is-same : a ≤ b → b ≤ a → Same ≡ answer (compareWords o x y)
   is-same h k = sym (ap answer (keyed ∙ eq-compare (let e : a ≡ b = omega arith in e)))
 
--- ---- divisibility and product
+-- ---- divisibility
 module _ (x y : ℕ) (hx : Packed x) (hy : Packed y) where
   long : length (bytes 6 x) ≡ length (bytes 6 y)
   long = length-bytes 6 x ∙ sym (length-bytes 6 y)
@@ -90,15 +87,6 @@ module _ (x y : ℕ) (hx : Packed x) (hy : Packed y) where
       ∙ (tops-set 6 (z + 256 ^ 6 * 0)
       ∙ (ap full (bytes-of 6 (apart (bytes 6 x) (bytes 6 y)) 0 (length-each (λ a b. a + 128 - b) (bytes 6 x) (bytes 6 y) long ∙ length-bytes 6 x) (apart-below (bytes 6 x) (bytes 6 y) (hx .tops)))
       ∙ apart-full (bytes 6 x) (bytes 6 y) long (hy .tops)))
-
-  sum-test : eqb (bitAnd (x + y) (tops 6)) 0 ≡ below 128 (product (bytes 6 x) (bytes 6 y))
-  sum-test = tops-clear 6 (x + y) ∙ ap (below 128) (bytes-add 6 x y (hx .tops) (hy .tops))
-
-  pub product-fits : bitAnd (x + y) (tops 6) ≡ 0 → Word (x + y) ≡ productOf x y
-  product-fits h = sym (ap (λ (t : Bool). productBy t (x + y)) (sym sum-test ∙ eq-eqb (bitAnd (x + y) (tops 6)) 0 h))
-
-  pub product-over : (bitAnd (x + y) (tops 6) ≡ 0 → ⊥) → Over ≡ productOf x y
-  product-over h = sym (ap (λ (t : Bool). productBy t (x + y)) (sym sum-test ∙ ne-eqb (bitAnd (x + y) (tops 6)) 0 h))
 
 -- ---- the layout
 pub lowest-zero : (x m : ℕ) → x < 2 ^ 64 → eqb (x / m * m % 2 ^ 64) x ≡ eqb (x % m) 0
@@ -179,28 +167,6 @@ moved e s h k =
     let p : 2 ^ s ≤ 2 ^ 40 = pow-mono k in
     let l : e * 2 ^ s ≤ 255 * 2 ^ 40 = mul-le-mul (let q : e ≤ 255 = omega arith in q) p in
     (mod-eq-of-lt (let m : e * 2 ^ s < 2 ^ 64 = omega arith in m), omega arith)
-
--- ---- a list filled from the front with what F has
-pub record Filled (F out₀ out : List ℕ) (i : ℕ) : Type 0 where
-  pub low : i ≤ length out₀
-  pub long : length out ≡ length out₀
-  pub is : out ≡ take i F ++ drop i out₀
-
-pub fill-more : (F out₀ out : List ℕ) (i v : ℕ) → Filled F out₀ out i → i < length out₀ → i < length F → v ≡ getD F i 0 → Filled F out₀ (set out i v) (i + 1)
-fill-more F out₀ out i v f h k e = record {
-  low = omega arith;
-  long = length-set out i v ∙ f .long;
-  is =
-      ap₂ (λ (l : List ℕ) (x : ℕ). set l i x) (f .is ∙ ap (λ (l : List ℕ). take i F ++ l) (drop-cons out₀ i 0 h)) e
-      ∙ (set-at (take i F) (getD out₀ i 0) (drop (suc i) out₀) (getD F i 0) i (length-take-le i F (let m : i ≤ length F = omega arith in m))
-      ∙ (sym (append-snoc (take i F) (getD F i 0) (drop (suc i) out₀))
-      ∙ (ap (λ (l : List ℕ). l ++ drop (suc i) out₀) (sym (take-suc F i 0 k)) ∙ ap (λ (n : ℕ). take n F ++ drop n out₀) (sym (add-one i)))));
-}
-
-pub fill-ends : (F out₀ out : List ℕ) (i : ℕ) → Filled F out₀ out i → length out₀ ≤ i → out ≡ take (length out₀) F
-fill-ends F out₀ out i f h =
-    let e : i ≡ length out₀ = omega (arith, f .low) in
-    f .is ∙ (ap (λ (n : ℕ). take n F ++ drop n out₀) e ∙ (ap (λ (l : List ℕ). take (length out₀) F ++ l) (drop-length out₀) ∙ append-nil (take (length out₀) F)))
 
 -- ---- the word of the first i exponents
 pub record Begun (o : Order) (α : List ℕ) (word i : ℕ) : Type 0 where

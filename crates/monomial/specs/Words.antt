@@ -1,15 +1,12 @@
--- What is done with words: comparison, divisibility, quotient and product, as operations on numbers. The theorems of `proofs/` say that on words of the layout they are those on exponents. Assumes nothing.
+-- What is done with words: comparison and divisibility, as operations on numbers. The theorems of `proofs/` say that on words of the layout they are those on exponents. Assumes nothing.
 use Prim.Native.Nat.{ℕ, _+_, _-_, _*_, _/_, _%_, _^_, _<_, compare, Ordering, Ordering·lt, Ordering·eq, Ordering·gt}
-use mathlib.Core.Bool.{Bool, true, false}
-use lib.Dec.{ltb}
+use mathlib.Core.Bool.{Bool}
 use Rattle.monomial.specs.declared.order.Order.{Order}
 use Rattle.monomial.specs.declared.order.Order.the-variants.{Lex, DegLex, DegRevLex}
 use Rattle.monomial.specs.declared.order.Comparison.{Comparison}
 use Rattle.monomial.specs.declared.order.Comparison.the-variants.{Smaller, Same, Larger}
-use Rattle.monomial.specs.declared.word.Product.{Product}
-use Rattle.monomial.specs.declared.word.Product.the-variants.{Word, Over}
-use Rattle.monomial.specs.Exponents.{orElse, divides, product}
-use Rattle.monomial.specs.Layout.{bytes, below, Below}
+use Rattle.monomial.specs.Exponents.{orElse, divides}
+use Rattle.monomial.specs.Layout.{bytes, Below}
 
 -- the six fields, and the degree above them
 abbrev pub low : ℕ → ℕ
@@ -43,11 +40,3 @@ pub record Packed (w : ℕ) : Type 0 where
 -- the word y divides the word x: no field of y is above that of x
 abbrev pub dividesWord : ℕ → ℕ → Bool
 dividesWord y x = divides (bytes 6 y) (bytes 6 x)
-
--- the product of two words, or that an exponent of it is over 127
-abbrev pub productBy : (fits : Bool) → ℕ → Product
-productBy true w = Word w
-productBy false w = Over
-
-abbrev pub productOf : ℕ → ℕ → Product
-productOf x y = productBy (below 128 (product (bytes 6 x) (bytes 6 y))) (x + y)

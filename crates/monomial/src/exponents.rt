@@ -1,9 +1,9 @@
-// The word of given exponents, and the exponents of a word.
+// The word of given exponents, and the exponents of a word, one by one.
 use crate::order::Order;
 ghost use mathlib.Core.Path.{_≡_};
 ghost use Prim.Native.Nat.{_≤_, _<_};
 ghost use lib.ListN.{length, getD};
-ghost use Rattle.monomial.specs.Layout.{lowBit, wordOf, fields, exponents};
+ghost use Rattle.monomial.specs.Layout.{lowBit, wordOf, fields};
 
 // The lowest bit of the field of variable i, from 0.
 fn low_bit(order: Order, i: u32) -> u32
@@ -23,18 +23,6 @@ pub fn exponent(order: Order, w: u64, i: u32) -> u8
     ensures { λ r. ⌜ r ≡ getD (fields order w) i 0 ⌝ }
 {
     ((w >> low_bit(order, i)) % 256) as u8
-}
-
-// Puts the exponents of the word w into out, as many as it has places.
-pub fn exponents_of(order: Order, w: u64, out: &mut [u8])
-    requires { ⌜ length (now out) ≤ 6 ⌝ }
-    ensures { λ _. ⌜ now (out .exit) ≡ exponents order (length (now (out .entry))) w ⌝ }
-{
-    let mut i = 0;
-    while i < out.len() {
-        out[i] = exponent(order, w, i as u32);
-        i += 1;
-    }
 }
 
 // The word of the monomial with these exponents. One over 127 makes a word outside the layout.

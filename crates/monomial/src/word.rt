@@ -1,16 +1,10 @@
-// Divisibility, quotient and product of monomials, by word arithmetic.
+// Divisibility and quotient of monomials, by word arithmetic.
 ghost use mathlib.Core.Path.{_≡_};
 ghost use Prim.Native.Nat.{_-_, _≤_};
-ghost use Rattle.monomial.specs.Words.{Packed, dividesWord, productOf};
+ghost use Rattle.monomial.specs.Words.{Packed, dividesWord};
 
 // The top bit of each of the six fields.
 pub const TOPS: u64 = 0x8080_8080_8080;
-
-// The product of two monomials, or that an exponent of it is over 127.
-pub enum Product {
-    Word(u64),
-    Over,
-}
 
 // Whether the monomial y divides x. With each field's top bit set in x and clear in y, no field
 // borrows from the next, and a top bit stays set exactly where the exponent of y is not above.
@@ -28,17 +22,4 @@ pub fn quotient(x: u64, y: u64) -> u64
     ensures { λ r. ⌜ r ≡ x - y ⌝ }
 {
     x - y
-}
-
-// The product: no field carries into the next, and one is over 127 where its top bit is set.
-pub fn multiply(x: u64, y: u64) -> Product
-    requires { ⌜ Packed x × Packed y ⌝ }
-    ensures { λ r. ⌜ r ≡ productOf x y ⌝ }
-{
-    let sum = x + y;
-    if sum & TOPS == 0 {
-        Product::Word(sum)
-    } else {
-        Product::Over
-    }
 }

@@ -19,9 +19,9 @@ use Rattle.monomial.specs.Words.{Packed}
 use Rattle.monomial.proofs.ByteLaws.{bytes-add, tops, tops-clear}
 use Rattle.polynomial.specs.Terms.{terms, words, coefs}
 use Rattle.polynomial.specs.Multiple.{multiple}
-use Rattle.merge.specs.Lent.{Poly}
+use Rattle.merge_common.specs.Lent.{Poly}
 use Rattle.multiple.specs.Multiplying.{AllPacked, anyOver, Multiplicands, Multiplied}
-use Rattle.merge.proofs.Steps.{coef-below}
+use Rattle.merge_common.proofs.Steps.{coef-below}
 
 -- ---- numbers below p
 pub below-at : (p : ℕ) (cs : List ℕ) (i : ℕ) → Below p cs → i < length cs → getD cs i 0 < p

@@ -12,7 +12,7 @@ use Rattle.monomial.specs.Layout.{bytes, below}
 use Rattle.monomial.specs.Words.{Packed}
 use Rattle.polynomial.specs.Terms.{terms, words, coefs}
 use Rattle.polynomial.specs.Multiple.{multiple}
-use Rattle.merge.specs.Lent.{Poly}
+use Rattle.merge_common.specs.Lent.{Poly}
 
 -- each word is fit for word arithmetic
 abbrev pub AllPacked : List ℕ → Type 0

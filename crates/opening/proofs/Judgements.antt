@@ -9,11 +9,11 @@ use native.Mathlib.Omega.{arith}
 use borrow.Author.Tests.{le-leb, lt-ltb, leb-true, ltb-true, eq-eqb, ne-eqb, eqb-true}
 use lib.Dec.{leb, eqb}
 use lib.ListN.{length}
+use Rattle.limits.specs.Limits.{largestPrime, mostVariables}
 use Rattle.residue.specs.Prime.{isPrime}
 use Rattle.residue.proofs.Primality.{prime-true, true-prime}
-use Rattle.monomial.specs.declared.order.Order.{Order}
-use Rattle.monomial.specs.Exponents.{orderOf}
 use Rattle.monomial.proofs.Places.{and-both}
+use Rattle.polynomial.specs.declared.setting.Setting.{Setting}
 use Rattle.polynomial.specs.Opening.{startsGood, first}
 use Rattle.opening.specs.Run.{unless, between, setting, lentGood, spaceGood, pairsGood, shapeGood, operationBy, operationGood, operationsGood, refusalAt, refusalFrom, polynomialsRefusal, runRefusal}
 use Rattle.opening.specs.Judgement.{GoodPrime, Between, GoodSetting, SettingRefused, refused-1, refused-2, refused-3, GoodLent, GoodShape, GoodOperation, GoodOperations, NoneRefused, FirstRefused, Judged, refused-setting, refused-8, refused-9, refused-polynomial, passed}
@@ -32,11 +32,11 @@ clash {b} e f = let z : _≡_ {A = ℕ} 0 1 = ap bit (sym e ∙ f) in let q : �
     bit true = 1
 
 -- ---- each test, and what it tests
-prime-good : (p : ℕ) → (isPrime p && leb p 65521) ≡ true → GoodPrime p
-prime-good p e = let b = and-both (isPrime p) (leb p 65521) e in (true-prime p (b .0), leb-true p 65521 (b .1))
+prime-good : (p : ℕ) → (isPrime p && leb p largestPrime) ≡ true → GoodPrime p
+prime-good p e = let b = and-both (isPrime p) (leb p largestPrime) e in (true-prime p (b .0), leb-true p largestPrime (b .1))
 
-good-prime : (p : ℕ) → GoodPrime p → (isPrime p && leb p 65521) ≡ true
-good-prime p g = both (isPrime p) (leb p 65521) (prime-true p (g .0)) (le-leb p 65521 (g .1))
+good-prime : (p : ℕ) → GoodPrime p → (isPrime p && leb p largestPrime) ≡ true
+good-prime p g = both (isPrime p) (leb p largestPrime) (prime-true p (g .0)) (le-leb p largestPrime (g .1))
 
 between-good : (low high x : ℕ) → between low high x ≡ true → Between low high x
 between-good low high x e = let b = and-both (leb low x) (leb x high) e in (leb-true low x (b .0), leb-true x high (b .1))
@@ -45,15 +45,15 @@ good-between : (low high x : ℕ) → Between low high x → between low high x 
 good-between low high x g = both (leb low x) (leb x high) (le-leb low x (g .0)) (le-leb x high (g .1))
 
 -- the setting comes first, and where it is good, what comes after decides
-pub by-setting : (J : ℕ → Type 0) (p order n : ℕ) {later : ℕ} → ((r : ℕ) → SettingRefused p order n r → J r) → (GoodSetting p order n → J later) → J (first (setting p order n) later)
+pub by-setting : (J : ℕ → Type 0) (t : Setting) {later : ℕ} → ((r : ℕ) → SettingRefused t r → J r) → (GoodSetting t → J later) → J (first (setting t) later)
 unfolding setting
-by-setting J p order n {later} refused good = by (isPrime p && leb p 65521) (between 1 3 order) (between 1 6 n) refl refl refl
+by-setting J t {later} refused good = by (isPrime (t .p) && leb (t .p) largestPrime) (between 1 3 (t .order)) (between 1 mostVariables (t .n)) refl refl refl
   where
-    by : (b1 b2 b3 : Bool) → (isPrime p && leb p 65521) ≡ b1 → between 1 3 order ≡ b2 → between 1 6 n ≡ b3 → J (first (first (unless b1 1) (first (unless b2 2) (unless b3 3))) later)
-    by false b2 b3 e1 e2 e3 = refused 1 (refused-1 (λ g. clash e1 (good-prime p g)) refl)
-    by true false b3 e1 e2 e3 = refused 2 (refused-2 (prime-good p e1) (λ g. clash e2 (good-between 1 3 order g)) refl)
-    by true true false e1 e2 e3 = refused 3 (refused-3 (prime-good p e1) (between-good 1 3 order e2) (λ g. clash e3 (good-between 1 6 n g)) refl)
-    by true true true e1 e2 e3 = good (prime-good p e1, between-good 1 3 order e2, between-good 1 6 n e3)
+    by : (b1 b2 b3 : Bool) → (isPrime (t .p) && leb (t .p) largestPrime) ≡ b1 → between 1 3 (t .order) ≡ b2 → between 1 mostVariables (t .n) ≡ b3 → J (first (first (unless b1 1) (first (unless b2 2) (unless b3 3))) later)
+    by false b2 b3 e1 e2 e3 = refused 1 (refused-1 (λ g. clash e1 (good-prime (t .p) g)) refl)
+    by true false b3 e1 e2 e3 = refused 2 (refused-2 (prime-good (t .p) e1) (λ g. clash e2 (good-between 1 3 (t .order) g)) refl)
+    by true true false e1 e2 e3 = refused 3 (refused-3 (prime-good (t .p) e1) (between-good 1 3 (t .order) e2) (λ g. clash e3 (good-between 1 mostVariables (t .n) g)) refl)
+    by true true true e1 e2 e3 = good (prime-good (t .p) e1, between-good 1 3 (t .order) e2, between-good 1 6 (t .n) e3)
 
 pub good-lent : {words coefs bw bc ww wc ow oc : ℕ} → GoodLent words coefs bw bc ww wc ow oc → lentGood words coefs bw bc ww wc ow oc ≡ true
 unfolding lentGood spaceGood
@@ -107,21 +107,21 @@ good-operations (code ∷ []) n g = absurd g
 good-operations (code ∷ (k ∷ ops)) n g = both (operationGood code k n) (operationsGood ops n) (good-operation code k n (g .0)) (good-operations ops n (g .1))
 
 -- ---- the first polynomial that is refused
-module _ (o : Order) (n p : ℕ) (words coefs ss : List ℕ) where
+module _ (t : Setting) (words coefs ss : List ℕ) where
   -- from k on, of as many as `more`: none is refused, or one is the first
   pub record FirstFrom (more k r : ℕ) : Type 0 where
     pub at : ℕ
     pub from : k ≤ at
     pub to : at < k + more
-    pub before : (j : ℕ) → k ≤ j → j < at → refusalAt o n p words coefs ss j ≡ 0
-    pub is : refusalAt o n p words coefs ss at ≡ r
+    pub before : (j : ℕ) → k ≤ j → j < at → refusalAt t words coefs ss j ≡ 0
+    pub is : refusalAt t words coefs ss at ≡ r
 
-  first-from : (more k : ℕ) → (refusalFrom o n p words coefs ss more k ≡ 0 → ⊥) → FirstFrom more k (refusalFrom o n p words coefs ss more k)
+  first-from : (more k : ℕ) → (refusalFrom t words coefs ss more k ≡ 0 → ⊥) → FirstFrom more k (refusalFrom t words coefs ss more k)
   unfolding refusalFrom
   first-from zero k ne = absurd (ne refl)
-  first-from (suc more) k ne = by (refusalAt o n p words coefs ss k) refl ne (λ f. first-from more (k + 1) f)
+  first-from (suc more) k ne = by (refusalAt t words coefs ss k) refl ne (λ f. first-from more (k + 1) f)
     where
-      by : (r : ℕ) → refusalAt o n p words coefs ss k ≡ r → (first r (refusalFrom o n p words coefs ss more (k + 1)) ≡ 0 → ⊥) → ((refusalFrom o n p words coefs ss more (k + 1) ≡ 0 → ⊥) → FirstFrom more (k + 1) (refusalFrom o n p words coefs ss more (k + 1))) → FirstFrom (suc more) k (first r (refusalFrom o n p words coefs ss more (k + 1)))
+      by : (r : ℕ) → refusalAt t words coefs ss k ≡ r → (first r (refusalFrom t words coefs ss more (k + 1)) ≡ 0 → ⊥) → ((refusalFrom t words coefs ss more (k + 1) ≡ 0 → ⊥) → FirstFrom more (k + 1) (refusalFrom t words coefs ss more (k + 1))) → FirstFrom (suc more) k (first r (refusalFrom t words coefs ss more (k + 1)))
       by (suc c) f h r = record { at = k; from = omega arith; to = omega arith; before = λ j l u. absurd (let z : ⊥ = omega arith in z); is = f }
       by zero f h r =
           let q = r h in
@@ -133,39 +133,39 @@ module _ (o : Order) (n p : ℕ) (words coefs ss : List ℕ) where
             is = q .is;
           }
         where
-          at-or-past : (j : ℕ) → k ≤ j → j < r h .at → Dec (j ≤ k) → refusalAt o n p words coefs ss j ≡ 0
-          at-or-past j l u (yes v) = ap (refusalAt o n p words coefs ss) (let z : j ≡ k = omega arith in z) ∙ f
+          at-or-past : (j : ℕ) → k ≤ j → j < r h .at → Dec (j ≤ k) → refusalAt t words coefs ss j ≡ 0
+          at-or-past j l u (yes v) = ap (refusalAt t words coefs ss) (let z : j ≡ k = omega arith in z) ∙ f
           at-or-past j l u (no v) = r h .before j (omega arith) u
 
 -- polynomial by polynomial: one is the first that is refused, or none is
-pub by-polynomials : (J : ℕ → Type 0) (p order n : ℕ) (words coefs ss : List ℕ) → (FirstRefused p order n words coefs ss (polynomialsRefusal (orderOf order) n p words coefs ss) → J (polynomialsRefusal (orderOf order) n p words coefs ss))
-    → (NoneRefused p order n words coefs ss → polynomialsRefusal (orderOf order) n p words coefs ss ≡ 0 → J (polynomialsRefusal (orderOf order) n p words coefs ss)) → J (polynomialsRefusal (orderOf order) n p words coefs ss)
-by-polynomials J p order n words coefs ss refused none = by (decLe (polynomialsRefusal (orderOf order) n p words coefs ss) 0)
+pub by-polynomials : (J : ℕ → Type 0) (t : Setting) (words coefs ss : List ℕ) → (FirstRefused t words coefs ss (polynomialsRefusal t words coefs ss) → J (polynomialsRefusal t words coefs ss))
+    → (NoneRefused t words coefs ss → polynomialsRefusal t words coefs ss ≡ 0 → J (polynomialsRefusal t words coefs ss)) → J (polynomialsRefusal t words coefs ss)
+by-polynomials J t words coefs ss refused none = by (decLe (polynomialsRefusal t words coefs ss) 0)
   where
-    by : Dec (polynomialsRefusal (orderOf order) n p words coefs ss ≤ 0) → J (polynomialsRefusal (orderOf order) n p words coefs ss)
+    by : Dec (polynomialsRefusal t words coefs ss ≤ 0) → J (polynomialsRefusal t words coefs ss)
     by (yes h) =
-        let z : polynomialsRefusal (orderOf order) n p words coefs ss ≡ 0 = omega arith in
-        none (λ k l. polynomials-pass (orderOf order) n p words coefs ss z k (omega arith)) z
+        let z : polynomialsRefusal t words coefs ss ≡ 0 = omega arith in
+        none (λ k l. polynomials-pass t words coefs ss z k (omega arith)) z
     by (no h) =
-        let ne : polynomialsRefusal (orderOf order) n p words coefs ss ≡ 0 → ⊥ = λ z. let w : ⊥ = omega arith in w in
-        let f = first-from (orderOf order) n p words coefs ss (length ss - 1) 0 ne in
+        let ne : polynomialsRefusal t words coefs ss ≡ 0 → ⊥ = λ z. let w : ⊥ = omega arith in w in
+        let f = first-from t words coefs ss (length ss - 1) 0 ne in
         refused (record { k = f .at; there = omega (arith, f .to); before = λ j u. f .before j (omega arith) u; is = f .is; some = ne })
 
 -- ---- the judgement
-module _ (p order n : ℕ) (words coefs ss ops : List ℕ) (bw bc ww wc ow oc : ℕ) where
+module _ (t : Setting) (words coefs ss ops : List ℕ) (bw bc ww wc ow oc : ℕ) where
   abbrev J : ℕ → Type 0
-  J r = Judged p order n words coefs ss ops bw bc ww wc ow oc r
+  J r = Judged t words coefs ss ops bw bc ww wc ow oc r
 
-  past-setting : GoodSetting p order n → (b8 b9 : Bool) → shapeGood (length words) (length coefs) ss (length ops) bw bc ww wc ow oc ≡ b8 → operationsGood ops (length ss - 1) ≡ b9
-      → J (first (unless b8 8) (first (unless b9 9) (polynomialsRefusal (orderOf order) n p words coefs ss)))
+  past-setting : GoodSetting t → (b8 b9 : Bool) → shapeGood (length words) (length coefs) ss (length ops) bw bc ww wc ow oc ≡ b8 → operationsGood ops (length ss - 1) ≡ b9
+      → J (first (unless b8 8) (first (unless b9 9) (polynomialsRefusal t words coefs ss)))
   past-setting s false b9 e8 e9 = refused-8 s (λ g. clash e8 (good-shape words coefs ss ops bw bc ww wc ow oc g)) refl
   past-setting s true false e8 e9 = refused-9 s (shape-good words coefs ss ops bw bc ww wc ow oc e8) (λ g. clash e9 (good-operations ops (length ss - 1) g)) refl
   past-setting s true true e8 e9 =
       let shape = shape-good words coefs ss ops bw bc ww wc ow oc e8 in
       let operations = operations-good ops (length ss - 1) e9 in
-      by-polynomials J p order n words coefs ss (λ f. refused-polynomial s shape operations f) (λ f z. passed s shape operations f z)
+      by-polynomials J t words coefs ss (λ f. refused-polynomial s shape operations f) (λ f z. passed s shape operations f z)
 
   -- "Opening order: 1, 2, 3, 8, 9; then polynomial by polynomial": every run is refused under exactly one condition, or passes
-  pub judged : Judged p order n words coefs ss ops bw bc ww wc ow oc (runRefusal p order n words coefs ss ops bw bc ww wc ow oc)
+  pub judged : Judged t words coefs ss ops bw bc ww wc ow oc (runRefusal t words coefs ss ops bw bc ww wc ow oc)
   unfolding runRefusal
-  judged = by-setting J p order n (λ r s. refused-setting s) (λ s. past-setting s (shapeGood (length words) (length coefs) ss (length ops) bw bc ww wc ow oc) (operationsGood ops (length ss - 1)) refl refl)
+  judged = by-setting J t (λ r s. refused-setting s) (λ s. past-setting s (shapeGood (length words) (length coefs) ss (length ops) bw bc ww wc ow oc) (operationsGood ops (length ss - 1)) refl refl)

@@ -5,7 +5,7 @@ pub mod PolynomialLaws
 pub mod ShapeLaws
 pub mod RunLaws
 pub mod ReductionLaws
-pub mod RefusalLaws
+pub mod ListedLaws
 pub mod Judgements
 pub mod ReductionJudgements
 pub mod Outcomes

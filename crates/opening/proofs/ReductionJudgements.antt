@@ -8,7 +8,7 @@ use native.Mathlib.Omega.{arith}
 use borrow.Author.Tests.{le-leb, lt-ltb}
 use lib.Dec.{ltb}
 use lib.ListN.{length, getD, drop, length-take, length-drop}
-use Rattle.monomial.specs.Exponents.{orderOf}
+use Rattle.polynomial.specs.declared.setting.Setting.{Setting}
 use Rattle.polynomial.specs.Terms.{Term, terms}
 use Rattle.polynomial.specs.Opening.{partOf, first}
 use Rattle.polynomial.proofs.TermLists.{length-terms}
@@ -61,26 +61,26 @@ rise-good (s ∷ []) h = refl
 rise-good (s ∷ (t ∷ ss)) h = rise-none t ss (λ k l. let q = h (suc k) (omega arith) (omega (arith, l)) in let e : getD (s ∷ (t ∷ ss)) (suc k + 1) 0 ≡ getD ss k 0 = ap (λ (j : ℕ). getD (s ∷ (t ∷ ss)) j 0) (add-one (suc k)) in omega (arith, q, e))
 
 -- ---- the judgement
-module _ (p order n : ℕ) (words coefs ss : List ℕ) (limit bw bc ww wc ow oc : ℕ) where
+module _ (t : Setting) (words coefs ss : List ℕ) (limit bw bc ww wc ow oc : ℕ) where
   abbrev J : ℕ → Type 0
-  J r = JudgedReduction p order n words coefs ss limit bw bc ww wc ow oc r
+  J r = JudgedReduction t words coefs ss limit bw bc ww wc ow oc r
 
-  past-polynomials : GoodSetting p order n → GoodReductionShape (length words) (length coefs) ss limit bw bc ww wc ow oc → NoneRefused p order n words coefs ss → (b7 : Bool) → divisorsGood ss ≡ b7 → J (unless b7 7)
+  past-polynomials : GoodSetting t → GoodReductionShape (length words) (length coefs) ss limit bw bc ww wc ow oc → NoneRefused t words coefs ss → (b7 : Bool) → divisorsGood ss ≡ b7 → J (unless b7 7)
   past-polynomials s g f false e = refused-7 s g f (λ d. clash e (rise-good ss (not-zero words coefs g d))) refl
   past-polynomials s g f true e = passed s g f (divisors-good words coefs g e) refl
 
-  past-setting : GoodSetting p order n → (b8 : Bool) → reductionShape (length words) (length coefs) ss limit bw bc ww wc ow oc ≡ b8
-      → J (first (unless b8 8) (first (polynomialsRefusal (orderOf order) n p words coefs ss) (unless (divisorsGood ss) 7)))
+  past-setting : GoodSetting t → (b8 : Bool) → reductionShape (length words) (length coefs) ss limit bw bc ww wc ow oc ≡ b8
+      → J (first (unless b8 8) (first (polynomialsRefusal t words coefs ss) (unless (divisorsGood ss) 7)))
   past-setting s false e = refused-8 s (λ g. clash e (good-reduction-shape g)) refl
-  past-setting s true e = let g = reduction-shape-passes e in by-polynomials (λ r. J (first r (unless (divisorsGood ss) 7))) p order n words coefs ss (λ f. refused g f) (λ f z. none g f z)
+  past-setting s true e = let g = reduction-shape-passes e in by-polynomials (λ r. J (first r (unless (divisorsGood ss) 7))) t words coefs ss (λ f. refused g f) (λ f z. none g f z)
     where
-      refused : GoodReductionShape (length words) (length coefs) ss limit bw bc ww wc ow oc → FirstRefused p order n words coefs ss (polynomialsRefusal (orderOf order) n p words coefs ss) → J (first (polynomialsRefusal (orderOf order) n p words coefs ss) (unless (divisorsGood ss) 7))
-      refused g f = subst J (first-some (polynomialsRefusal (orderOf order) n p words coefs ss) (unless (divisorsGood ss) 7) (f .some)) (refused-polynomial s g f)
+      refused : GoodReductionShape (length words) (length coefs) ss limit bw bc ww wc ow oc → FirstRefused t words coefs ss (polynomialsRefusal t words coefs ss) → J (first (polynomialsRefusal t words coefs ss) (unless (divisorsGood ss) 7))
+      refused g f = subst J (first-some (polynomialsRefusal t words coefs ss) (unless (divisorsGood ss) 7) (f .some)) (refused-polynomial s g f)
 
-      none : GoodReductionShape (length words) (length coefs) ss limit bw bc ww wc ow oc → NoneRefused p order n words coefs ss → polynomialsRefusal (orderOf order) n p words coefs ss ≡ 0 → J (first (polynomialsRefusal (orderOf order) n p words coefs ss) (unless (divisorsGood ss) 7))
+      none : GoodReductionShape (length words) (length coefs) ss limit bw bc ww wc ow oc → NoneRefused t words coefs ss → polynomialsRefusal t words coefs ss ≡ 0 → J (first (polynomialsRefusal t words coefs ss) (unless (divisorsGood ss) 7))
       none g f z = subst (λ (r : ℕ). J (first r (unless (divisorsGood ss) 7))) (sym z) (past-polynomials s g f (divisorsGood ss) refl)
 
   -- "Opening order: 1, 2, 3, 8, 9; then polynomial by polynomial, .. then 7": every reduction is refused under exactly one condition, or passes
-  pub reduction-judged : JudgedReduction p order n words coefs ss limit bw bc ww wc ow oc (reductionRefusal p order n words coefs ss limit bw bc ww wc ow oc)
+  pub reduction-judged : JudgedReduction t words coefs ss limit bw bc ww wc ow oc (reductionRefusal t words coefs ss limit bw bc ww wc ow oc)
   unfolding reductionRefusal
-  reduction-judged = by-setting J p order n (λ r s. refused-setting s) (λ s. past-setting s (reductionShape (length words) (length coefs) ss limit bw bc ww wc ow oc) refl)
+  reduction-judged = by-setting J t (λ r s. refused-setting s) (λ s. past-setting s (reductionShape (length words) (length coefs) ss limit bw bc ww wc ow oc) refl)

@@ -2,16 +2,16 @@
 use mathlib.Core.Path.{_≡_, refl, sym, ap, _∙_}
 use mathlib.Core.Bool.{Bool, true, false, _&&_}
 use mathlib.Core.List.{List, [], _∷_}
-use Prim.Native.Nat.{ℕ, zero, suc, _+_, _-_, _<_, _≤_, zero-le, suc-le-suc}
+use Prim.Native.Nat.{ℕ, zero, suc, _+_, _-_, _<_, _≤_}
 use native.Mathlib.Numerals.{add-one}
 use native.Mathlib.Omega.{arith}
 use borrow.Author.Tests.{le-leb, lt-leb, leb-true}
 use lib.Dec.{leb, ltb}
 use lib.ListN.{length, getD, drop, length-drop}
 use lib.Seq.{drop-cons}
-use Rattle.monomial.specs.declared.order.Order.{Order}
-use Rattle.monomial.specs.Exponents.{orderOf}
+use Rattle.limits.specs.Limits.{mostSteps}
 use Rattle.monomial.proofs.Places.{and-both}
+use Rattle.polynomial.specs.declared.setting.Setting.{Setting}
 use Rattle.polynomial.specs.Opening.{startsGood, first}
 use Rattle.opening.specs.Run.{unless, setting, lentGood, polynomialsRefusal}
 use Rattle.opening.specs.Reduction.{reductionShape, noneZero, divisorsGood, reductionRefusal, ReductionOpened}
@@ -80,39 +80,39 @@ divisors-rise (s ∷ ss) h (suc k) one l = rw (add-one (suc k)) (rising ss h k (
 pub reduction-shape-passes : {words coefs : ℕ} {ss : List ℕ} {limit bw bc ww wc ow oc : ℕ} → reductionShape words coefs ss limit bw bc ww wc ow oc ≡ true → GoodReductionShape words coefs ss limit bw bc ww wc ow oc
 unfolding reductionShape
 reduction-shape-passes {words} {coefs} {ss} {limit} {bw} {bc} {ww} {wc} {ow} {oc} h =
-    let x = and-both (lentGood words coefs bw bc ww wc ow oc) (startsGood ss words && (ltb 1 (length ss) && leb limit 8796093022208)) h in
-    let y = and-both (startsGood ss words) (ltb 1 (length ss) && leb limit 8796093022208) (x .1) in
-    let z = and-both (ltb 1 (length ss)) (leb limit 8796093022208) (y .1) in
-    record { lent = lent-passes (x .0); starts = y .0; some = leb-true 2 (length ss) (z .0); few-steps = leb-true limit 8796093022208 (z .1) }
+    let x = and-both (lentGood words coefs bw bc ww wc ow oc) (startsGood ss words && (ltb 1 (length ss) && leb limit mostSteps)) h in
+    let y = and-both (startsGood ss words) (ltb 1 (length ss) && leb limit mostSteps) (x .1) in
+    let z = and-both (ltb 1 (length ss)) (leb limit mostSteps) (y .1) in
+    record { lent = lent-passes (x .0); starts = y .0; some = leb-true 2 (length ss) (z .0); few-steps = leb-true limit mostSteps (z .1) }
 
 -- a refusal of the setting comes first
-pub reduction-setting : (p order n : ℕ) (words coefs starts : List ℕ) (limit bw bc ww wc ow oc r : ℕ) → r ≡ setting p order n → (r ≡ 0 → ⊥) → r ≡ reductionRefusal p order n words coefs starts limit bw bc ww wc ow oc
+pub reduction-setting : (t : Setting) (words coefs starts : List ℕ) (limit bw bc ww wc ow oc r : ℕ) → r ≡ setting t → (r ≡ 0 → ⊥) → r ≡ reductionRefusal t words coefs starts limit bw bc ww wc ow oc
 unfolding reductionRefusal
-reduction-setting p order n words coefs starts limit bw bc ww wc ow oc r e h = rw (← e) (first-some r _ h)
+reduction-setting t words coefs starts limit bw bc ww wc ow oc r e h = rw (← e) (first-some r _ h)
 
 -- past setting and shape, the polynomials decide, and then the divisors
-module _ (p order n : ℕ) (words coefs starts : List ℕ) (limit bw bc ww wc ow oc : ℕ) {o : Order} {r : ℕ} (e : setting p order n ≡ 0) (g : reductionShape (length words) (length coefs) starts limit bw bc ww wc ow oc ≡ true) (eo : o ≡ orderOf order) (er : r ≡ polynomialsRefusal o n p words coefs starts) where
-  past : reductionRefusal p order n words coefs starts limit bw bc ww wc ow oc ≡ first r (unless (divisorsGood starts) 7)
+module _ (t : Setting) (words coefs starts : List ℕ) (limit bw bc ww wc ow oc : ℕ) {r : ℕ} (e : setting t ≡ 0) (g : reductionShape (length words) (length coefs) starts limit bw bc ww wc ow oc ≡ true) (er : r ≡ polynomialsRefusal t words coefs starts) where
+  past : reductionRefusal t words coefs starts limit bw bc ww wc ow oc ≡ first r (unless (divisorsGood starts) 7)
   unfolding reductionRefusal
-  past = rw (e, g, er, eo) refl
+  past = rw (e, g, er) refl
 
-  pub reduction-later : (r ≡ 0 → ⊥) → r ≡ reductionRefusal p order n words coefs starts limit bw bc ww wc ow oc
+  pub reduction-later : (r ≡ 0 → ⊥) → r ≡ reductionRefusal t words coefs starts limit bw bc ww wc ow oc
   reduction-later h = first-some r (unless (divisorsGood starts) 7) h ∙ sym past
 
-  pub reduction-last : r ≡ 0 → {b : Bool} → b ≡ divisorsGood starts → unless b 7 ≡ reductionRefusal p order n words coefs starts limit bw bc ww wc ow oc
+  pub reduction-last : r ≡ 0 → {b : Bool} → b ≡ divisorsGood starts → unless b 7 ≡ reductionRefusal t words coefs starts limit bw bc ww wc ow oc
   reduction-last z {b} d = ap (λ (x : Bool). unless x 7) d ∙ (sym (ap (λ (x : ℕ). first x (unless (divisorsGood starts) 7)) z) ∙ sym past)
 
 -- a reduction that no opening check refuses is opened
-pub reduction-opened : (p order n : ℕ) (words coefs starts : List ℕ) (limit bw bc ww wc ow oc : ℕ) → reductionRefusal p order n words coefs starts limit bw bc ww wc ow oc ≡ 0 → ReductionOpened p order n words coefs starts limit bw bc ww wc ow oc
+pub reduction-opened : (t : Setting) (words coefs starts : List ℕ) (limit bw bc ww wc ow oc : ℕ) → reductionRefusal t words coefs starts limit bw bc ww wc ow oc ≡ 0 → ReductionOpened t words coefs starts limit bw bc ww wc ow oc
 unfolding reductionRefusal
-reduction-opened p order n words coefs starts limit bw bc ww wc ow oc h =
+reduction-opened t words coefs starts limit bw bc ww wc ow oc h =
     let good = reductionShape (length words) (length coefs) starts limit bw bc ww wc ow oc in
-    let polys = polynomialsRefusal (orderOf order) n p words coefs starts in
+    let polys = polynomialsRefusal t words coefs starts in
     let last = unless (divisorsGood starts) 7 in
-    let a = first-none (setting p order n) (first (unless good 8) (first polys last)) h in
+    let a = first-none (setting t) (first (unless good 8) (first polys last)) h in
     let b = first-none (unless good 8) (first polys last) (a .1) in
     let d = first-none polys last (b .1) in
-    let s = setting-passes p order n (a .0) in
+    let s = setting-passes t (a .0) in
     let x = reduction-shape-passes (passed good 8 (omega arith) (b .0)) in
     let l = x .lent in
     record {
@@ -131,6 +131,6 @@ reduction-opened p order n words coefs starts limit bw bc ww wc ow oc h =
       starts = x .starts;
       some = x .some;
       few-steps = x .few-steps;
-      polynomials = polynomials-pass (orderOf order) n p words coefs starts (d .0);
+      polynomials = polynomials-pass t words coefs starts (d .0);
       divisors = divisors-rise starts (passed (divisorsGood starts) 7 (omega arith) (d .1));
     }

@@ -5,6 +5,7 @@ use mathlib.Core.List.{List}
 use Prim.Native.Nat.{ℕ}
 use borrow.Author.Tests.{eqb-true}
 use lib.Dec.{eqb}
+use Rattle.limits.specs.Limits.{bucketPlaces, workPlaces}
 use Rattle.monomial.proofs.Places.{and-both}
 use Rattle.polynomial.specs.Opening.{startsGood}
 use Rattle.opening.specs.Run.{spaceGood, lentGood, pairsGood, shapeGood}
@@ -16,25 +17,25 @@ unfolding lentGood spaceGood
 lent-passes {words} {coefs} {bw} {bc} {ww} {wc} {ow} {oc} h =
     let b = and-both (eqb words coefs) (eqb ow oc && spaceGood bw bc ww wc) h in
     let d = and-both (eqb ow oc) (spaceGood bw bc ww wc) (b .1) in
-    let e = and-both (eqb bw 5460) (eqb bc 5460 && (eqb ww 8192 && eqb wc 8192)) (d .1) in
-    let f = and-both (eqb bc 5460) (eqb ww 8192 && eqb wc 8192) (e .1) in
-    let g = and-both (eqb ww 8192) (eqb wc 8192) (f .1) in
+    let e = and-both (eqb bw bucketPlaces) (eqb bc bucketPlaces && (eqb ww workPlaces && eqb wc workPlaces)) (d .1) in
+    let f = and-both (eqb bc bucketPlaces) (eqb ww workPlaces && eqb wc workPlaces) (e .1) in
+    let g = and-both (eqb ww workPlaces) (eqb wc workPlaces) (f .1) in
     record {
       lent = eqb-true words coefs (b .0);
       output = eqb-true ow oc (d .0);
-      bucket-words = eqb-true bw 5460 (e .0);
-      bucket-coefs = eqb-true bc 5460 (f .0);
-      work-words = eqb-true ww 8192 (g .0);
-      work-coefs = eqb-true wc 8192 (g .1);
+      bucket-words = eqb-true bw bucketPlaces (e .0);
+      bucket-coefs = eqb-true bc bucketPlaces (f .0);
+      work-words = eqb-true ww workPlaces (g .0);
+      work-coefs = eqb-true wc workPlaces (g .1);
     }
 
 pub record Shaped (words coefs : ℕ) (ss : List ℕ) (ops bw bc ww wc ow oc : ℕ) : Type 0 where
   pub lent : words ≡ coefs
   pub output : ow ≡ oc
-  pub bucket-words : bw ≡ 5460
-  pub bucket-coefs : bc ≡ 5460
-  pub work-words : ww ≡ 8192
-  pub work-coefs : wc ≡ 8192
+  pub bucket-words : bw ≡ bucketPlaces
+  pub bucket-coefs : bc ≡ bucketPlaces
+  pub work-words : ww ≡ workPlaces
+  pub work-coefs : wc ≡ workPlaces
   pub starts : startsGood ss words ≡ true
   pub pairs : pairsGood ops ≡ true
 

@@ -5,15 +5,16 @@ use mathlib.Core.Bool.{Bool, true, _&&_}
 use mathlib.Core.List.{List, [], _∷_}
 use lib.Dec.{leb, ltb}
 use lib.ListN.{length, getD, drop}
+use Rattle.limits.specs.Limits.{bucketPlaces, largestPrime, mostSteps, workPlaces}
 use Rattle.residue.specs.Prime.{Prime}
-use Rattle.monomial.specs.Exponents.{orderOf}
+use Rattle.polynomial.specs.declared.setting.Setting.{Setting}
 use Rattle.polynomial.specs.Terms.{terms}
-use Rattle.polynomial.specs.Opening.{startsGood, partOf, first, refusalOf}
+use Rattle.polynomial.specs.Opening.{startsGood, partOf, first, polynomialRefusal}
 use Rattle.opening.specs.Run.{unless, setting, lentGood, polynomialsRefusal}
 
 -- 8: "a step limit over 8,796,093,022,208, or a reduction without polynomial 0", besides lengths and starts
 unfoldable pub reductionShape : (words coefs : ℕ) → (starts : List ℕ) → (limit bw bc ww wc ow oc : ℕ) → Bool
-reductionShape words coefs starts limit bw bc ww wc ow oc = lentGood words coefs bw bc ww wc ow oc && (startsGood starts words && (ltb 1 (length starts) && leb limit 8796093022208))
+reductionShape words coefs starts limit bw bc ww wc ow oc = lentGood words coefs bw bc ww wc ow oc && (startsGood starts words && (ltb 1 (length starts) && leb limit mostSteps))
 
 -- the polynomials between these starts are not zero
 unfoldable pub noneZero : List ℕ → Bool
@@ -26,29 +27,29 @@ abbrev pub divisorsGood : List ℕ → Bool
 divisorsGood starts = noneZero (drop 1 starts)
 
 -- the refusal of a reduction by its opening checks; the last six are lengths
-unfoldable pub reductionRefusal : (p order n : ℕ) (words coefs starts : List ℕ) (limit bw bc ww wc ow oc : ℕ) → ℕ
-reductionRefusal p order n words coefs starts limit bw bc ww wc ow oc =
-    first (setting p order n)
+unfoldable pub reductionRefusal : Setting → (words coefs starts : List ℕ) (limit bw bc ww wc ow oc : ℕ) → ℕ
+reductionRefusal t words coefs starts limit bw bc ww wc ow oc =
+    first (setting t)
     (first (unless (reductionShape (length words) (length coefs) starts limit bw bc ww wc ow oc) 8)
-    (first (polynomialsRefusal (orderOf order) n p words coefs starts)
+    (first (polynomialsRefusal t words coefs starts)
     (unless (divisorsGood starts) 7)))
 
 -- what holds of a reduction that no opening check refuses (ss: its starts)
-pub record ReductionOpened (p order n : ℕ) (words coefs ss : List ℕ) (steps bw bc ww wc ow oc : ℕ) : Type 0 where
-  pub prime : Prime p
-  pub limit : p ≤ 65521
-  pub order-low : 1 ≤ order
-  pub order-high : order ≤ 3
-  pub n-low : 1 ≤ n
-  pub n-high : n ≤ 6
+pub record ReductionOpened (t : Setting) (words coefs ss : List ℕ) (steps bw bc ww wc ow oc : ℕ) : Type 0 where
+  pub prime : Prime (t .p)
+  pub limit : t .p ≤ largestPrime
+  pub order-low : 1 ≤ t .order
+  pub order-high : t .order ≤ 3
+  pub n-low : 1 ≤ t .n
+  pub n-high : t .n ≤ 6
   pub lent : length words ≡ length coefs
   pub output : ow ≡ oc
-  pub bucket-words : bw ≡ 5460
-  pub bucket-coefs : bc ≡ 5460
-  pub work-words : ww ≡ 8192
-  pub work-coefs : wc ≡ 8192
+  pub bucket-words : bw ≡ bucketPlaces
+  pub bucket-coefs : bc ≡ bucketPlaces
+  pub work-words : ww ≡ workPlaces
+  pub work-coefs : wc ≡ workPlaces
   pub starts : startsGood ss (length words) ≡ true
   pub some : 1 < length ss
-  pub few-steps : steps ≤ 8796093022208
-  pub polynomials : (k : ℕ) → k + 1 < length ss → refusalOf (orderOf order) n p (terms (partOf ss k words) (partOf ss k coefs)) ≡ 0
+  pub few-steps : steps ≤ mostSteps
+  pub polynomials : (k : ℕ) → k + 1 < length ss → polynomialRefusal t (terms (partOf ss k words) (partOf ss k coefs)) ≡ 0
   pub divisors : (k : ℕ) → 1 ≤ k → k + 1 < length ss → getD ss k 0 < getD ss (k + 1) 0

@@ -4,6 +4,8 @@ use mathlib.Core.Path.{_≡_}
 use mathlib.Core.Bool.{true}
 use mathlib.Core.List.{List, []}
 use lib.ListN.{length}
+use Rattle.limits.specs.Limits.{mostSteps}
+use Rattle.polynomial.specs.declared.setting.Setting.{Setting}
 use Rattle.polynomial.specs.Terms.{terms}
 use Rattle.polynomial.specs.Opening.{startsGood, partOf}
 use Rattle.opening.specs.Judgement.{GoodSetting, SettingRefused, GoodLent, NoneRefused, FirstRefused}
@@ -13,16 +15,16 @@ pub record GoodReductionShape (words coefs : ℕ) (ss : List ℕ) (limit bw bc w
   pub lent : GoodLent words coefs bw bc ww wc ow oc
   pub starts : startsGood ss words ≡ true
   pub some : 1 < length ss
-  pub few-steps : limit ≤ 8796093022208
+  pub few-steps : limit ≤ mostSteps
 
 -- "7: a divisor is zero"; the divisors are the polynomials from 1 on
 abbrev pub GoodDivisors : (words coefs ss : List ℕ) → Type 0
 GoodDivisors words coefs ss = (k : ℕ) → 1 ≤ k → k < length ss - 1 → terms (partOf ss k words) (partOf ss k coefs) ≡ [] → ⊥
 
 -- "Opening order: 1, 2, 3, 8, 9; then polynomial by polynomial, the first place with 4 or 5 (4 first at one place), then 6; then 7": a reduction has no operations, so no 9
-pub data JudgedReduction (p order n : ℕ) (words coefs ss : List ℕ) (limit bw bc ww wc ow oc r : ℕ) : Type 0 where
-  refused-setting : SettingRefused p order n r → JudgedReduction p order n words coefs ss limit bw bc ww wc ow oc r
-  refused-8 : GoodSetting p order n → (GoodReductionShape (length words) (length coefs) ss limit bw bc ww wc ow oc → ⊥) → r ≡ 8 → JudgedReduction p order n words coefs ss limit bw bc ww wc ow oc r
-  refused-polynomial : GoodSetting p order n → GoodReductionShape (length words) (length coefs) ss limit bw bc ww wc ow oc → FirstRefused p order n words coefs ss r → JudgedReduction p order n words coefs ss limit bw bc ww wc ow oc r
-  refused-7 : GoodSetting p order n → GoodReductionShape (length words) (length coefs) ss limit bw bc ww wc ow oc → NoneRefused p order n words coefs ss → (GoodDivisors words coefs ss → ⊥) → r ≡ 7 → JudgedReduction p order n words coefs ss limit bw bc ww wc ow oc r
-  passed : GoodSetting p order n → GoodReductionShape (length words) (length coefs) ss limit bw bc ww wc ow oc → NoneRefused p order n words coefs ss → GoodDivisors words coefs ss → r ≡ 0 → JudgedReduction p order n words coefs ss limit bw bc ww wc ow oc r
+pub data JudgedReduction (t : Setting) (words coefs ss : List ℕ) (limit bw bc ww wc ow oc r : ℕ) : Type 0 where
+  refused-setting : SettingRefused t r → JudgedReduction t words coefs ss limit bw bc ww wc ow oc r
+  refused-8 : GoodSetting t → (GoodReductionShape (length words) (length coefs) ss limit bw bc ww wc ow oc → ⊥) → r ≡ 8 → JudgedReduction t words coefs ss limit bw bc ww wc ow oc r
+  refused-polynomial : GoodSetting t → GoodReductionShape (length words) (length coefs) ss limit bw bc ww wc ow oc → FirstRefused t words coefs ss r → JudgedReduction t words coefs ss limit bw bc ww wc ow oc r
+  refused-7 : GoodSetting t → GoodReductionShape (length words) (length coefs) ss limit bw bc ww wc ow oc → NoneRefused t words coefs ss → (GoodDivisors words coefs ss → ⊥) → r ≡ 7 → JudgedReduction t words coefs ss limit bw bc ww wc ow oc r
+  passed : GoodSetting t → GoodReductionShape (length words) (length coefs) ss limit bw bc ww wc ow oc → NoneRefused t words coefs ss → GoodDivisors words coefs ss → r ≡ 0 → JudgedReduction t words coefs ss limit bw bc ww wc ow oc r

@@ -1,8 +1,7 @@
-// The opening checks of runs and of reductions, and the refusals by cause.
+// The opening checks of runs and of reductions.
 pub mod operations; // the list of operations of a run
 pub mod polynomials; // polynomial by polynomial
 pub mod reduction; // all checks of a reduction, in their order
-pub mod refusal; // the causes, by their numbers
 pub mod run; // all checks of a run, in their order
 pub mod setting; // p, order and n
 pub mod shape; // the sizes of what is lent

@@ -2,7 +2,8 @@
 use crate::polynomials::polynomials_refusal;
 use crate::setting::setting;
 use crate::shape::lent_good;
-use monomial::order::order_of;
+use limits::MOST_STEPS;
+use polynomial::setting::Setting;
 use polynomial::starts::starts_good;
 ghost use mathlib.Core.Path.{_≡_};
 ghost use Rattle.opening.specs.Reduction.{reductionShape, divisorsGood, reductionRefusal};
@@ -10,9 +11,7 @@ ghost use Rattle.opening.specs.Reduction.{reductionShape, divisorsGood, 
 // The refusal of a reduction, 0 for none: 1, 2, 3, 8, then the polynomials', then 7. The last six are
 // the lengths of bucket space, work space and output.
 pub fn reduction_opening(
-    p: u32,
-    order: u32,
-    n: u32,
+    t: Setting,
     words: &[u64],
     coefs: &[u32],
     starts: &[usize],
@@ -24,9 +23,9 @@ pub fn reduction_opening(
     ow: usize,
     oc: usize,
 ) -> u32
-    ensures { λ r. ⌜ r ≡ reductionRefusal p order n (now (words .entry)) (now (coefs .entry)) (now (starts .entry)) limit bw bc ww wc ow oc ⌝ }
+    ensures { λ r. ⌜ r ≡ reductionRefusal t (now (words .entry)) (now (coefs .entry)) (now (starts .entry)) limit bw bc ww wc ow oc ⌝ }
 {
-    let number = setting(p, order, n);
+    let number = setting(t);
     if number != 0 {
         return number;
     }
@@ -44,7 +43,7 @@ pub fn reduction_opening(
     ) {
         return 8;
     }
-    let later = polynomials_refusal(order_of(order), n, p, words, coefs, starts);
+    let later = polynomials_refusal(t, words, coefs, starts);
     if later != 0 {
         return later;
     }
@@ -75,7 +74,7 @@ fn reduction_shape(
     if starts.len() <= 1 {
         return false;
     }
-    limit <= 8796093022208
+    limit <= MOST_STEPS
 }
 
 // Whether none of the polynomials from 1 on is zero.

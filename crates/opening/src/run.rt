@@ -3,16 +3,14 @@ use crate::operations::operations_good;
 use crate::polynomials::polynomials_refusal;
 use crate::setting::setting;
 use crate::shape::shape_good;
-use monomial::order::order_of;
+use polynomial::setting::Setting;
 ghost use mathlib.Core.Path.{_≡_};
 ghost use Rattle.opening.specs.Run.{runRefusal};
 
 // The refusal of a run, 0 for none: 1, 2, 3, 8, 9, then the polynomials'. The last six are the lengths
 // of bucket space, work space and output.
 pub fn run_opening(
-    p: u32,
-    order: u32,
-    n: u32,
+    t: Setting,
     words: &[u64],
     coefs: &[u32],
     starts: &[usize],
@@ -24,9 +22,9 @@ pub fn run_opening(
     ow: usize,
     oc: usize,
 ) -> u32
-    ensures { λ r. ⌜ r ≡ runRefusal p order n (now (words .entry)) (now (coefs .entry)) (now (starts .entry)) (now (ops .entry)) bw bc ww wc ow oc ⌝ }
+    ensures { λ r. ⌜ r ≡ runRefusal t (now (words .entry)) (now (coefs .entry)) (now (starts .entry)) (now (ops .entry)) bw bc ww wc ow oc ⌝ }
 {
-    let number = setting(p, order, n);
+    let number = setting(t);
     if number != 0 {
         return number;
     }
@@ -47,5 +45,5 @@ pub fn run_opening(
     if !operations_good(ops, starts.len() - 1) {
         return 9;
     }
-    polynomials_refusal(order_of(order), n, p, words, coefs, starts)
+    polynomials_refusal(t, words, coefs, starts)
 }

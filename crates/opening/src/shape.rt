@@ -1,4 +1,7 @@
 // The sizes of what is lent to a run.
+use limits::BUCKET_PLACES;
+use limits::MOST_OPERATIONS;
+use limits::WORK_PLACES;
 use polynomial::starts::starts_good;
 ghost use mathlib.Core.Path.{_≡_};
 ghost use Rattle.opening.specs.Run.{spaceGood, lentGood, pairsGood, shapeGood};
@@ -54,16 +57,16 @@ pub fn lent_good(
 fn space_good(bw: usize, bc: usize, ww: usize, wc: usize) -> bool
     ensures { λ r. ⌜ r ≡ spaceGood bw bc ww wc ⌝ }
 {
-    if bw != 5460 {
+    if bw != BUCKET_PLACES {
         return false;
     }
-    if bc != 5460 {
+    if bc != BUCKET_PLACES {
         return false;
     }
-    if ww != 8192 {
+    if ww != WORK_PLACES {
         return false;
     }
-    wc == 8192
+    wc == WORK_PLACES
 }
 
 // Whether a list of so many numbers is of whole pairs, and at most 16,777,216 of them.
@@ -73,5 +76,5 @@ fn pairs_good(len: usize) -> bool
     if len % 2 != 0 {
         return false;
     }
-    len <= 33554432
+    len / 2 <= MOST_OPERATIONS
 }

@@ -1,3 +1,4 @@
+pub mod Settings
 pub mod Terms
 pub mod Merge
 pub mod Multiple

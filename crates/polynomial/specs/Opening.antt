@@ -5,8 +5,10 @@ use mathlib.Core.List.{List, [], _∷_}
 use lib.Dec.{leb, ltb, eqb}
 use lib.ListN.{length, getD, take, drop}
 use Rattle.monomial.specs.declared.order.Order.{Order}
+use Rattle.monomial.specs.Exponents.{orderOf}
 use Rattle.monomial.specs.Layout.{inLayout}
 use Rattle.monomial.specs.Words.{compareWords}
+use Rattle.polynomial.specs.declared.setting.Setting.{Setting}
 use Rattle.polynomial.specs.Terms.{Term}
 
 -- ---- "polynomial k runs from start k to start k+1. The first start is 0, the last is the length, none falls."
@@ -63,6 +65,10 @@ orderBy false = 6
 
 unfoldable pub refusalOf : Order → (n p : ℕ) → List (Term ℕ) → ℕ
 refusalOf o n p ts = first (termsRefusal o n p ts) (orderBy (fall (compareWords o) ts))
+
+-- the same in a setting
+abbrev pub polynomialRefusal : Setting → List (Term ℕ) → ℕ
+polynomialRefusal t ts = refusalOf (orderOf (t .order)) (t .n) (t .p) ts
 
 -- what the part of polynomial k asks: both of its starts are there, rise, and end within the slice
 pub record Within (starts : List ℕ) (k len : ℕ) : Type 0 where

@@ -1,19 +1,24 @@
 // The opening check of one polynomial. Refusals are document 01's numbers, and 0 is none.
+use crate::setting::Setting;
 use monomial::layout::in_layout;
 use monomial::order::Order;
+use monomial::order::order_of;
 ghost use mathlib.Core.Path.{_≡_};
 ghost use Prim.Native.Nat.{_<_, _≤_};
-ghost use lib.ListN.{length, take};
+ghost use lib.ListN.{length};
 ghost use Rattle.monomial.specs.Words.{compareWords};
 ghost use Rattle.polynomial.specs.Terms.{term, terms};
-ghost use Rattle.polynomial.specs.Opening.{termRefusal, refusalOf, orderAfter};
+ghost use Rattle.polynomial.specs.Opening.{termRefusal, polynomialRefusal, orderAfter};
 
-// The refusal of a polynomial in n variables modulo p: the first place with 4 or 5, and else 6
-// where the terms do not fall. One pass over the terms.
-pub fn check(order: Order, n: u32, p: u32, words: &[u64], coefs: &[u32]) -> u32
-    requires { ⌜ (n ≤ 6) × (length (now coefs) ≡ length (now words)) ⌝ }
-    ensures { λ r. ⌜ r ≡ refusalOf order n p (terms (now (words .entry)) (now (coefs .entry))) ⌝ }
+// The refusal of a polynomial in a setting: the first place with 4 or 5, and else 6 where the terms do
+// not fall. One pass over the terms.
+pub fn check(t: Setting, words: &[u64], coefs: &[u32]) -> u32
+    requires { ⌜ (t .n ≤ 6) × (length (now coefs) ≡ length (now words)) ⌝ }
+    ensures { λ r. ⌜ r ≡ polynomialRefusal t (terms (now (words .entry)) (now (coefs .entry))) ⌝ }
 {
+    let order = order_of(t.order);
+    let n = t.n;
+    let p = t.p;
     let mut late: u32 = 0;
     let mut i = 0;
     while i < words.len() {

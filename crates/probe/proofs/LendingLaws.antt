@@ -14,8 +14,8 @@ use Rattle.monomial.specs.declared.order.Order.{Order}
 use Rattle.monomial.specs.Words.{compareWords}
 use Rattle.monomial.proofs.Places.{and-both}
 use Rattle.polynomial.specs.Terms.{Term}
-use Rattle.polynomial.specs.Opening.{Within, refusalOf}
-use Rattle.merge.specs.Merging.{Made}
+use Rattle.polynomial.specs.Opening.{Within}
+use Rattle.merge_common.specs.Merging.{Made}
 use Rattle.multiple.specs.Multiplying.{Multiplicands, Multiplied}
 use Rattle.probe.specs.Lending.{checkable, partThere, Factors}
 
@@ -64,9 +64,6 @@ getD-within (x ∷ l) zero d e h = refl
 getD-within (x ∷ l) (suc i) d e h = getD-within l i d e (omega arith)
 
 -- what is said in an order is said in its equal
-pub refused-in : {o o' : Order} {r : ℕ} (n p : ℕ) (f : List (Term ℕ)) → o ≡ o' → r ≡ refusalOf o n p f → r ≡ refusalOf o' n p f
-refused-in n p f e h = rw e at h
-
 pub made-in : {o o' : Order} {p : ℕ} {f g : List (Term ℕ)} {to : ℕ} {ow oc ow' oc' : List ℕ} {len n : ℕ} → o ≡ o' → Made (compareWords o) p f g to ow oc ow' oc' len n → Made (compareWords o') p f g to ow oc ow' oc' len n
 made-in e m = rw e at m
 

@@ -4,19 +4,12 @@ use mathlib.Core.Bool.{Bool, _&&_}
 use lib.Dec.{leb, ltb}
 use Rattle.monomial.specs.declared.order.Comparison.{Comparison}
 use Rattle.monomial.specs.declared.order.Comparison.the-variants.{Smaller, Same, Larger}
-use Rattle.monomial.specs.declared.word.Product.{Product}
-use Rattle.monomial.specs.declared.word.Product.the-variants.{Word, Over}
 use Rattle.monomial.specs.Layout.{bytes, below}
 
 abbrev pub comparisonNumber : Comparison → ℕ
 comparisonNumber Smaller = 0
 comparisonNumber Same = 1
 comparisonNumber Larger = 2
-
--- no word of the layout is the number for Over
-abbrev pub productNumber : Product → ℕ
-productNumber (Word w) = w
-productNumber Over = 18446744073709551614
 
 -- fit for word arithmetic: no field's top bit is set, and bit 63 is not
 unfoldable pub packed : ℕ → Bool

@@ -6,7 +6,7 @@ use lib.Dec.{leb, ltb, eqb}
 use lib.ListN.{length, getD}
 use Rattle.residue.specs.Modular.{Modulus}
 use Rattle.monomial.specs.Words.{Packed}
-use Rattle.merge.specs.Lent.{Poly}
+use Rattle.merge_common.specs.Lent.{Poly}
 use Rattle.multiple.specs.Multiplying.{AllPacked}
 
 -- at most 6 variables, and as many coefficients as words

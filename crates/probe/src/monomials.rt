@@ -1,15 +1,12 @@
 // Monomials in one word. An order is its number, 1 to 3; any other number counts as 3. Where the
 // slice has over 6 places, a word is not packed, or there is no quotient, the answer is REFUSED.
 use monomial::exponents::exponent;
-use monomial::exponents::exponents_of;
 use monomial::exponents::word_of;
 use monomial::layout::in_layout;
 use monomial::order::Comparison;
 use monomial::order::order_of;
-use monomial::word::Product;
 use monomial::word::TOPS;
 use monomial::word::divides;
-use monomial::word::multiply;
 use monomial::word::quotient;
 ghost use mathlib.Core.Path.{_≡_};
 ghost use mathlib.Core.Bool.{cond, _&&_};
@@ -17,13 +14,11 @@ ghost use Prim.Native.Nat.{_-_};
 ghost use lib.Dec.{leb, ltb};
 ghost use lib.ListN.{length, getD};
 ghost use Rattle.monomial.specs.Exponents.{orderOf};
-ghost use Rattle.monomial.specs.Layout.{wordOf, fields, exponents, inLayout};
-ghost use Rattle.monomial.specs.Words.{keyOf, compareWords, answer, dividesWord, productOf};
-ghost use Rattle.probe.specs.Answers.{packed, comparisonNumber, productNumber};
+ghost use Rattle.monomial.specs.Layout.{wordOf, fields, inLayout};
+ghost use Rattle.monomial.specs.Words.{keyOf, compareWords, answer, dividesWord};
+ghost use Rattle.probe.specs.Answers.{packed, comparisonNumber};
 
 const REFUSED: u64 = 0xffff_ffff_ffff_ffff;
-
-const OVER: u64 = 0xffff_ffff_ffff_fffe;
 
 #[no_mangle]
 pub extern "C" fn probe_key(order: u32, w: u64) -> u64
@@ -82,26 +77,6 @@ pub extern "C" fn probe_quotient(x: u64, y: u64) -> u64
     quotient(x, y)
 }
 
-// The product's word, or OVER where an exponent is over 127.
-#[no_mangle]
-pub extern "C" fn probe_multiply(x: u64, y: u64) -> u64
-    ensures { λ r. ⌜ r ≡ cond (packed x && packed y) (productNumber (productOf x y)) 18446744073709551615 ⌝ }
-{
-    if !both_packed(x, y) {
-        return REFUSED;
-    }
-    product_number(multiply(x, y))
-}
-
-fn product_number(p: Product) -> u64
-    ensures { λ r. ⌜ r ≡ productNumber p ⌝ }
-{
-    match p {
-        Product::Word(w) => w,
-        Product::Over => OVER,
-    }
-}
-
 #[no_mangle]
 pub extern "C" fn probe_word_of(order: u32, exps: &[u8]) -> u64
     ensures { λ r. ⌜ r ≡ cond (leb (length (now (exps .entry))) 6) (wordOf (orderOf order) (now (exps .entry))) 18446744073709551615 ⌝ }
@@ -110,19 +85,6 @@ pub extern "C" fn probe_word_of(order: u32, exps: &[u8]) -> u64
         return REFUSED;
     }
     word_of(order_of(order), exps)
-}
-
-// Puts the exponents of w into out, and returns whether it did: not where out has over 6 places.
-#[no_mangle]
-pub extern "C" fn probe_exponents_of(order: u32, w: u64, out: &mut [u8]) -> bool
-    ensures { λ r. ⌜ r ≡ leb (length (now (out .entry))) 6 ⌝ }
-    ensures { λ _. ⌜ now (out .exit) ≡ cond (leb (length (now (out .entry))) 6) (exponents (orderOf order) (length (now (out .entry))) w) (now (out .entry)) ⌝ }
-{
-    if out.len() > 6 {
-        return false;
-    }
-    exponents_of(order_of(order), w, out);
-    true
 }
 
 // The exponent of variable i, from 0, or 256 where there is no such variable.

@@ -1,14 +1,15 @@
 // Polynomials in lent slices: their opening check, starts and parts, their merge, and the multiple
 // by a term. An order is its number, 1 to 3; any other number counts as 3. The merges and the
 // multiple ask what the functions that they call ask: whoever calls them tests it first.
-use merges::merging::merge;
-use merges::within::merge_within;
+use merge_by_order::merging::merge;
+use merge_by_order::within::merge_within;
 use monomial::order::order_of;
 use multiple::multiple::any_over;
 use multiple::multiple::put_multiple;
 use polynomial::check::check;
 use polynomial::part::coefs_of;
 use polynomial::part::words_of;
+use polynomial::setting::Setting;
 use polynomial::starts::starts_good;
 use residue::factor::Factor;
 ghost use mathlib.Core.Path.{_≡_};
@@ -16,10 +17,11 @@ ghost use mathlib.Core.Bool.{cond};
 ghost use lib.ListN.{length, getD};
 ghost use Rattle.monomial.specs.Exponents.{orderOf};
 ghost use Rattle.monomial.specs.Words.{Packed, compareWords};
+ghost use Rattle.polynomial.specs.Settings.{settingOf};
 ghost use Rattle.polynomial.specs.Terms.{terms};
-ghost use Rattle.polynomial.specs.Opening.{refusalOf, startsGood, partOf};
-ghost use Rattle.merge.specs.Lent.{part};
-ghost use Rattle.merge.specs.Merging.{Sides, Within, Made};
+ghost use Rattle.polynomial.specs.Opening.{polynomialRefusal, startsGood, partOf};
+ghost use Rattle.merge_common.specs.Lent.{part};
+ghost use Rattle.merge_common.specs.Merging.{Sides, Within, Made};
 ghost use Rattle.multiple.specs.Multiplying.{AllPacked, anyOver, Multiplied};
 ghost use Rattle.probe.specs.Lending.{checkable, partThere, Factors};
 
@@ -39,12 +41,12 @@ pub struct Counts {
 // The refusal of a polynomial, 0 for none, or NOT_CHECKED where n is over 6 or the lengths differ.
 #[no_mangle]
 pub extern "C" fn probe_check(order: u32, n: u32, p: u32, words: &[u64], coefs: &[u32]) -> u32
-    ensures { λ r. ⌜ r ≡ cond (checkable n (length (now (words .entry))) (length (now (coefs .entry)))) (refusalOf (orderOf order) n p (terms (now (words .entry)) (now (coefs .entry)))) 4294967295 ⌝ }
+    ensures { λ r. ⌜ r ≡ cond (checkable n (length (now (words .entry))) (length (now (coefs .entry)))) (polynomialRefusal (settingOf p order n) (terms (now (words .entry)) (now (coefs .entry)))) 4294967295 ⌝ }
 {
     if !is_checkable(n, words.len(), coefs.len()) {
         return NOT_CHECKED;
     }
-    check(order_of(order), n, p, words, coefs)
+    check(Setting { p, order, n }, words, coefs)
 }
 
 // Whether a polynomial in n variables with so many words and coefficients can be checked.

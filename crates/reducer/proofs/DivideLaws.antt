@@ -5,7 +5,8 @@ use mathlib.Core.List.{List, [], _∷_}
 use Prim.Native.Nat.{ℕ, zero, suc, _+_, _-_, _%_, _<_, _≤_}
 use native.Mathlib.Omega.{arith}
 use lib.ListN.{length, getD, take, drop, length-drop}
-use lib.Seq.{length-take-le, take-all, drop-cons}
+use lib.Seq.{take-all, drop-cons}
+use Rattle.limits.specs.Limits.{mostTerms}
 use Rattle.residue.specs.declared.factor.Factor.{Factor}
 use Rattle.residue.specs.Share.{shareOf, FactorOf}
 use Rattle.residue.specs.Modular.{Modulus, negative, product, inverseOf}
@@ -22,18 +23,17 @@ use Rattle.multiple.specs.Multiplying.{AllPacked, anyOver}
 use Rattle.geobucket.specs.Buckets.{held}
 use Rattle.space.specs.Space.{Buckets, bucketsIn, heldIn, dropped}
 use Rattle.space.proofs.SpaceLaws.{held-lens}
+use Rattle.refusal.specs.declared.Refusal.the-variants.{TooManyTerms, ExponentOver}
+use Rattle.call.specs.declared.state.State.{State}
+use Rattle.call.specs.States.{counted, brought, finishedOne, halted}
 use Rattle.search.specs.declared.candidate.Candidate.{Candidate}
 use Rattle.buckets.specs.Adding.{AddDone}
-use Rattle.division.specs.Division.{tailMultiple}
 use Rattle.division.specs.Divisors.{Valid}
 use Rattle.division.specs.Steps.{anyTooLarge, overWord}
 use Rattle.division.proofs.TailLaws.{multiplier-good, Added, tail-added}
 use Rattle.division.proofs.WordOperations.{word-operations}
-use Rattle.engine.specs.Runs.{polynomial}
-use Rattle.reducer.specs.declared.state.State.{State}
-use Rattle.divisors.specs.Divisors.{leadWord, leadCoef, inOne, Inverses, Inverting, Multiplying}
-use Rattle.reducer.specs.Divisors.{OfLayout, Checked}
-use Rattle.reducer.specs.States.{halted, removed, added}
+use Rattle.divisors.specs.Divisors.{leadWord, leadCoef, inOne, Inverting, Multiplying}
+use Rattle.reducer.specs.Divisors.{OfLayout}
 use Rattle.reducer.specs.Dividing.{TailAddition, TailAdded, tailOf, Dividing, toAdd, DividedTo, over, many, divided, Divided}
 use Rattle.divisors.proofs.InverseLaws.{multiplying}
 
@@ -134,21 +134,21 @@ module _ {o : Order} {p : ℕ} {words coefs starts : List ℕ} {k : ℕ} {s : St
   held-is = held-lens b (a .stands .laid) bw bc (a .stands .words-long) (a .stands .coefs-long)
 
   -- ---- the multiple of the tail is added
-  module _ (none : anyOver q (tailOf starts k words) ≡ false) (few : held (bucketsIn (dropped b (lead .bucket)) bw bc) + length (tailOf starts k words) ≤ 4096) where
+  module _ (none : anyOver q (tailOf starts k words) ≡ false) (few : held (bucketsIn (dropped b (lead .bucket)) bw bc) + length (tailOf starts k words) ≤ mostTerms) where
     none-large : anyTooLarge overWord q tail ≡ false
     none-large = over-terms q (tailOf starts k words) (tailOf starts k coefs) tail-long ∙ none
 
     pub to-add : Added (compareWords o) p (OfLayout o) (term (lead .word) (lead .coef)) (toAdd o p words coefs starts k s lead b bw bc)
     to-add = tail-added (compareWords o) dividesWord _-_ _+_ overWord (OfLayout o) (word-operations o 6 (omega arith)) p (a .checked .prime) (term (lead .word) (lead .coef)) divisorLead tail (a .of-layout) (a .coef-pos) (a .coef-small) valid (a .fits) none-large
 
-    module _ {q' : ℕ} (eq : q' ≡ q) {tw tc : List ℕ} (etw : tw ≡ tailOf starts k words) (etc : tc ≡ tailOf starts k coefs) {v : ℕ} (ev : v ≡ multiplier) {f : Factor} (ef : FactorOf p v f) {r : State} (er : r ≡ removed s) {b₁ : Buckets} (eb₁ : b₁ ≡ dropped b (lead .bucket)) where
+    module _ {q' : ℕ} (eq : q' ≡ q) {tw tc : List ℕ} (etw : tw ≡ tailOf starts k words) (etc : tc ≡ tailOf starts k coefs) {v : ℕ} (ev : v ≡ multiplier) {f : Factor} (ef : FactorOf p v f) {r : State} (er : r ≡ finishedOne s) {b₁ : Buckets} (eb₁ : b₁ ≡ dropped b (lead .bucket)) where
       made : multiple (λ x y. x + y) (f .prime) (f .value) q' (terms tw tc) ≡ toAdd o p words coefs starts k s lead b bw bc
       made = rw (ef .prime-is, ef .value-is, ev, eq, etw, etc) refl
 
       pub tail-addition : TailAddition (compareWords o) p f q' tw tc r b₁ bw bc ww wc mw mc
       tail-addition =
           subst (λ (x : State). TailAddition (compareWords o) p f q' tw tc x b₁ bw bc ww wc mw mc) (sym er)
-          (subst (λ (x : Buckets). TailAddition (compareWords o) p f q' tw tc (removed s) x bw bc ww wc mw mc) (sym eb₁)
+          (subst (λ (x : Buckets). TailAddition (compareWords o) p f q' tw tc (finishedOne s) x bw bc ww wc mw mc) (sym eb₁)
           (record {
             stands = a .rest;
             multiplicands = record {
@@ -175,7 +175,7 @@ module _ {o : Order} {p : ℕ} {words coefs starts : List ℕ} {k : ℕ} {s : St
       divided-done {s'} {b'} {bw'} {bc'} d =
           divided none few (d .comparisons)
           (subst (λ (x : List (Term ℕ)). AddDone (compareWords o) p (dropped b (lead .bucket)) x bw bc bw' bc' b' (d .comparisons)) made (subst (λ (x : Buckets). AddDone (compareWords o) p x (multiple (λ x y. x + y) (f .prime) (f .value) q' (terms tw tc)) bw bc bw' bc' b' (d .comparisons)) eb₁ (d .done)))
-          (d .is ∙ ap₂ (λ (x : State) (n : ℕ). added x (d .comparisons) n) er (ap length etw))
+          (d .is ∙ ap₂ (λ (x : State) (n : ℕ). brought (counted x (d .comparisons)) n) er (ap length etw))
 
 -- ---- the part that is the divisor, as it is handed on
 module _ {x : ℕ} {l gs : List ℕ} (cons : l ≡ x ∷ drop 1 l) (e : gs ≡ l) where
@@ -198,24 +198,24 @@ module _ {o : Order} {p : ℕ} {words coefs starts : List ℕ} {k : ℕ} {s : St
     is-over : t ≡ anyOver (lead .word - leadWord words starts k) (tailOf starts k words)
     is-over = eb ∙ ap₂ anyOver eq etw
 
-    pub over-done : t ≡ true → {s' : State} → s' ≡ halted s 12 → Divided o p words coefs starts k s lead b bw bc s' inverses b bw bc
+    pub over-done : t ≡ true → {s' : State} → s' ≡ halted s ExponentOver → Divided o p words coefs starts k s lead b bw bc s' inverses b bw bc
     over-done h e = record { kept = a .kept; done = over (sym is-over ∙ h) e refl refl refl }
 
     module _ (no : t ≡ false) {n : ℕ} (en : n ≡ heldIn b) where
       pub not-over : anyOver (lead .word - leadWord words starts k) (tailOf starts k words) ≡ false
       not-over = sym is-over ∙ no
 
-      pub many-done : 4096 < n - 1 + length tw → {s' : State} → s' ≡ halted s 11 → Divided o p words coefs starts k s lead b bw bc s' inverses b bw bc
-      many-done h e = record { kept = a .kept; done = many not-over (let z : 4096 < held (bucketsIn (dropped b (lead .bucket)) bw bc) + length (tailOf starts k words) = omega (arith, a .one-less, held-is a, ap length etw) in z) e refl refl refl }
+      pub many-done : mostTerms < n - 1 + length tw → {s' : State} → s' ≡ halted s TooManyTerms → Divided o p words coefs starts k s lead b bw bc s' inverses b bw bc
+      many-done h e = record { kept = a .kept; done = many not-over (let z : mostTerms < held (bucketsIn (dropped b (lead .bucket)) bw bc) + length (tailOf starts k words) = omega (arith, a .one-less, held-is a, ap length etw) in z) e refl refl refl }
 
-      pub few-held : n - 1 + length tw ≤ 4096 → held (bucketsIn (dropped b (lead .bucket)) bw bc) + length (tailOf starts k words) ≤ 4096
+      pub few-held : n - 1 + length tw ≤ mostTerms → held (bucketsIn (dropped b (lead .bucket)) bw bc) + length (tailOf starts k words) ≤ mostTerms
       few-held h = omega (arith, a .one-less, held-is a, ap length etw)
 
   module _ {n : ℕ} (en : n ≡ heldIn b) where
     pub held-some : 1 ≤ n
     held-some = omega (arith, a .one-less, held-is a)
 
-    pub held-few : n ≤ 4096
+    pub held-few : n ≤ mostTerms
     held-few = omega (arith, a .room, held-is a)
 
   -- ---- −c divided by the lead coefficient

@@ -1,21 +1,21 @@
 -- The divisor found by its number is the one of the definition. Assumes nothing.
-use mathlib.Core.Path.{_≡_, refl, sym, ap, ap₂, _∙_, subst}
-use mathlib.Core.Bool.{true, false}
-use mathlib.Core.List.{List, [], _∷_}
+use mathlib.Core.Path.{_≡_, sym, ap, ap₂, _∙_, subst}
+use mathlib.Core.Bool.{true}
+use mathlib.Core.List.{List, _∷_}
 use Prim.Native.Nat.{ℕ, zero, suc, _+_, _-_, _<_, _≤_}
 use native.Mathlib.Decide.{decLe}
 use native.Mathlib.Omega.{arith}
 use lib.ListN.{length}
 use Rattle.monomial.specs.declared.order.Order.{Order}
-use Rattle.monomial.specs.Words.{Packed, dividesWord}
+use Rattle.monomial.specs.Words.{dividesWord}
 use Rattle.monomial.proofs.LayoutLaws.{layout-packed}
 use Rattle.polynomial.specs.Terms.{Term, term, terms}
-use Rattle.polynomial.specs.Opening.{partOf, Within}
+use Rattle.polynomial.specs.Opening.{Within}
 use Rattle.space.specs.Space.{listFrom}
-use Rattle.division.specs.Division.{Fit, unfit, fits, firstFit}
+use Rattle.division.specs.Choice.{unfit, fits, firstFrom, chosen}
 use Rattle.division.specs.Divisors.{Valid}
 use Rattle.division.proofs.FitLaws.{first-none, first-here, first-later}
-use Rattle.engine.specs.Runs.{polynomial}
+use Rattle.call.specs.Lending.{polynomial}
 use Rattle.divisors.specs.Divisors.{leadWord, leadCoef, Leads, FirstFit}
 use Rattle.reducer.specs.Divisors.{divisorsOf, OfLayout, Checked}
 use Rattle.reducer.specs.Dividing.{tailOf}
@@ -45,30 +45,32 @@ module _ {o : Order} {p : ℕ} {words coefs starts : List ℕ} (c : Checked o p 
 
   module _ {α k : ℕ} (f : FirstFit words starts α k) where
     -- from divisor j on, with n of them left
-    unfit-from : (n j : ℕ) → j + n + 1 ≡ length starts → 1 ≤ j → k + 1 ≡ length starts → firstFit dividesWord α (listFrom (polynomial words coefs starts) j n) ≡ unfit
+    unfit-from : (n j : ℕ) → j + n + 1 ≡ length starts → 1 ≤ j → k + 1 ≡ length starts → firstFrom dividesWord j α (listFrom (polynomial words coefs starts) j n) ≡ unfit
     unfolding listFrom
-    unfit-from zero j e low last = first-none dividesWord α
+    unfit-from zero j e low last = first-none dividesWord α j
     unfit-from (suc n) j e low last =
-        ap (λ (g : List (Term ℕ)). firstFit dividesWord α (g ∷ listFrom (polynomial words coefs starts) (suc j) n)) (polynomial-cons j low (omega arith))
-        ∙ (first-later dividesWord α (leadAt j) (tailAt j) (listFrom (polynomial words coefs starts) (suc j) n) (f .before j low (omega arith))
+        ap (λ (g : List (Term ℕ)). firstFrom dividesWord j α (g ∷ listFrom (polynomial words coefs starts) (suc j) n)) (polynomial-cons j low (omega arith))
+        ∙ (first-later dividesWord α j (leadAt j) (tailAt j) (listFrom (polynomial words coefs starts) (suc j) n) (f .before j low (omega arith))
         ∙ unfit-from n (suc j) (omega arith) (omega arith) last)
 
-    fits-from : (n j : ℕ) → j + n + 1 ≡ length starts → 1 ≤ j → j ≤ k → k + 1 < length starts → firstFit dividesWord α (listFrom (polynomial words coefs starts) j n) ≡ fits (leadAt k) (tailAt k)
+    fits-from : (n j : ℕ) → j + n + 1 ≡ length starts → 1 ≤ j → j ≤ k → k + 1 < length starts → firstFrom dividesWord j α (listFrom (polynomial words coefs starts) j n) ≡ fits k (leadAt k) (tailAt k)
     unfolding listFrom
     fits-from zero j e low le high = absurd (let z : ⊥ = omega arith in z)
     fits-from (suc n) j e low le high =
-        ap (λ (g : List (Term ℕ)). firstFit dividesWord α (g ∷ listFrom (polynomial words coefs starts) (suc j) n)) (polynomial-cons j low (omega arith))
+        ap (λ (g : List (Term ℕ)). firstFrom dividesWord j α (g ∷ listFrom (polynomial words coefs starts) (suc j) n)) (polynomial-cons j low (omega arith))
         ∙ go (decLe k j) (λ l. fits-from n (suc j) (omega arith) (omega arith) l high)
       where
-        go : Dec (k ≤ j) → (suc j ≤ k → firstFit dividesWord α (listFrom (polynomial words coefs starts) (suc j) n) ≡ fits (leadAt k) (tailAt k)) → firstFit dividesWord α ((leadAt j ∷ tailAt j) ∷ listFrom (polynomial words coefs starts) (suc j) n) ≡ fits (leadAt k) (tailAt k)
+        go : Dec (k ≤ j) → (suc j ≤ k → firstFrom dividesWord (suc j) α (listFrom (polynomial words coefs starts) (suc j) n) ≡ fits k (leadAt k) (tailAt k)) → firstFrom dividesWord j α ((leadAt j ∷ tailAt j) ∷ listFrom (polynomial words coefs starts) (suc j) n) ≡ fits k (leadAt k) (tailAt k)
         go (yes q) rest =
             let here : k ≡ j = omega arith in
-            first-here dividesWord α (leadAt j) (tailAt j) (listFrom (polynomial words coefs starts) (suc j) n) (subst (λ (i : ℕ). dividesWord (leadWord words starts i) α ≡ true) here (f .here high))
-            ∙ ap (λ (i : ℕ). fits (leadAt i) (tailAt i)) (sym here)
-        go (no q) rest = first-later dividesWord α (leadAt j) (tailAt j) (listFrom (polynomial words coefs starts) (suc j) n) (f .before j low (omega arith)) ∙ rest (omega arith)
+            first-here dividesWord α j (leadAt j) (tailAt j) (listFrom (polynomial words coefs starts) (suc j) n) (subst (λ (i : ℕ). dividesWord (leadWord words starts i) α ≡ true) here (f .here high))
+            ∙ ap (λ (i : ℕ). fits i (leadAt i) (tailAt i)) (sym here)
+        go (no q) rest = first-later dividesWord α j (leadAt j) (tailAt j) (listFrom (polynomial words coefs starts) (suc j) n) (f .before j low (omega arith)) ∙ rest (omega arith)
 
-    pub fit-none : length starts ≤ k + 1 → firstFit dividesWord α (divisorsOf words coefs starts) ≡ unfit
+    pub fit-none : length starts ≤ k + 1 → chosen dividesWord (divisorsOf words coefs starts) α ≡ unfit
+    unfolding chosen
     fit-none h = unfit-from (length starts - 2) 1 (omega (arith, c .some)) (omega arith) (omega (arith, f .high))
 
-    pub fit-some : k + 1 < length starts → firstFit dividesWord α (divisorsOf words coefs starts) ≡ fits (leadAt k) (tailAt k)
+    pub fit-some : k + 1 < length starts → chosen dividesWord (divisorsOf words coefs starts) α ≡ fits k (leadAt k) (tailAt k)
+    unfolding chosen
     fit-some h = fits-from (length starts - 2) 1 (omega (arith, c .some)) (omega arith) (f .low) h

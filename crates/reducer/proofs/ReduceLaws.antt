@@ -1,11 +1,12 @@
 -- The steps of a reduction in turn. Assumes nothing.
 use mathlib.Core.Path.{_≡_, refl, sym, ap, ap₂, _∙_, subst}
 use mathlib.Core.Bool.{Bool, true, false}
-use mathlib.Core.List.{List, [], _∷_, _++_}
-use Prim.Native.Nat.{ℕ, zero, suc, _+_, _-_, _*_, _<_, _≤_, Ordering}
+use mathlib.Core.List.{List, []}
+use Prim.Native.Nat.{ℕ, suc, _+_, _-_, _<_, _≤_}
 use native.Mathlib.Omega.{arith}
-use lib.ListN.{length, drop, take}
+use lib.ListN.{length, drop}
 use lib.Seq.{drop-drop}
+use Rattle.limits.specs.Limits.{mostTerms}
 use Rattle.monomial.specs.declared.order.Order.{Order}
 use Rattle.monomial.specs.Words.{compareWords, dividesWord}
 use Rattle.monomial.proofs.OrderLaws.{words-order}
@@ -16,19 +17,21 @@ use Rattle.geobucket.specs.Buckets.{empty, held, Good, add, addCompared}
 use Rattle.geobucket.specs.Events as events
 use Rattle.geobucket.proofs.AddLaws.{adds}
 use Rattle.geobucket.proofs.EventLaws.{room-six}
-use Rattle.space.specs.Space.{Buckets, bucketsIn, Stands, noBuckets}
+use Rattle.space.specs.Space.{Buckets, bucketsIn, noBuckets}
 use Rattle.space.proofs.SpaceLaws.{lists-none, stands-none}
-use Rattle.buckets.specs.Adding.{AddDone}
+use Rattle.refusal.specs.declared.Refusal.the-variants.{TooManyTerms}
+use Rattle.call.specs.declared.state.State.{State}
+use Rattle.call.specs.States.{begun, counted, brought, halted, goesOn}
+use Rattle.call.specs.Lending.{polynomial, Addend, Lent, WorkSpace}
+use Rattle.division.specs.Choice.{chosen}
 use Rattle.division.specs.Divisors.{AllOf}
-use Rattle.division.specs.Steps.{Reduction, overWord, stepsFrom, reductionOfWords}
+use Rattle.division.specs.Steps.{overWord, stepsFrom, reductionOfWords}
 use Rattle.division.proofs.HeldTerms.{Every, add-every}
 use Rattle.division.proofs.Endings.{begins, begins-not}
-use Rattle.engine.specs.Runs.{polynomial}
-use Rattle.engine.specs.States.{Addend, Lent, Output, Work}
-use Rattle.reducer.specs.declared.state.State.{State}
 use Rattle.divisors.specs.Divisors.{KeptLeads, Inverses}
-use Rattle.reducer.specs.Divisors.{divisorsOf, OfLayout, Checked}
-use Rattle.reducer.specs.Stepping.{Counts, Ended, Going, Reaches, Sound, Stepping, Stepped, Beginning, Begun, refused, begun, Reducible, Reduced}
+use Rattle.reducer.specs.Divisors.{divisorsOf, OfLayout}
+use Rattle.reducer.specs.Stepping.{Ended, Going, Reaches, Sound, Stepping, Stepped, Beginning, Begun, refused, added, Reducible, Reduced}
+use Rattle.reducer.proofs.BeginLaws.{held-none}
 use Rattle.reducer.proofs.StepLaws.{false-true, of-every}
 
 -- the steps that may still come
@@ -39,18 +42,14 @@ leftBy false n = 0
 pub record Turning (o : Order) (p : ℕ) (words coefs starts : List ℕ) (limit : ℕ) (ow₀ oc₀ : List ℕ) (b : Buckets) (bw bc ww wc ow oc inverses mw mc : List ℕ) (s : State) : Type 0 where
   pub sound : Sound o p limit s b bw bc ow oc
   pub kept : Inverses p coefs starts inverses
-  pub work : Work ww wc
-  pub scratch-words : length mw ≡ 4096
-  pub scratch-coefs : length mc ≡ 4096
+  pub work : WorkSpace ww wc
+  pub scratch-words : length mw ≡ mostTerms
+  pub scratch-coefs : length mc ≡ mostTerms
   pub out-long : length ow ≡ length ow₀
   pub coefs-out-long : length oc ≡ length oc₀
   pub reaches : Reaches o p (divisorsOf words coefs starts) (length ow₀) limit s b bw bc ow oc (reductionOfWords o p (divisorsOf words coefs starts) (length ow₀) limit (polynomial words coefs starts 0))
-  pub words-past : drop (s .terms) ow ≡ drop (s .terms) ow₀
-  pub coefs-past : drop (s .terms) oc ≡ drop (s .terms) oc₀
-
-held-none : held {A = ℕ} empty ≡ 0
-unfolding held
-held-none = refl
+  pub words-past : drop (s .places) ow ≡ drop (s .places) ow₀
+  pub coefs-past : drop (s .places) oc ≡ drop (s .places) oc₀
 
 every-none : (P : ℕ → Type 0) → Every P empty
 unfolding Every
@@ -75,7 +74,7 @@ module _ {o : Order} {p : ℕ} {words coefs starts : List ℕ} {limit : ℕ} (a 
       pub beginning : Beginning p b bw bc ww wc
       beginning = record { none = l .none; modulus = a .checked .modulus; words-long = l .words-long; coefs-long = l .coefs-long; work = l .work }
 
-      module _ {inverses mw mc ww' wc' : List ℕ} (i : Inverses p coefs starts inverses) (lmw : length mw ≡ 4096) (lmc : length mc ≡ 4096) (lw : length ww' ≡ length ww) (lc : length wc' ≡ length wc) where
+      module _ {inverses mw mc ww' wc' : List ℕ} (i : Inverses p coefs starts inverses) (lmw : length mw ≡ mostTerms) (lmc : length mc ≡ mostTerms) (lw : length ww' ≡ length ww) (lc : length wc' ≡ length wc) where
         pub turn-start : {s : State} {b' : Buckets} {bw' bc' : List ℕ} → Begun (compareWords o) p (terms fw fc) bw bc s b' bw' bc' → Turning o p words coefs starts limit ow oc b' bw' bc' ww' wc' ow oc inverses mw mc s
         turn-start {s} {b'} {bw'} {bc'} d = by d
           where
@@ -101,7 +100,7 @@ module _ {o : Order} {p : ℕ} {words coefs starts : List ℕ} {limit : ℕ} (a 
 
             by : Begun (compareWords o) p (terms fw fc) bw bc s b' bw' bc' → Turning o p words coefs starts limit ow oc b' bw' bc' ww' wc' ow oc inverses mw mc s
             by (refused h es eb ebw ebc) =
-                let x : State = record { comparisons = 0; brought = 0; leads = 0; terms = 0; more = false; stop = 11 } in
+                let x : State = halted begun TooManyTerms in
                 rw (eb, ebw, ebc)
                 (subst (λ (y : State). Turning o p words coefs starts limit ow oc noBuckets bw bc ww' wc' ow oc inverses mw mc y) (sym es)
                 (from x noBuckets bw bc
@@ -111,21 +110,23 @@ module _ {o : Order} {p : ℕ} {words coefs starts : List ℕ} {limit : ℕ} (a 
                   of-layout = subst (AllOf (λ b. All (λ t. OfLayout o (t .mono)) b)) (sym (lists-none bw bc)) (of-every (OfLayout o) empty (every-none (OfLayout o)));
                   output = record { same-long = l .same-long; fits = omega arith };
                   few-leads = omega arith;
+                  few-places = omega arith;
+                  given-are = refl;
                   few-comparisons = λ q. absurd (false-true q);
                   few-brought = λ q. absurd (false-true q);
                 })
                 (record {
                   going = λ q. absurd (false-true q);
                   ended = λ q.
-                      subst (Ended x noBuckets bw bc ow oc) (sym (begins-not (compareWords o) dividesWord _-_ _+_ overWord p gs (length ow) limit (polynomial words coefs starts 0) (subst (λ (g : List (Term ℕ)). 4096 < length g) f-is h)))
+                      subst (Ended x noBuckets bw bc ow oc) (sym (begins-not (compareWords o) (chosen dividesWord gs) _-_ _+_ overWord p (length ow) limit (polynomial words coefs starts 0) (subst (λ (g : List (Term ℕ)). mostTerms < length g) f-is h)))
                       (record { stop-is = refl; leads-are = refl; remainder-is = refl; counts = record { buckets-are = lists-none bw bc; comparisons-are = refl; brought-are = refl } });
                 })))
-            by (begun h n e es) =
+            by (added h n e es) =
                 let f = terms fw fc in
                 let valid = a .checked .valid 0 (omega (arith, a .checked .some)) in
                 let none = lists-none bw bc in
                 let lists : bucketsIn b' bw' bc' ≡ add (compareWords o) p f empty = e .lists-are ∙ ap (add (compareWords o) p f) none in
-                let x : State = record { comparisons = n; brought = length f; leads = 0; terms = 0; more = true; stop = 0 } in
+                let x : State = brought (counted begun n) (length f) in
                 subst (λ (y : State). Turning o p words coefs starts limit ow oc b' bw' bc' ww' wc' ow oc inverses mw mc y) (sym es)
                 (from x b' bw' bc'
                 (record {
@@ -134,6 +135,8 @@ module _ {o : Order} {p : ℕ} {words coefs starts : List ℕ} {limit : ℕ} (a 
                   of-layout = subst (AllOf (λ b. All (λ t. OfLayout o (t .mono)) b)) (sym lists) (of-every (OfLayout o) _ (add-every (OfLayout o) (compareWords o) p f empty (subst (All (λ t. OfLayout o (t .mono))) (sym f-is) (valid .are)) (every-none (OfLayout o))));
                   output = record { same-long = l .same-long; fits = omega arith };
                   few-leads = omega arith;
+                  few-places = omega arith;
+                  given-are = refl;
                   few-comparisons = λ q. omega (arith, e .few);
                   few-brought = λ q. omega arith;
                 })
@@ -142,20 +145,20 @@ module _ {o : Order} {p : ℕ} {words coefs starts : List ℕ} {limit : ℕ} (a 
                     work = events.added (compareWords o) p f events.start;
                     counts = record {
                       buckets-are = lists;
-                      comparisons-are = e .count-is ∙ ap (λ (y : List (List (Term ℕ))). length (addCompared (compareWords o) p f y)) none;
-                      brought-are = refl;
+                      comparisons-are = (let z : 0 + n ≡ n = omega arith in z) ∙ e .count-is ∙ ap (λ (y : List (List (Term ℕ))). length (addCompared (compareWords o) p f y)) none;
+                      brought-are = let z : 0 + length f ≡ length f = omega arith in z;
                     };
                     comes-to =
-                        ap (λ (m : ℕ). stepsFrom (compareWords o) dividesWord _-_ _+_ overWord p gs (length ow) m 0 [] (events.added (compareWords o) p f events.start)) (let z : limit - 0 ≡ limit = omega arith in z)
-                        ∙ (ap (λ (g : List (Term ℕ)). stepsFrom (compareWords o) dividesWord _-_ _+_ overWord p gs (length ow) limit 0 [] (events.added (compareWords o) p g events.start)) f-is
-                        ∙ sym (begins (compareWords o) dividesWord _-_ _+_ overWord p gs (length ow) limit (polynomial words coefs starts 0) (subst (λ (g : List (Term ℕ)). length g ≤ 4096) f-is h)));
+                        ap (λ (m : ℕ). stepsFrom (compareWords o) (chosen dividesWord gs) _-_ _+_ overWord p (length ow) m 0 [] (events.added (compareWords o) p f events.start)) (let z : limit - 0 ≡ limit = omega arith in z)
+                        ∙ (ap (λ (g : List (Term ℕ)). stepsFrom (compareWords o) (chosen dividesWord gs) _-_ _+_ overWord p (length ow) limit 0 [] (events.added (compareWords o) p g events.start)) f-is
+                        ∙ sym (begins (compareWords o) (chosen dividesWord gs) _-_ _+_ overWord p (length ow) limit (polynomial words coefs starts 0) (subst (λ (g : List (Term ℕ)). length g ≤ mostTerms) f-is h)));
                   };
                   ended = λ q. absurd (false-true (sym q));
                 }))
 
   -- ---- in a turn
   module _ {ow₀ oc₀ : List ℕ} {b : Buckets} {bw bc ww wc ow oc inverses mw mc : List ℕ} {s : State} (v : Turning o p words coefs starts limit ow₀ oc₀ b bw bc ww wc ow oc inverses mw mc s) where
-    module _ (more : s .more ≡ true) where
+    module _ (more : goesOn (s .course) ≡ true) where
       pub turn-asks : {leads : List ℕ} → KeptLeads words starts leads → Stepping o p words coefs starts leads limit s inverses b bw bc ww wc mw mc ow oc
       turn-asks l = record {
         checked = a .checked;
@@ -192,17 +195,18 @@ module _ {o : Order} {p : ℕ} {words coefs starts : List ℕ} {limit : ℕ} (a 
           coefs-past = d .coefs-past ∙ past oc oc₀ (d .longer) (v .coefs-past);
         }
 
-        pub turn-less : leftBy (s' .more) (limit - s' .leads) < leftBy (s .more) (limit - s .leads)
-        turn-less = subst (λ (b : Bool). leftBy (s' .more) (limit - s' .leads) < leftBy b (limit - s .leads)) (sym more) (by (s' .more) refl)
+        pub turn-less : leftBy (goesOn (s' .course)) (limit - s' .finished) < leftBy (goesOn (s .course)) (limit - s .finished)
+        turn-less = subst (λ (b : Bool). leftBy (goesOn (s' .course)) (limit - s' .finished) < leftBy b (limit - s .finished)) (sym more) (by (goesOn (s' .course)) refl)
           where
-            by : (b : Bool) → s' .more ≡ b → leftBy b (limit - s' .leads) < suc (limit - s .leads)
+            by : (b : Bool) → goesOn (s' .course) ≡ b → leftBy b (limit - s' .finished) < suc (limit - s .finished)
             by true e = let q = d .further e in omega (arith, q .0, q .1)
             by false e = omega arith
 
-    pub turn-end : s .more ≡ false → Reduced o p words coefs starts limit ow₀ oc₀ s b bw bc ow oc
+    pub turn-end : goesOn (s .course) ≡ false → Reduced o p words coefs starts limit ow₀ oc₀ s b bw bc ow oc
     turn-end e = record {
       stands = v .sound .stands;
       output = v .sound .output;
+      given-are = v .sound .given-are;
       ended = v .reaches .ended e;
       words-past = v .words-past;
       coefs-past = v .coefs-past;

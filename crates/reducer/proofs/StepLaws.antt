@@ -2,14 +2,14 @@
 use mathlib.Core.Path.{_≡_, refl, sym, ap, ap₂, _∙_, subst}
 use mathlib.Core.Bool.{Bool, true, false}
 use mathlib.Core.List.{List, [], _∷_, _++_}
-use Prim.Native.Nat.{ℕ, zero, suc, _+_, _-_, _*_, _<_, _≤_, Ordering}
+use Prim.Native.Nat.{ℕ, zero, suc, _+_, _-_, _<_, _≤_, Ordering}
 use native.Mathlib.Decide.{decLe}
 use native.Mathlib.Numerals.{add-one}
 use native.Mathlib.Omega.{arith}
-use lib.ListN.{length, drop, set, length-append, length-set}
+use lib.ListN.{length, set, length-append}
+use Rattle.limits.specs.Limits.{mostTerms}
 use Rattle.monomial.specs.declared.order.Order.{Order}
 use Rattle.monomial.specs.TotalOrder.{TotalOrder}
-use Rattle.monomial.specs.Layout.{Layout}
 use Rattle.monomial.specs.Words.{compareWords, dividesWord, Packed}
 use Rattle.monomial.proofs.OrderLaws.{words-order}
 use Rattle.monomial.proofs.LayoutLaws.{layout-packed}
@@ -23,30 +23,34 @@ use Rattle.geobucket.specs.Events as events
 use Rattle.geobucket.proofs.SearchLaws.{Canon, Within, Fewer, Leads as LeadOf, Finds, search-within, finds}
 use Rattle.geobucket.proofs.AddLaws.{adds}
 use Rattle.geobucket.proofs.EventLaws.{good-canon, room-six}
-use Rattle.space.specs.Space.{Buckets, bucketsIn, Stands, dropped}
+use Rattle.space.specs.Space.{Buckets, bucketsIn, dropped}
 use Rattle.space.proofs.SpaceLaws.{from-long}
+use Rattle.refusal.specs.declared.Refusal.the-variants.{NoOutput, TooManyTerms, ExponentOver, StepLimit}
+use Rattle.call.specs.declared.state.Course.{Course}
+use Rattle.call.specs.declared.state.Course.the-variants.{Finished, Refused}
+use Rattle.call.specs.declared.state.State.{State}
+use Rattle.call.specs.States.{counted, brought, gave, finishedOne, turned, closed, halted, goesOn, stopOf, Countable}
+use Rattle.call.specs.Counts.{Counts}
+use Rattle.call.proofs.OutputLaws.{written-long, grown, grown-output, words-past, coefs-past}
 use Rattle.search.specs.declared.candidate.Candidate.{Candidate}
 use Rattle.search.specs.Candidates.{candidateOf}
-use Rattle.search.specs.Searching.{Removal, FindDone, TakeDone}
+use Rattle.search.specs.Searching.{FindDone, TakeDone}
 use Rattle.search.proofs.FindLaws.{shrunk-long}
 use Rattle.search.proofs.TakeLaws.{Has, the-lead, removal-asks, take-lead}
 use Rattle.buckets.specs.Adding.{AddDone}
 use Rattle.division.specs.Divisors.{AllOf}
-use Rattle.division.specs.Division.{unfit, fits, firstFit, tailMultiple}
+use Rattle.division.specs.Choice.{unfit, fits, chosen}
+use Rattle.division.specs.Division.{tailMultiple}
 use Rattle.division.specs.Steps.{Reduction, anyTooLarge, stoppedBy, stepsFrom, overWord}
 use Rattle.division.proofs.HeldTerms.{Every, OfLead, add-every, search-every}
 use Rattle.division.proofs.TailLaws.{Added}
 use Rattle.division.proofs.Lasts.{with-every}
 use Rattle.division.proofs.WholeLaws.{left-none, left-held}
 use Rattle.division.proofs.StepLaws.{step-none, step-limit, step-kept, step-full, step-large, step-many, step-divided}
-use Rattle.engine.specs.States.{Output}
-use Rattle.engine.proofs.OutputLaws.{written-long, grown, grown-output, words-past, coefs-past}
-use Rattle.reducer.specs.declared.state.State.{State}
 use Rattle.divisors.specs.Divisors.{leadWord, leadCoef, Leads, FirstFit, KeptLeads, Inverses}
-use Rattle.reducer.specs.Divisors.{divisorsOf, OfLayout, Checked}
-use Rattle.reducer.specs.States.{searched, halted, removed, added, kept}
+use Rattle.reducer.specs.Divisors.{divisorsOf, OfLayout}
 use Rattle.reducer.specs.Dividing.{Dividing, DividedTo, over, many, divided, Divided, tailOf}
-use Rattle.reducer.specs.Stepping.{Keeping, Kept, full, put, Counts, remainderIn, Ended, Going, Reaches, Sound, Stepping, Stepped}
+use Rattle.reducer.specs.Stepping.{Keeping, Kept, full, put, remainderIn, Ended, Sound, Stepping, Stepped}
 use Rattle.reducer.proofs.DivideLaws.{over-terms, tail-long, to-add}
 use Rattle.reducer.proofs.FirstLaws.{leads-there, fit-none, fit-some}
 
@@ -65,12 +69,12 @@ of-every P [] a = tt
 of-every P (b ∷ bs) a = (a .0, of-every P bs (a .1))
 
 -- ---- the search
-pub searches : {o : Order} {p : ℕ} {words coefs starts leads : List ℕ} {limit : ℕ} {s : State} {inverses : List ℕ} {b₀ : Buckets} {bw bc ww wc mw mc ow oc : List ℕ} → Stepping o p words coefs starts leads limit s inverses b₀ bw bc ww wc mw mc ow oc → {b : Buckets} {bc' : List ℕ} {k : Candidate} → FindDone (compareWords o) p (bucketsIn b₀ bw bc) b bw bc' k → (s .comparisons < 2000000000000000000) × (k .count < 1000000)
-searches a d = (omega (arith, a .sound .few-comparisons (a .more), a .sound .few-leads, a .few-steps), omega (arith, d .few))
+pub searches : {o : Order} {p : ℕ} {words coefs starts leads : List ℕ} {limit : ℕ} {s : State} {inverses : List ℕ} {b₀ : Buckets} {bw bc ww wc mw mc ow oc : List ℕ} → Stepping o p words coefs starts leads limit s inverses b₀ bw bc ww wc mw mc ow oc → {b : Buckets} {bc' : List ℕ} {k : Candidate} → FindDone (compareWords o) p (bucketsIn b₀ bw bc) b bw bc' k → Countable (s .comparisons) (k .count)
+searches a d = omega (arith, a .sound .few-comparisons (a .more), a .sound .few-leads, a .few-steps, d .few)
 
 -- ---- once the lead was searched for
 module _ {o : Order} {p : ℕ} {words coefs starts leads : List ℕ} {limit : ℕ} {s : State} {inverses : List ℕ} {b₀ : Buckets} {bw bc ww wc mw mc ow oc : List ℕ} (a : Stepping o p words coefs starts leads limit s inverses b₀ bw bc ww wc mw mc ow oc)
-    {b : Buckets} {bc' : List ℕ} {k : Candidate} (d : FindDone (compareWords o) p (bucketsIn b₀ bw bc) b bw bc' k) {t : State} (et : t ≡ searched s (k .count)) where
+    {b : Buckets} {bc' : List ℕ} {k : Candidate} (d : FindDone (compareWords o) p (bucketsIn b₀ bw bc) b bw bc' k) {t : State} (et : t ≡ counted s (k .count)) where
   abbrev cmp : ℕ → ℕ → Ordering
   cmp = compareWords o
 
@@ -95,10 +99,10 @@ module _ {o : Order} {p : ℕ} {words coefs starts leads : List ℕ} {limit : �
   every : OfLead (OfLayout o) (search (compareWords o) p (bucketsIn b₀ bw bc) .answer) × Every (OfLayout o) (search (compareWords o) p (bucketsIn b₀ bw bc) .buckets)
   every = search-every (OfLayout o) cmp p bs (every-of (OfLayout o) bs (a .sound .of-layout))
 
-  left-few : held (withLead (search (compareWords o) p (bucketsIn b₀ bw bc) .answer) (search (compareWords o) p (bucketsIn b₀ bw bc) .buckets)) ≤ 4096
+  left-few : held (withLead (search (compareWords o) p (bucketsIn b₀ bw bc) .answer) (search (compareWords o) p (bucketsIn b₀ bw bc) .buckets)) ≤ mostTerms
   left-few = by (search cmp p bs .answer) refl
     where
-      by : (x : Lead ℕ) → search cmp p bs .answer ≡ x → held (withLead (search cmp p bs .answer) (search cmp p bs .buckets)) ≤ 4096
+      by : (x : Lead ℕ) → search cmp p bs .answer ≡ x → held (withLead (search cmp p bs .answer) (search cmp p bs .buckets)) ≤ mostTerms
       by none e = omega (arith, left-none cmp p O pos bs canon e)
       by (lead at u) e = let f : held (search cmp p bs .buckets) < held bs = subst (λ (x : Lead ℕ). Fewer cmp p x (search cmp p bs .buckets) bs) e (found .fewer) in omega (arith, left-held cmp p O pos bs canon at u e, a .sound .room)
 
@@ -110,20 +114,22 @@ module _ {o : Order} {p : ℕ} {words coefs starts leads : List ℕ} {limit : �
       by (lead at u) n = refl
 
   -- ---- the step ends the reduction with the lead left where it is
-  halted-sound : (r : ℕ) → Sound o p limit (halted (searched s (k .count)) r) b bw bc' ow oc
-  halted-sound r = record {
+  halted-sound : (r : Course) → goesOn r ≡ false → Sound o p limit (turned (counted s (k .count)) r) b bw bc' ow oc
+  halted-sound r off = record {
     stands = d .stands;
     room = omega (arith, ap held (d .lists-are), left-few);
     of-layout = subst (AllOf (λ b. All (λ t. OfLayout o (t .mono)) b)) (sym (d .lists-are)) (of-every (OfLayout o) _ (with-every (OfLayout o) (search cmp p bs .answer) (search cmp p bs .buckets) (every .0) (every .1)));
     output = a .sound .output;
     few-leads = a .sound .few-leads;
-    few-comparisons = λ e. absurd (false-true e);
-    few-brought = λ e. absurd (false-true e);
+    few-places = a .sound .few-places;
+    given-are = a .sound .given-are;
+    few-comparisons = λ e. absurd (false-true (sym off ∙ e));
+    few-brought = λ e. absurd (false-true (sym off ∙ e));
   }
 
-  halted-ended : (r : ℕ) (R : Reduction ℕ) (w : events.Work ℕ) → Counts s b₀ bw bc w → stoppedBy (compareWords o) dividesWord _-_ _+_ overWord p (divisorsOf words coefs starts) (length ow) r (s .leads) (remainderIn s ow oc) w ≡ R → Ended (halted (searched s (k .count)) r) b bw bc' ow oc R
+  halted-ended : (r : Course) (R : Reduction ℕ) (w : events.Work ℕ) → Counts s b₀ bw bc w → stoppedBy (compareWords o) p (stopOf r) (s .finished) (remainderIn s ow oc) w ≡ R → Ended (turned (counted s (k .count)) r) b bw bc' ow oc R
   halted-ended r R w c e =
-      subst (Ended (halted (searched s (k .count)) r) b bw bc' ow oc) e
+      subst (Ended (turned (counted s (k .count)) r) b bw bc' ow oc) e
       (record {
         stop-is = refl;
         leads-are = refl;
@@ -135,16 +141,16 @@ module _ {o : Order} {p : ℕ} {words coefs starts leads : List ℕ} {limit : �
         };
       })
 
-  halted-step : (r : ℕ) → ((w : events.Work ℕ) → Counts s b₀ bw bc w → stepsFrom (compareWords o) dividesWord _-_ _+_ overWord p (divisorsOf words coefs starts) (length ow) (limit - s .leads) (s .leads) (remainderIn s ow oc) w ≡ stoppedBy (compareWords o) dividesWord _-_ _+_ overWord p (divisorsOf words coefs starts) (length ow) r (s .leads) (remainderIn s ow oc) w)
-      → {s' : State} → s' ≡ halted t r → {inverses' : List ℕ} → Inverses p coefs starts inverses' → Stepped o p words coefs starts limit s b₀ bw bc ow oc s' inverses' b bw bc' ow oc
-  halted-step r steps {s'} es {inverses'} i =
-      subst (λ (x : State). Stepped o p words coefs starts limit s b₀ bw bc ow oc x inverses' b bw bc' ow oc) (sym (es ∙ ap (λ (x : State). halted x r) et))
+  halted-step : (r : Course) → goesOn r ≡ false → ((w : events.Work ℕ) → Counts s b₀ bw bc w → stepsFrom (compareWords o) (chosen dividesWord (divisorsOf words coefs starts)) _-_ _+_ overWord p (length ow) (limit - s .finished) (s .finished) (remainderIn s ow oc) w ≡ stoppedBy (compareWords o) p (stopOf r) (s .finished) (remainderIn s ow oc) w)
+      → {s' : State} → s' ≡ turned t r → {inverses' : List ℕ} → Inverses p coefs starts inverses' → Stepped o p words coefs starts limit s b₀ bw bc ow oc s' inverses' b bw bc' ow oc
+  halted-step r off steps {s'} es {inverses'} i =
+      subst (λ (x : State). Stepped o p words coefs starts limit s b₀ bw bc ow oc x inverses' b bw bc' ow oc) (sym (es ∙ ap (λ (x : State). turned x r) et))
       (record {
-        sound = halted-sound r;
+        sound = halted-sound r off;
         kept = i;
-        further = λ e. absurd (false-true e);
+        further = λ e. absurd (false-true (sym off ∙ e));
         reaches = λ R g. record {
-          going = λ e. absurd (false-true e);
+          going = λ e. absurd (false-true (sym off ∙ e));
           ended = λ e. halted-ended r R (g .work) (g .counts) (sym (steps (g .work) (g .counts)) ∙ g .comes-to);
         };
         longer = omega arith;
@@ -166,10 +172,10 @@ module _ {o : Order} {p : ℕ} {words coefs starts leads : List ℕ} {limit : �
           let q : k .bucket ≡ at = ap (λ (x : Candidate). x .bucket) (d .candidate-is ∙ ap (λ (x : Lead ℕ). candidateOf x (length (search cmp p bs .pairs))) e) in
           absurd (let z : ⊥ = omega (arith, w, long, q) in z)
 
-  pub zero-step : k .bucket ≡ 6 → {s' : State} → s' ≡ halted t 0 → Stepped o p words coefs starts limit s b₀ bw bc ow oc s' inverses b bw bc' ow oc
+  pub zero-step : k .bucket ≡ 6 → {s' : State} → s' ≡ closed t → Stepped o p words coefs starts limit s b₀ bw bc ow oc s' inverses b bw bc' ow oc
   zero-step h es =
-      halted-step 0
-      (λ w c. step-none cmp dividesWord _-_ _+_ overWord p (divisorsOf words coefs starts) (length ow) (limit - s .leads) (s .leads) (remainderIn s ow oc) w (ap (λ (x : List (List (Term ℕ))). search cmp p x .answer) (sym (c .buckets-are)) ∙ answer-none h))
+      halted-step Finished refl
+      (λ w c. step-none cmp (chosen dividesWord (divisorsOf words coefs starts)) _-_ _+_ overWord p (length ow) (limit - s .finished) (s .finished) (remainderIn s ow oc) w (ap (λ (x : List (List (Term ℕ))). search cmp p x .answer) (sym (c .buckets-are)) ∙ answer-none h))
       es (a .kept)
 
   -- ---- a lead was found
@@ -205,20 +211,20 @@ module _ {o : Order} {p : ℕ} {words coefs starts leads : List ℕ} {limit : �
     taken = take-lead O canon six d ne refl
 
     -- no step is left
-    pub limit-step : t .leads ≡ limit → {s' : State} → s' ≡ halted t 13 → Stepped o p words coefs starts limit s b₀ bw bc ow oc s' inverses b bw bc' ow oc
+    pub limit-step : t .finished ≡ limit → {s' : State} → s' ≡ halted t StepLimit → Stepped o p words coefs starts limit s b₀ bw bc ow oc s' inverses b bw bc' ow oc
     limit-step h es =
-        let h' : s .leads ≡ limit = ap (λ (x : State). x .leads) (sym et) ∙ h in
-        let none-left : limit - s .leads ≡ 0 = omega arith in
-        halted-step 13
-        (λ w c. ap (λ (m : ℕ). stepsFrom cmp dividesWord _-_ _+_ overWord p (divisorsOf words coefs starts) (length ow) m (s .leads) (remainderIn s ow oc) w) none-left ∙ step-limit cmp dividesWord _-_ _+_ overWord p (divisorsOf words coefs starts) (length ow) (s .leads) (remainderIn s ow oc) w (L .at) (L .term) (in-work w c))
+        let h' : s .finished ≡ limit = ap (λ (x : State). x .finished) (sym et) ∙ h in
+        let none-left : limit - s .finished ≡ 0 = omega arith in
+        halted-step (Refused StepLimit) refl
+        (λ w c. ap (λ (m : ℕ). stepsFrom cmp (chosen dividesWord (divisorsOf words coefs starts)) _-_ _+_ overWord p (length ow) m (s .finished) (remainderIn s ow oc) w) none-left ∙ step-limit cmp (chosen dividesWord (divisorsOf words coefs starts)) _-_ _+_ overWord p (length ow) (s .finished) (remainderIn s ow oc) w (L .at) (L .term) (in-work w c))
         es (a .kept)
 
     pub first-asks : Leads words starts × KeptLeads words starts leads × Packed (k .word)
     first-asks = (leads-there (a .checked), a .leads-kept, layout-packed o 6 (k .word) (omega arith) word-layout)
 
-    module _ (room : t .leads ≡ limit → ⊥) where
-      few : s .leads < limit
-      few = let q : s .leads ≡ limit → ⊥ = λ e. room (ap (λ (x : State). x .leads) et ∙ e) in lt-of (s .leads) limit (a .sound .few-leads) q
+    module _ (room : t .finished ≡ limit → ⊥) where
+      few : s .finished < limit
+      few = let q : s .finished ≡ limit → ⊥ = λ e. room (ap (λ (x : State). x .finished) et ∙ e) in lt-of (s .finished) limit (a .sound .few-leads) q
         where
           lt-of : (m n : ℕ) → m ≤ n → (m ≡ n → ⊥) → m < n
           lt-of m n l q = by (decLe n m)
@@ -227,7 +233,7 @@ module _ {o : Order} {p : ℕ} {words coefs starts leads : List ℕ} {limit : �
               by (yes h) = absurd (q (omega arith))
               by (no h) = omega arith
 
-      one-left : limit - s .leads ≡ suc (limit - suc (s .leads))
+      one-left : limit - s .finished ≡ suc (limit - suc (s .finished))
       one-left = omega (arith, few)
 
       -- ---- the lead is divided by divisor i
@@ -260,7 +266,7 @@ module _ {o : Order} {p : ℕ} {words coefs starts leads : List ℕ} {limit : �
         pub keep-asks : Keeping t k b ow oc
         keep-asks =
             subst (λ (x : State). Keeping x k b ow oc) (sym et)
-            (record { removal = removal-asks O canon six d ne; few-leads = omega (arith, few, a .few-steps); output = a .sound .output })
+            (record { removal = removal-asks O canon six d ne; few-leads = omega (arith, few, a .few-steps); given-are = a .sound .given-are; few-places = a .sound .few-places; output = a .sound .output })
 
         -- the definition finds the same divisor
         module _ (high : i + 1 < length starts) where
@@ -276,8 +282,8 @@ module _ {o : Order} {p : ℕ} {words coefs starts leads : List ℕ} {limit : �
           tail-is : length (terms (tailOf starts i words) (tailOf starts i coefs)) ≡ length (tailOf starts i words)
           tail-is = length-terms (tailOf starts i words) (tailOf starts i coefs) (tail-long D)
 
-          fit : firstFit dividesWord (L .term .mono) (divisorsOf words coefs starts) ≡ fits (term (leadWord words starts i) (leadCoef coefs starts i)) (terms (tailOf starts i words) (tailOf starts i coefs))
-          fit = ap (λ (m : ℕ). firstFit dividesWord m (divisorsOf words coefs starts)) (sym word-is) ∙ fit-some (a .checked) f high
+          fit : chosen dividesWord (divisorsOf words coefs starts) (L .term .mono) ≡ fits i (term (leadWord words starts i) (leadCoef coefs starts i)) (terms (tailOf starts i words) (tailOf starts i coefs))
+          fit = ap (chosen dividesWord (divisorsOf words coefs starts)) (sym word-is) ∙ fit-some (a .checked) f high
 
           large-is : anyTooLarge overWord (L .term .mono - leadWord words starts i) (terms (tailOf starts i words) (tailOf starts i coefs)) ≡ anyOver (k .word - leadWord words starts i) (tailOf starts i words)
           large-is = over-terms (L .term .mono - leadWord words starts i) (tailOf starts i words) (tailOf starts i coefs) (tail-long D) ∙ ap (λ (m : ℕ). anyOver (m - leadWord words starts i) (tailOf starts i words)) (sym word-is)
@@ -287,16 +293,16 @@ module _ {o : Order} {p : ℕ} {words coefs starts leads : List ℕ} {limit : �
 
           -- where a step is left
           abbrev Steps : (more leads : ℕ) → List (Term ℕ) → events.Work ℕ → Reduction ℕ
-          Steps more leads r w = stepsFrom cmp dividesWord _-_ _+_ overWord p (divisorsOf words coefs starts) (length ow) more leads r w
+          Steps more leads r w = stepsFrom cmp (chosen dividesWord (divisorsOf words coefs starts)) _-_ _+_ overWord p (length ow) more leads r w
 
-          at-more : (w : events.Work ℕ) {x : Reduction ℕ} → Steps (suc (limit - suc (s .leads))) (s .leads) (remainderIn s ow oc) w ≡ x → Steps (limit - s .leads) (s .leads) (remainderIn s ow oc) w ≡ x
-          at-more w e = ap (λ (m : ℕ). Steps m (s .leads) (remainderIn s ow oc) w) one-left ∙ e
+          at-more : (w : events.Work ℕ) {x : Reduction ℕ} → Steps (suc (limit - suc (s .finished))) (s .finished) (remainderIn s ow oc) w ≡ x → Steps (limit - s .finished) (s .finished) (remainderIn s ow oc) w ≡ x
+          at-more w e = ap (λ (m : ℕ). Steps m (s .finished) (remainderIn s ow oc) w) one-left ∙ e
 
           divided-to : {inverses' : List ℕ} → Inverses p coefs starts inverses' → {bw' bc'' : List ℕ} {b' : Buckets} {m : ℕ}
-              → anyOver (k .word - leadWord words starts i) (tailOf starts i words) ≡ false → held (bucketsIn (dropped b (k .bucket)) bw bc') + length (tailOf starts i words) ≤ 4096
+              → anyOver (k .word - leadWord words starts i) (tailOf starts i words) ≡ false → held (bucketsIn (dropped b (k .bucket)) bw bc') + length (tailOf starts i words) ≤ mostTerms
               → AddDone (compareWords o) p (dropped b (k .bucket)) (tailMultiple _-_ _+_ p (L .term) (term (leadWord words starts i) (leadCoef coefs starts i)) (terms (tailOf starts i words) (tailOf starts i coefs))) bw bc' bw' bc'' b' m
               → Added (compareWords o) p (OfLayout o) (L .term) (tailMultiple _-_ _+_ p (L .term) (term (leadWord words starts i) (leadCoef coefs starts i)) (terms (tailOf starts i words) (tailOf starts i coefs)))
-              → Stepped o p words coefs starts limit s b₀ bw bc ow oc (added (removed (searched s (k .count))) m (length (tailOf starts i words))) inverses' b' bw' bc'' ow oc
+              → Stepped o p words coefs starts limit s b₀ bw bc ow oc (brought (counted (finishedOne (counted s (k .count))) m) (length (tailOf starts i words))) inverses' b' bw' bc'' ow oc
           divided-to i' {bw'} {bc''} {b'} {m} no-over small e u = record {
             sound = record {
               stands = e .stands;
@@ -304,6 +310,8 @@ module _ {o : Order} {p : ℕ} {words coefs starts leads : List ℕ} {limit : �
               of-layout = subst (AllOf (λ b. All (λ t. OfLayout o (t .mono)) b)) (sym (e .lists-are)) (of-every (OfLayout o) _ (add-every (OfLayout o) cmp p h cs (u .are) (subst (Every (OfLayout o)) (sym (taken .lists-are)) (every .1))));
               output = a .sound .output;
               few-leads = omega (arith, few);
+              few-places = omega (arith, a .sound .few-places);
+              given-are = a .sound .given-are;
               few-comparisons = λ q. omega (arith, a .sound .few-comparisons (a .more), d .few, e .few);
               few-brought = λ q. omega (arith, a .sound .few-brought (a .more), small);
             };
@@ -314,10 +322,10 @@ module _ {o : Order} {p : ℕ} {words coefs starts leads : List ℕ} {limit : �
                 work = events.added cmp p h (events.removed cmp p (v .work));
                 counts = record {
                   buckets-are = e .lists-are ∙ ap (add cmp p h) (sym (rest-is (v .work) (v .counts)));
-                  comparisons-are = counted (v .work) (v .counts);
+                  comparisons-are = pairs-are (v .work) (v .counts);
                   brought-are = ap (λ (n : ℕ). n + length (tailOf starts i words)) (v .counts .brought-are) ∙ (ap (λ (n : ℕ). length (v .work .brought) + n) (sym h-long) ∙ sym (length-append (v .work .brought) h));
                 };
-                comes-to = ap (λ (n : ℕ). Steps (limit - n) n (remainderIn s ow oc) (events.added cmp p h (events.removed cmp p (v .work)))) (add-one (s .leads)) ∙ (sym (at-more (v .work) (step-divided cmp dividesWord _-_ _+_ overWord p (divisorsOf words coefs starts) (length ow) (limit - suc (s .leads)) (s .leads) (remainderIn s ow oc) (v .work) (L .at) (L .term) (in-work (v .work) (v .counts)) (term (leadWord words starts i) (leadCoef coefs starts i)) (terms (tailOf starts i words) (tailOf starts i coefs)) fit (large-is ∙ no-over) (omega (arith, ap held (rest-is (v .work) (v .counts)), tail-is)))) ∙ v .comes-to);
+                comes-to = ap (λ (n : ℕ). Steps (limit - n) n (remainderIn s ow oc) (events.added cmp p h (events.removed cmp p (v .work)))) (add-one (s .finished)) ∙ (sym (at-more (v .work) (step-divided cmp (chosen dividesWord (divisorsOf words coefs starts)) _-_ _+_ overWord p (length ow) (limit - suc (s .finished)) (s .finished) (remainderIn s ow oc) (v .work) (L .at) (L .term) (in-work (v .work) (v .counts)) i (term (leadWord words starts i) (leadCoef coefs starts i)) (terms (tailOf starts i words) (tailOf starts i coefs)) fit (large-is ∙ no-over) (omega (arith, ap held (rest-is (v .work) (v .counts)), tail-is)))) ∙ v .comes-to);
               };
               ended = λ q. absurd (false-true (sym q ∙ a .more));
             };
@@ -335,8 +343,8 @@ module _ {o : Order} {p : ℕ} {words coefs starts leads : List ℕ} {limit : �
               h-long : length (tailMultiple _-_ _+_ p (L .term) (term (leadWord words starts i) (leadCoef coefs starts i)) (terms (tailOf starts i words) (tailOf starts i coefs))) ≡ length (tailOf starts i words)
               h-long = length-multiple _+_ p _ _ (terms (tailOf starts i words) (tailOf starts i coefs)) ∙ tail-is
 
-              counted : (w : events.Work ℕ) (c : Counts s b₀ bw bc w) → s .comparisons + k .count + m ≡ length ((w .pairs ++ search cmp p (w .buckets) .pairs) ++ addCompared cmp p h (search cmp p (w .buckets) .buckets))
-              counted w c =
+              pairs-are : (w : events.Work ℕ) (c : Counts s b₀ bw bc w) → s .comparisons + k .count + m ≡ length ((w .pairs ++ search cmp p (w .buckets) .pairs) ++ addCompared cmp p h (search cmp p (w .buckets) .buckets))
+              pairs-are w c =
                   let x : s .comparisons ≡ length (w .pairs) = c .comparisons-are in
                   let y : k .count ≡ length (search cmp p (w .buckets) .pairs) = count-is ∙ ap (λ (x : List (List (Term ℕ))). length (search cmp p x .pairs)) (c .buckets-are) in
                   let z : m ≡ length (addCompared cmp p h (search cmp p (w .buckets) .buckets)) = e .count-is ∙ ap (λ (x : List (List (Term ℕ))). length (addCompared cmp p h x)) (sym (rest-is w c)) in
@@ -348,41 +356,41 @@ module _ {o : Order} {p : ℕ} {words coefs starts leads : List ℕ} {limit : �
               by : DividedTo o p words coefs starts i t k b bw bc' s' b' bw' bc'' → Stepped o p words coefs starts limit s b₀ bw bc ow oc s' inverses' b' bw' bc'' ow oc
               by (over h es eb ew ec) =
                   rw (eb, ew, ec)
-                  (halted-step 12
-                  (λ w c. at-more w (step-large cmp dividesWord _-_ _+_ overWord p (divisorsOf words coefs starts) (length ow) (limit - suc (s .leads)) (s .leads) (remainderIn s ow oc) w (L .at) (L .term) (in-work w c) (term (leadWord words starts i) (leadCoef coefs starts i)) (terms (tailOf starts i words) (tailOf starts i coefs)) fit (large-is ∙ h)))
+                  (halted-step (Refused ExponentOver) refl
+                  (λ w c. at-more w (step-large cmp (chosen dividesWord (divisorsOf words coefs starts)) _-_ _+_ overWord p (length ow) (limit - suc (s .finished)) (s .finished) (remainderIn s ow oc) w (L .at) (L .term) (in-work w c) i (term (leadWord words starts i) (leadCoef coefs starts i)) (terms (tailOf starts i words) (tailOf starts i coefs)) fit (large-is ∙ h)))
                   es (v .kept))
               by (many h l es eb ew ec) =
                   rw (eb, ew, ec)
-                  (halted-step 11
-                  (λ w c. at-more w (step-many cmp dividesWord _-_ _+_ overWord p (divisorsOf words coefs starts) (length ow) (limit - suc (s .leads)) (s .leads) (remainderIn s ow oc) w (L .at) (L .term) (in-work w c) (term (leadWord words starts i) (leadCoef coefs starts i)) (terms (tailOf starts i words) (tailOf starts i coefs)) fit (large-is ∙ h) (omega (arith, ap held (rest-is w c), tail-is))))
+                  (halted-step (Refused TooManyTerms) refl
+                  (λ w c. at-more w (step-many cmp (chosen dividesWord (divisorsOf words coefs starts)) _-_ _+_ overWord p (length ow) (limit - suc (s .finished)) (s .finished) (remainderIn s ow oc) w (L .at) (L .term) (in-work w c) i (term (leadWord words starts i) (leadCoef coefs starts i)) (terms (tailOf starts i words) (tailOf starts i coefs)) fit (large-is ∙ h) (omega (arith, ap held (rest-is w c), tail-is))))
                   es (v .kept))
               by (divided h l m e es) =
-                  subst (λ (x : State). Stepped o p words coefs starts limit s b₀ bw bc ow oc x inverses' b' bw' bc'' ow oc) (sym (es ∙ ap (λ (x : State). added (removed x) m (length (tailOf starts i words))) et))
+                  subst (λ (x : State). Stepped o p words coefs starts limit s b₀ bw bc ow oc x inverses' b' bw' bc'' ow oc) (sym (es ∙ ap (λ (x : State). brought (counted (finishedOne x) m) (length (tailOf starts i words))) et))
                   (divided-to (v .kept) h l
                   (subst (λ (x : Term ℕ). AddDone cmp p (dropped b (k .bucket)) (tailMultiple _-_ _+_ p x (term (leadWord words starts i) (leadCoef coefs starts i)) (terms (tailOf starts i words) (tailOf starts i coefs))) bw bc' bw' bc'' b' m) term-is e)
                   (subst (λ (x : Term ℕ). Added cmp p (OfLayout o) x (tailMultiple _-_ _+_ p x (term (leadWord words starts i) (leadCoef coefs starts i)) (terms (tailOf starts i words) (tailOf starts i coefs)))) term-is (to-add D h l)))
 
         -- ---- the lead goes to the remainder
         module _ (low : length starts ≤ i + 1) where
-          no-fit : firstFit dividesWord (L .term .mono) (divisorsOf words coefs starts) ≡ unfit
-          no-fit = ap (λ (m : ℕ). firstFit dividesWord m (divisorsOf words coefs starts)) (sym word-is) ∙ fit-none (a .checked) f low
+          no-fit : chosen dividesWord (divisorsOf words coefs starts) (L .term .mono) ≡ unfit
+          no-fit = ap (chosen dividesWord (divisorsOf words coefs starts)) (sym word-is) ∙ fit-none (a .checked) f low
 
-          at-next : (w : events.Work ℕ) {x : Reduction ℕ} → stepsFrom (compareWords o) dividesWord _-_ _+_ overWord p (divisorsOf words coefs starts) (length ow) (suc (limit - suc (s .leads))) (s .leads) (remainderIn s ow oc) w ≡ x → stepsFrom (compareWords o) dividesWord _-_ _+_ overWord p (divisorsOf words coefs starts) (length ow) (limit - s .leads) (s .leads) (remainderIn s ow oc) w ≡ x
-          at-next w e = ap (λ (m : ℕ). stepsFrom cmp dividesWord _-_ _+_ overWord p (divisorsOf words coefs starts) (length ow) m (s .leads) (remainderIn s ow oc) w) one-left ∙ e
+          at-next : (w : events.Work ℕ) {x : Reduction ℕ} → stepsFrom (compareWords o) (chosen dividesWord (divisorsOf words coefs starts)) _-_ _+_ overWord p (length ow) (suc (limit - suc (s .finished))) (s .finished) (remainderIn s ow oc) w ≡ x → stepsFrom (compareWords o) (chosen dividesWord (divisorsOf words coefs starts)) _-_ _+_ overWord p (length ow) (limit - s .finished) (s .finished) (remainderIn s ow oc) w ≡ x
+          at-next w e = ap (λ (m : ℕ). stepsFrom cmp (chosen dividesWord (divisorsOf words coefs starts)) _-_ _+_ overWord p (length ow) m (s .finished) (remainderIn s ow oc) w) one-left ∙ e
 
           pub kept-step : {s' : State} {b' : Buckets} {ow' oc' : List ℕ} → Kept t k b ow oc s' b' ow' oc' → Stepped o p words coefs starts limit s b₀ bw bc ow oc s' inverses b' bw bc' ow' oc'
           kept-step {s'} {b'} {ow'} {oc'} v = by v
             where
-              terms-same : t .terms ≡ s .terms
-              terms-same = ap (λ (x : State). x .terms) et
+              terms-same : t .places ≡ s .places
+              terms-same = ap (λ (x : State). x .places) et
 
-              put-to : s .terms < length ow → Stepped o p words coefs starts limit s b₀ bw bc ow oc (kept (searched s (k .count))) inverses (dropped b (k .bucket)) bw bc' (set ow (s .terms) (k .word)) (set oc (s .terms) (k .coef))
+              put-to : s .places < length ow → Stepped o p words coefs starts limit s b₀ bw bc ow oc (gave (finishedOne (counted s (k .count))) 1 1) inverses (dropped b (k .bucket)) bw bc' (set ow (s .places) (k .word)) (set oc (s .places) (k .coef))
               put-to h =
                   let out = a .sound .output in
                   let x = k .word ∷ [] in
                   let y = k .coef ∷ [] in
-                  let fit : s .terms + length x ≤ length ow = omega arith in
-                  let grows : remainderIn (kept (searched s (k .count))) (set ow (s .terms) (k .word)) (set oc (s .terms) (k .coef)) ≡ remainderIn s ow oc ++ L .term ∷ [] = grown out x y refl fit ∙ ap (λ (u : Term ℕ). remainderIn s ow oc ++ (u ∷ [])) term-is in
+                  let fit : s .places + length x ≤ length ow = omega arith in
+                  let grows : remainderIn (gave (finishedOne (counted s (k .count))) 1 1) (set ow (s .places) (k .word)) (set oc (s .places) (k .coef)) ≡ remainderIn s ow oc ++ L .term ∷ [] = grown out x y refl fit ∙ ap (λ (u : Term ℕ). remainderIn s ow oc ++ (u ∷ [])) term-is in
                   record {
                     sound = record {
                       stands = taken .stands;
@@ -390,6 +398,8 @@ module _ {o : Order} {p : ℕ} {words coefs starts leads : List ℕ} {limit : �
                       of-layout = subst (AllOf (λ b. All (λ t. OfLayout o (t .mono)) b)) (sym (taken .lists-are)) (of-every (OfLayout o) _ (every .1));
                       output = grown-output out x y refl fit;
                       few-leads = omega (arith, few);
+                      few-places = omega (arith, a .sound .few-places);
+                      given-are = ap (λ (n : ℕ). n + 1) (a .sound .given-are);
                       few-comparisons = λ q. omega (arith, a .sound .few-comparisons (a .more), d .few);
                       few-brought = λ q. omega (arith, a .sound .few-brought (a .more));
                     };
@@ -403,7 +413,7 @@ module _ {o : Order} {p : ℕ} {words coefs starts leads : List ℕ} {limit : �
                           comparisons-are = ap₂ (λ (m n : ℕ). m + n) (g .counts .comparisons-are) (count-is ∙ ap (λ (x : List (List (Term ℕ))). length (search cmp p x .pairs)) (g .counts .buckets-are)) ∙ sym (length-append (g .work .pairs) (search cmp p (g .work .buckets) .pairs));
                           brought-are = g .counts .brought-are;
                         };
-                        comes-to = place-at R (g .work) grows (sym (at-next (g .work) (step-kept cmp dividesWord _-_ _+_ overWord p (divisorsOf words coefs starts) (length ow) (limit - suc (s .leads)) (s .leads) (remainderIn s ow oc) (g .work) (L .at) (L .term) (in-work (g .work) (g .counts)) no-fit (omega (arith, written-long out)))) ∙ g .comes-to);
+                        comes-to = place-at R (g .work) grows (sym (at-next (g .work) (step-kept cmp (chosen dividesWord (divisorsOf words coefs starts)) _-_ _+_ overWord p (length ow) (limit - suc (s .finished)) (s .finished) (remainderIn s ow oc) (g .work) (L .at) (L .term) (in-work (g .work) (g .counts)) no-fit (omega (arith, written-long out)))) ∙ g .comes-to);
                       };
                       ended = λ q. absurd (false-true (sym q ∙ a .more));
                     };
@@ -412,17 +422,17 @@ module _ {o : Order} {p : ℕ} {words coefs starts leads : List ℕ} {limit : �
                     coefs-past = coefs-past out x y refl fit;
                   }
                 where
-                  place-at : (R : Reduction ℕ) (w : events.Work ℕ) {r : List (Term ℕ)} → r ≡ remainderIn s ow oc ++ L .term ∷ [] → stepsFrom (compareWords o) dividesWord _-_ _+_ overWord p (divisorsOf words coefs starts) (length ow) (limit - suc (s .leads)) (suc (s .leads)) (remainderIn s ow oc ++ L .term ∷ []) (events.removed (compareWords o) p w) ≡ R
-                      → stepsFrom (compareWords o) dividesWord _-_ _+_ overWord p (divisorsOf words coefs starts) (length ow) (limit - (s .leads + 1)) (s .leads + 1) r (events.removed (compareWords o) p w) ≡ R
-                  place-at R w er e = ap₂ (λ (n : ℕ) (r : List (Term ℕ)). stepsFrom cmp dividesWord _-_ _+_ overWord p (divisorsOf words coefs starts) (length ow) (limit - n) n r (events.removed cmp p w)) (add-one (s .leads)) er ∙ e
+                  place-at : (R : Reduction ℕ) (w : events.Work ℕ) {r : List (Term ℕ)} → r ≡ remainderIn s ow oc ++ L .term ∷ [] → stepsFrom (compareWords o) (chosen dividesWord (divisorsOf words coefs starts)) _-_ _+_ overWord p (length ow) (limit - suc (s .finished)) (suc (s .finished)) (remainderIn s ow oc ++ L .term ∷ []) (events.removed (compareWords o) p w) ≡ R
+                      → stepsFrom (compareWords o) (chosen dividesWord (divisorsOf words coefs starts)) _-_ _+_ overWord p (length ow) (limit - (s .finished + 1)) (s .finished + 1) r (events.removed (compareWords o) p w) ≡ R
+                  place-at R w er e = ap₂ (λ (n : ℕ) (r : List (Term ℕ)). stepsFrom cmp (chosen dividesWord (divisorsOf words coefs starts)) _-_ _+_ overWord p (length ow) (limit - n) n r (events.removed cmp p w)) (add-one (s .finished)) er ∙ e
 
               by : Kept t k b ow oc s' b' ow' oc' → Stepped o p words coefs starts limit s b₀ bw bc ow oc s' inverses b' bw bc' ow' oc'
               by (full h es eb ew ec) =
                   rw (eb, ew, ec)
-                  (halted-step 10
-                  (λ w c. at-next w (step-full cmp dividesWord _-_ _+_ overWord p (divisorsOf words coefs starts) (length ow) (limit - suc (s .leads)) (s .leads) (remainderIn s ow oc) w (L .at) (L .term) (in-work w c) no-fit (omega (arith, written-long (a .sound .output), terms-same))))
+                  (halted-step (Refused NoOutput) refl
+                  (λ w c. at-next w (step-full cmp (chosen dividesWord (divisorsOf words coefs starts)) _-_ _+_ overWord p (length ow) (limit - suc (s .finished)) (s .finished) (remainderIn s ow oc) w (L .at) (L .term) (in-work w c) no-fit (omega (arith, written-long (a .sound .output), terms-same))))
                   es (a .kept))
               by (put h es eb ew ec) =
-                  let ew' : ow' ≡ set ow (s .terms) (k .word) = ew ∙ ap (λ (n : ℕ). set ow n (k .word)) terms-same in
-                  let ec' : oc' ≡ set oc (s .terms) (k .coef) = ec ∙ ap (λ (n : ℕ). set oc n (k .coef)) terms-same in
-                  rw (eb, ew', ec') (subst (λ (x : State). Stepped o p words coefs starts limit s b₀ bw bc ow oc x inverses (dropped b (k .bucket)) bw bc' (set ow (s .terms) (k .word)) (set oc (s .terms) (k .coef))) (sym (es ∙ ap (λ (x : State). kept x) et)) (put-to (omega (arith, terms-same))))
+                  let ew' : ow' ≡ set ow (s .places) (k .word) = ew ∙ ap (λ (n : ℕ). set ow n (k .word)) terms-same in
+                  let ec' : oc' ≡ set oc (s .places) (k .coef) = ec ∙ ap (λ (n : ℕ). set oc n (k .coef)) terms-same in
+                  rw (eb, ew', ec') (subst (λ (x : State). Stepped o p words coefs starts limit s b₀ bw bc ow oc x inverses (dropped b (k .bucket)) bw bc' (set ow (s .places) (k .word)) (set oc (s .places) (k .coef))) (sym (es ∙ ap (λ (x : State). gave (finishedOne x) 1 1) et)) (put-to (omega (arith, terms-same))))

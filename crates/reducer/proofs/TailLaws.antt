@@ -1,21 +1,20 @@
 -- The multiple of a tail, made in the scratch room and added. Assumes nothing.
-use mathlib.Core.Path.{_≡_, refl, sym, ap, ap₂, _∙_, subst}
-use mathlib.Core.List.{List, map}
-use Prim.Native.Nat.{ℕ, _+_, _-_, _<_, _≤_, Ordering}
+use mathlib.Core.Path.{_≡_, sym, ap, ap₂, _∙_, subst}
+use mathlib.Core.List.{List}
+use Prim.Native.Nat.{ℕ, _+_, _-_, Ordering}
 use native.Mathlib.Omega.{arith}
 use lib.ListN.{length, take, drop, length-map}
-use lib.Seq.{sets}
 use Rattle.residue.specs.declared.factor.Factor.{Factor}
 use Rattle.polynomial.specs.Terms.{Term, term, terms, words, coefs, Canonical}
 use Rattle.polynomial.specs.Multiple.{multiple}
 use Rattle.polynomial.proofs.TermLists.{length-terms, terms-of}
-use Rattle.merge.specs.Lent.{part}
+use Rattle.merge_common.specs.Lent.{part}
 use Rattle.multiple.specs.Multiplying.{Multiplied}
 use Rattle.space.specs.Space.{Buckets}
 use Rattle.space.proofs.SpaceLaws.{part-put}
+use Rattle.call.specs.declared.state.State.{State}
+use Rattle.call.specs.States.{counted, brought}
 use Rattle.buckets.specs.Adding.{Addition, AddDone}
-use Rattle.reducer.specs.declared.state.State.{State}
-use Rattle.reducer.specs.States.{added}
 use Rattle.reducer.specs.Dividing.{TailAddition, TailAdded}
 
 -- the part from the front on
@@ -59,6 +58,6 @@ module _ {cmp : ℕ → ℕ → Ordering} {p : ℕ} {f : Factor} {q : ℕ} {tw t
     work-coefs = a .work .coefs-long;
   }
 
-  pub tail-done : {bw' bc' : List ℕ} {b' : Buckets} {n : ℕ} → AddDone cmp p b (terms fw fc) bw bc bw' bc' b' n → TailAdded cmp p f q tw tc s b bw bc (added s n (length tw)) b' bw' bc'
+  pub tail-done : {bw' bc' : List ℕ} {b' : Buckets} {n : ℕ} → AddDone cmp p b (terms fw fc) bw bc bw' bc' b' n → {t : State} → t ≡ counted s n → {r : State} → r ≡ brought t (length tw) → TailAdded cmp p f q tw tc s b bw bc r b' bw' bc'
   unfolding M
-  tail-done {bw'} {bc'} {b'} {n} e = record { comparisons = n; done = subst (λ (x : List (Term ℕ)). AddDone cmp p b x bw bc bw' bc' b' n) terms-are e; is = refl }
+  tail-done {bw'} {bc'} {b'} {n} e et er = record { comparisons = n; done = subst (λ (x : List (Term ℕ)). AddDone cmp p b x bw bc bw' bc' b' n) terms-are e; is = er ∙ ap (λ (x : State). brought x (length tw)) et }

@@ -4,6 +4,7 @@ use mathlib.Core.Path.{_≡_}
 use mathlib.Core.Bool.{true, false}
 use mathlib.Core.List.{List}
 use lib.ListN.{length, drop}
+use Rattle.limits.specs.Limits.{mostTerms}
 use Rattle.residue.specs.declared.factor.Factor.{Factor}
 use Rattle.monomial.specs.declared.order.Order.{Order}
 use Rattle.monomial.specs.Words.{compareWords, dividesWord}
@@ -13,15 +14,16 @@ use Rattle.polynomial.specs.Opening.{partOf}
 use Rattle.multiple.specs.Multiplying.{anyOver, Multiplicands}
 use Rattle.geobucket.specs.Buckets.{held}
 use Rattle.space.specs.Space.{Buckets, bucketsIn, Stands, dropped}
+use Rattle.refusal.specs.declared.Refusal.the-variants.{TooManyTerms, ExponentOver}
+use Rattle.call.specs.declared.state.State.{State}
+use Rattle.call.specs.States.{counted, brought, finishedOne, halted}
+use Rattle.call.specs.Lending.{WorkSpace}
 use Rattle.search.specs.declared.candidate.Candidate.{Candidate}
 use Rattle.search.specs.Searching.{Removal}
 use Rattle.buckets.specs.Adding.{AddDone}
 use Rattle.division.specs.Division.{tailMultiple}
-use Rattle.engine.specs.States.{Work}
-use Rattle.reducer.specs.declared.state.State.{State}
 use Rattle.divisors.specs.Divisors.{leadWord, leadCoef, Inverses}
 use Rattle.reducer.specs.Divisors.{OfLayout, Checked}
-use Rattle.reducer.specs.States.{halted, removed, added}
 
 -- ---- the multiple of a tail is added
 
@@ -29,15 +31,15 @@ pub record TailAddition (cmp : ℕ → ℕ → Ordering) (p : ℕ) (f : Factor) 
   pub stands : Stands cmp p b bw bc
   pub multiplicands : Multiplicands f q tw tc 0 mw mc
   pub canonical : Canonical cmp p (multiple (λ x y. x + y) (f .prime) (f .value) q (terms tw tc))
-  pub room : length tw + held (bucketsIn b bw bc) ≤ 4096
-  pub work : Work ww wc
+  pub room : length tw + held (bucketsIn b bw bc) ≤ mostTerms
+  pub work : WorkSpace ww wc
   pub few-comparisons : s .comparisons < 2000000000000000000
   pub few-brought : s .brought < 2000000000000000000
 
 pub record TailAdded (cmp : ℕ → ℕ → Ordering) (p : ℕ) (f : Factor) (q : ℕ) (tw tc : List ℕ) (s : State) (b : Buckets) (bw bc : List ℕ) (s' : State) (b' : Buckets) (bw' bc' : List ℕ) : Type 0 where
   pub comparisons : ℕ
   pub done : AddDone cmp p b (multiple (λ x y. x + y) (f .prime) (f .value) q (terms tw tc)) bw bc bw' bc' b' comparisons
-  pub is : s' ≡ added s comparisons (length tw)
+  pub is : s' ≡ brought (counted s comparisons) (length tw)
 
 -- ---- the lead is divided by divisor k
 
@@ -51,7 +53,7 @@ pub record Dividing (o : Order) (p : ℕ) (words coefs starts : List ℕ) (k : �
   pub high : k + 1 < length starts
   pub fits : dividesWord (leadWord words starts k) (lead .word) ≡ true
   pub stands : Stands (compareWords o) p b bw bc
-  pub room : held (bucketsIn b bw bc) ≤ 4096
+  pub room : held (bucketsIn b bw bc) ≤ mostTerms
   pub removal : Removal b (lead .bucket)
   -- the buckets without the lead
   pub rest : Stands (compareWords o) p (dropped b (lead .bucket)) bw bc
@@ -60,10 +62,10 @@ pub record Dividing (o : Order) (p : ℕ) (words coefs starts : List ℕ) (k : �
   pub coef-pos : 0 < lead .coef
   pub coef-small : lead .coef < p
   pub kept : Inverses p coefs starts inverses
-  pub work : Work ww wc
-  pub scratch-words : length mw ≡ 4096
-  pub scratch-coefs : length mc ≡ 4096
-  pub few-leads : s .leads < 10000000000000
+  pub work : WorkSpace ww wc
+  pub scratch-words : length mw ≡ mostTerms
+  pub scratch-coefs : length mc ≡ mostTerms
+  pub few-leads : s .finished < 10000000000000
   pub few-comparisons : s .comparisons < 2000000000000000000
   pub few-brought : s .brought < 2000000000000000000
 
@@ -74,10 +76,10 @@ module _ (o : Order) (p : ℕ) (words coefs starts : List ℕ) (k : ℕ) (s : St
 
   -- "12, then 11, if a divisor fits"; else the lead is removed, and the multiple of the tail added
   pub data DividedTo (s' : State) (b' : Buckets) (bw' bc' : List ℕ) : Type 0 where
-    over : anyOver (lead .word - leadWord words starts k) (tailOf starts k words) ≡ true → s' ≡ halted s 12 → b' ≡ b → bw' ≡ bw → bc' ≡ bc → DividedTo s' b' bw' bc'
-    many : anyOver (lead .word - leadWord words starts k) (tailOf starts k words) ≡ false → 4096 < held (bucketsIn (dropped b (lead .bucket)) bw bc) + length (tailOf starts k words) → s' ≡ halted s 11 → b' ≡ b → bw' ≡ bw → bc' ≡ bc → DividedTo s' b' bw' bc'
-    divided : anyOver (lead .word - leadWord words starts k) (tailOf starts k words) ≡ false → held (bucketsIn (dropped b (lead .bucket)) bw bc) + length (tailOf starts k words) ≤ 4096
-        → (comparisons : ℕ) → AddDone (compareWords o) p (dropped b (lead .bucket)) toAdd bw bc bw' bc' b' comparisons → s' ≡ added (removed s) comparisons (length (tailOf starts k words))
+    over : anyOver (lead .word - leadWord words starts k) (tailOf starts k words) ≡ true → s' ≡ halted s ExponentOver → b' ≡ b → bw' ≡ bw → bc' ≡ bc → DividedTo s' b' bw' bc'
+    many : anyOver (lead .word - leadWord words starts k) (tailOf starts k words) ≡ false → mostTerms < held (bucketsIn (dropped b (lead .bucket)) bw bc) + length (tailOf starts k words) → s' ≡ halted s TooManyTerms → b' ≡ b → bw' ≡ bw → bc' ≡ bc → DividedTo s' b' bw' bc'
+    divided : anyOver (lead .word - leadWord words starts k) (tailOf starts k words) ≡ false → held (bucketsIn (dropped b (lead .bucket)) bw bc) + length (tailOf starts k words) ≤ mostTerms
+        → (comparisons : ℕ) → AddDone (compareWords o) p (dropped b (lead .bucket)) toAdd bw bc bw' bc' b' comparisons → s' ≡ brought (counted (finishedOne s) comparisons) (length (tailOf starts k words))
         → DividedTo s' b' bw' bc'
 
 pub record Divided (o : Order) (p : ℕ) (words coefs starts : List ℕ) (k : ℕ) (s : State) (lead : Candidate) (b : Buckets) (bw bc : List ℕ) (s' : State) (inverses' : List ℕ) (b' : Buckets) (bw' bc' : List ℕ) : Type 0 where

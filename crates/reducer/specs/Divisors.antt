@@ -12,7 +12,7 @@ use Rattle.polynomial.specs.Terms.{Term}
 use Rattle.polynomial.specs.Opening.{Within}
 use Rattle.space.specs.Space.{listFrom}
 use Rattle.division.specs.Divisors.{Valid}
-use Rattle.engine.specs.Runs.{polynomial}
+use Rattle.call.specs.Lending.{polynomial}
 
 -- the polynomials from 1 on
 abbrev pub divisorsOf : (words coefs starts : List ℕ) → List (List (Term ℕ))

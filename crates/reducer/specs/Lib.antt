@@ -1,4 +1,3 @@
 pub mod Divisors
-pub mod States
 pub mod Dividing
 pub mod Stepping

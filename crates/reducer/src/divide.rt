@@ -1,14 +1,16 @@
 // A step that divides its lead.
-use crate::state::State;
 use buckets::add::add;
+use call::state::State;
 use divisors::inverse::factor_by;
 use divisors::inverse::lead_inverse;
+use limits::MOST_TERMS;
 use monomial::order::Order;
 use monomial::word::quotient;
 use multiple::multiple::any_over;
 use multiple::multiple::put_multiple;
 use polynomial::part::coefs_of;
 use polynomial::part::words_of;
+use refusal::Refusal;
 use residue::arithmetic::negate;
 use residue::factor::Factor;
 use search::candidate::Candidate;
@@ -47,15 +49,15 @@ pub fn divide<'a>(
     let tw = &gw[1..];
     let tc = &gc[1..];
     if any_over(q, tw) {
-        return s.halt(12);
+        return s.halt(Refusal::ExponentOver);
     }
-    if held(b) - 1 + tw.len() > 4096 {
-        return s.halt(11);
+    if held(b) - 1 + tw.len() > MOST_TERMS {
+        return s.halt(Refusal::TooManyTerms);
     }
     let inverse = lead_inverse(p, coefs, starts, k, inverses);
     let factor = factor_by(p, negate(lead.coef, p), inverse);
     remove_lead(b, lead.bucket);
-    let r = s.remove();
+    let r = s.finish();
     add_tail(order, p, factor, q, tw, tc, r, b, bw, bc, ww, wc, mw, mc)
 }
 
@@ -82,12 +84,5 @@ fn add_tail<'a>(
     put_multiple(factor, q, tw, tc, mw, mc, 0);
     let n = tw.len();
     let r = add(order, p, b, &mw[0..n], &mc[0..n], bw, bc, ww, wc);
-    State {
-        comparisons: s.comparisons + r,
-        brought: s.brought + n as u64,
-        leads: s.leads,
-        terms: s.terms,
-        more: s.more,
-        stop: s.stop,
-    }
+    s.compare(r).bring(n)
 }

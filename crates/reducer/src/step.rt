@@ -1,8 +1,9 @@
 // One step of a reduction.
 use crate::divide::divide;
-use crate::state::State;
+use call::state::State;
 use divisors::divisor::first_fit;
 use monomial::order::Order;
+use refusal::Refusal;
 use search::candidate::Candidate;
 use search::lead::find_lead;
 use search::lead::remove_lead;
@@ -34,12 +35,12 @@ pub fn step<'a>(
     ensures { λ r. ⌜ Stepped order p (now (words .entry)) (now (coefs .entry)) (now (starts .entry)) limit s (now (b .entry)) (now (bw .entry)) (now (bc .entry)) (now (ow .entry)) (now (oc .entry)) r (now (inverses .exit)) (now (b .exit)) (now (bw .exit)) (now (bc .exit)) (now (ow .exit)) (now (oc .exit)) ⌝ }
 {
     let lead = find_lead(order, p, b, bw, bc);
-    let t = s.search(lead.count);
+    let t = s.compare(lead.count);
     if lead.bucket == 6 {
-        return t.halt(0);
+        return t.close();
     }
-    if t.leads == limit {
-        return t.halt(13);
+    if t.finished == limit {
+        return t.halt(Refusal::StepLimit);
     }
     let k = first_fit(words, starts, leads, lead.word);
     if k + 1 < starts.len() {
@@ -70,20 +71,12 @@ fn keep(s: State, lead: Candidate, b: &mut [usize], ow: &mut [u64], oc: &mut [u3
     requires { ⌜ Keeping s lead (now b) (now ow) (now oc) ⌝ }
     ensures { λ r. ⌜ Kept s lead (now (b .entry)) (now (ow .entry)) (now (oc .entry)) r (now (b .exit)) (now (ow .exit)) (now (oc .exit)) ⌝ }
 {
-    let at = s.terms;
+    let at = s.places;
     if at >= ow.len() {
-        return s.halt(10);
+        return s.halt(Refusal::NoOutput);
     }
     ow[at] = lead.word;
     oc[at] = lead.coef;
     remove_lead(b, lead.bucket);
-    let t = s.remove();
-    State {
-        comparisons: t.comparisons,
-        brought: t.brought,
-        leads: t.leads,
-        terms: at + 1,
-        more: t.more,
-        stop: t.stop,
-    }
+    s.finish().give(1, 1)
 }

@@ -1,14 +1,16 @@
 // The steps of a reduction in turn.
-use crate::state::State;
 use crate::step::step;
 use buckets::add::add;
+use call::state::State;
 use divisors::divisor::keep_leads;
+use limits::MOST_TERMS;
 use monomial::order::Order;
 use polynomial::part::coefs_of;
 use polynomial::part::words_of;
+use refusal::Refusal;
 ghost use Rattle.monomial.specs.Words.{compareWords};
 ghost use Rattle.polynomial.specs.Terms.{terms};
-ghost use Rattle.engine.specs.States.{Addend, Lent};
+ghost use Rattle.call.specs.Lending.{Addend, Lent};
 ghost use Rattle.reducer.specs.Stepping.{Reducible, Beginning, Begun, Reduced};
 
 // The reduction of polynomial 0 by the others, all of which passed the opening checks.
@@ -32,13 +34,13 @@ pub fn reduce_all<'a>(
 {
     let mut leads = [0u64; 1024];
     let mut inverses = [0u64; 1024];
-    let mut mw = [0u64; 4096];
-    let mut mc = [0u32; 4096];
+    let mut mw = [0u64; MOST_TERMS];
+    let mut mc = [0u32; MOST_TERMS];
     keep_leads(words, starts, &mut leads);
     let fw = words_of(words, starts, 0);
     let fc = coefs_of(coefs, starts, 0);
     let mut s = begin(order, p, fw, fc, b, bw, bc, ww, wc);
-    while s.more {
+    while s.goes_on() {
         s = step(
             order,
             p,
@@ -78,23 +80,10 @@ fn begin<'a>(
     requires { ⌜ Addend (compareWords order) p (now fw) (now fc) × Beginning p (now b) (now bw) (now bc) (now ww) (now wc) ⌝ }
     ensures { λ r. ⌜ Begun (compareWords order) p (terms (now (fw .entry)) (now (fc .entry))) (now (bw .entry)) (now (bc .entry)) r (now (b .exit)) (now (bw .exit)) (now (bc .exit)) ⌝ }
 {
-    if fw.len() > 4096 {
-        return State {
-            comparisons: 0,
-            brought: 0,
-            leads: 0,
-            terms: 0,
-            more: false,
-            stop: 11,
-        };
+    let s = State::new();
+    if fw.len() > MOST_TERMS {
+        return s.halt(Refusal::TooManyTerms);
     }
     let comparisons = add(order, p, b, fw, fc, bw, bc, ww, wc);
-    State {
-        comparisons,
-        brought: fw.len() as u64,
-        leads: 0,
-        terms: 0,
-        more: true,
-        stop: 0,
-    }
+    s.compare(comparisons).bring(fw.len())
 }

@@ -1,25 +1,30 @@
 -- The customer's demands, for reductions: what holds of every call of `reduce`, by its defined outcome (`reductionOutcome`). Assumes nothing.
 use mathlib.Core.Path.{_≡_, refl, sym, ap, _∙_, subst}
-use mathlib.Core.Bool.{Bool, true, false}
 use mathlib.Core.List.{List, _++_, map}
 use Prim.Native.Nat.{ℕ, _+_, _-_, _%_, _<_, _≤_, Ordering}
-use native.Mathlib.Omega.{arith}
-use borrow.Author.Tests.{eq-eqb, ne-eqb, eqb-true}
-use lib.Dec.{eqb}
 use lib.ListN.{length, drop}
+use Rattle.limits.specs.Limits.{mostTerms}
 use Rattle.monomial.specs.Exponents.{orderOf, divides, quotient, product, compareIn}
 use Rattle.monomial.specs.Layout.{Layout}
 use Rattle.monomial.specs.Words.{compareWords, dividesWord}
-use Rattle.polynomial.specs.Terms.{Term, All, Falling, total, Canonical}
+use Rattle.polynomial.specs.Terms.{Term, All, Falling, total, coefAt, Canonical}
 use Rattle.polynomial.specs.Terms as T
+use Rattle.polynomial.specs.declared.setting.Setting.{Setting}
 use Rattle.geobucket.specs.Buckets.{held, totalIn, fullSum}
 use Rattle.geobucket.specs.Events.{Work, start, perform, bound}
+use Rattle.call.specs.declared.answer.Tally.{Tally}
+use Rattle.call.specs.Places.{writtenIn, heldAt}
+use Rattle.call.specs.Demand3.{Demand3}
+use Rattle.call.proofs.PlaceLaws.{nonZero-reduced, flat, flat-total, flat-held, held-back, written-back}
+use Rattle.geobucket.proofs.EventLaws.{total-append}
+use Rattle.call.specs.Answers.{Stated, openingRefused, Outcome}
+use Rattle.call.specs.Lending.{polynomial}
+use Rattle.call.proofs.OutcomeLaws.{decided-none, decided-refused}
 use Rattle.opening.specs.Reduction.{reductionRefusal, ReductionOpened}
-use Rattle.opening.specs.Refusals.{refusalNamed}
 use Rattle.opening.specs.ReductionJudgement.{JudgedReduction}
 use Rattle.opening.proofs.ReductionLaws.{reduction-opened}
 use Rattle.opening.proofs.ReductionJudgements.{reduction-judged}
-use Rattle.engine.specs.Runs.{polynomial}
+use Rattle.division.specs.Choice.{chosen}
 use Rattle.division.specs.Division.{Division}
 use Rattle.division.specs.Steps.{Reduction, overWord}
 use Rattle.division.specs.Divisors.{Valid, AllOf, Undivided}
@@ -28,43 +33,35 @@ use Rattle.division.specs.InExponents.{inExponents}
 use Rattle.division.specs.Demanded.{reductionEvents}
 use Rattle.division.specs.Combination.{Combination, LeadsOf}
 use Rattle.division.proofs.Reductions as R
-use Rattle.runs.specs.declared.Tally.{Tally}
 use Rattle.reducer.specs.Divisors.{divisorsOf}
-use Rattle.reductions.specs.declared.Answer.{Answer}
-use Rattle.reductions.specs.declared.Answer.the-variants.{Done, Refused}
-use Rattle.reductions.specs.Outcome.{ReductionOutcome, answerBy, tallyOf, ended, reducedThrough, reductionOutcome}
-use Rattle.reductions.proofs.OutcomeLaws.{decided-none, decided-refused}
+use Rattle.reductions.specs.Outcome.{tallyOf, ended, reducedThrough, reductionOutcome}
 use Rattle.reductions.proofs.OpenedLaws.{valid-polynomial, valid-divisors}
 
--- the numbers of an answer, and 1 for `Done`
-abbrev leadsIn : Answer → ℕ
-leadsIn (Done leads terms) = leads
-leadsIn (Refused refusal leads) = leads
-
-abbrev termsIn : Answer → ℕ
-termsIn (Done leads terms) = terms
-termsIn (Refused refusal leads) = 0
-
-abbrev doneIn : Answer → ℕ
-doneIn (Done leads terms) = 1
-doneIn (Refused refusal leads) = 0
-
 -- Demand 1: every call ends (its contract says so), with "a result, or a numbered refusal under its stated condition and no other". The opening: each number under its condition, where no earlier one holds.
-pub demand-1-opening : (p order n : ℕ) (words coefs ss : List ℕ) (limit bw bc ww wc ow oc : ℕ) → JudgedReduction p order n words coefs ss limit bw bc ww wc ow oc (reductionRefusal p order n words coefs ss limit bw bc ww wc ow oc)
+pub demand-1-opening : (t : Setting) (words coefs ss : List ℕ) (limit bw bc ww wc ow oc : ℕ) → JudgedReduction t words coefs ss limit bw bc ww wc ow oc (reductionRefusal t words coefs ss limit bw bc ww wc ow oc)
 demand-1-opening = reduction-judged
 
-module _ (tally : Tally) (p order n : ℕ) (words coefs ss : List ℕ) (limit : ℕ) (bw bc ww wc ow oc : List ℕ) where
+module _ (tally : Tally) (t : Setting) (words coefs ss : List ℕ) (limit : ℕ) (bw bc ww wc ow oc : List ℕ) where
+  abbrev p : ℕ
+  p = t .p
+
+  abbrev order : ℕ
+  order = t .order
+
+  abbrev n : ℕ
+  n = t .n
+
   -- what the call leaves
-  abbrev pub outcome : ReductionOutcome
-  outcome = reductionOutcome tally p order n words coefs ss limit bw bc ww wc ow oc
+  abbrev pub outcome : Outcome
+  outcome = reductionOutcome tally t words coefs ss limit bw bc ww wc ow oc
 
   -- the number that the opening checks give, 0 for none
   abbrev pub opening : ℕ
-  opening = reductionRefusal p order n words coefs ss limit (length bw) (length bc) (length ww) (length wc) (length ow) (length oc)
+  opening = reductionRefusal t words coefs ss limit (length bw) (length bc) (length ww) (length wc) (length ow) (length oc)
 
   -- "A call refused in its opening checks changes no lent memory"
-  pub demand-1-unchanged : (opening ≡ 0 → ⊥) → outcome ≡ record { answer = Refused (refusalNamed opening) 0; tally = tally; bw = bw; bc = bc; ww = ww; wc = wc; ow = ow; oc = oc }
-  demand-1-unchanged ne = sym (decided-refused opening tally (reducedThrough p order words coefs ss limit (length ow)) bw bc ww wc ow oc ne refl)
+  pub demand-1-unchanged : (opening ≡ 0 → ⊥) → outcome ≡ record { answer = openingRefused opening; tally = tally; bw = bw; bc = bc; ww = ww; wc = wc; ow = ow; oc = oc }
+  demand-1-unchanged ne = sym (decided-refused opening tally (ended (reducedThrough t words coefs ss limit (length ow)) ow oc) bw bc ww wc ow oc ne (refl, refl))
 
   module _ (none : opening ≡ 0) where
     abbrev cmp : ℕ → ℕ → Ordering
@@ -78,10 +75,10 @@ module _ (tally : Tally) (p order n : ℕ) (words coefs ss : List ℕ) (limit : 
     gs = divisorsOf words coefs ss
 
     abbrev pub last : Reduction ℕ
-    last = reducedThrough p order words coefs ss limit (length ow)
+    last = reducedThrough t words coefs ss limit (length ow)
 
-    opened : ReductionOpened p order n words coefs ss limit (length bw) (length bc) (length ww) (length wc) (length ow) (length oc)
-    opened = reduction-opened p order n words coefs ss limit (length bw) (length bc) (length ww) (length wc) (length ow) (length oc) none
+    opened : ReductionOpened t words coefs ss limit (length bw) (length bc) (length ww) (length wc) (length ow) (length oc)
+    opened = reduction-opened t words coefs ss limit (length bw) (length bc) (length ww) (length wc) (length ow) (length oc) none
 
     valid : Valid cmp p (λ w. Layout (orderOf order) n w) f
     valid = valid-polynomial opened 0 (opened .some)
@@ -91,49 +88,42 @@ module _ (tally : Tally) (p order n : ℕ) (words coefs ss : List ℕ) (limit : 
 
     -- a reduction that no opening check refuses has the outcome of what it comes to
     pub outcome-is : outcome ≡ ended last ow oc
-    outcome-is = decided-none opening tally last bw bc ww wc ow oc none
+    outcome-is = decided-none opening tally (ended last ow oc) bw bc ww wc ow oc none
 
-    -- its answer: "The answer carries the number of leads removed"
-    pub outcome-done : last .stop ≡ 0 → outcome .answer ≡ Done (last .leads) (length (last .remainder))
-    outcome-done z = ap (λ (x : ReductionOutcome). x .answer) outcome-is ∙ ap (λ (b : Bool). answerBy b (last .stop) (last .leads) (length (last .remainder))) (eq-eqb (last .stop) 0 z)
+    -- its answer: the number of its refusal, 0 for none, "the number of leads removed", and the remainder's terms, finished or so far
+    pub outcome-answer : outcome .answer ≡ record { number = last .stop; finished = last .leads; places = length (last .remainder) }
+    outcome-answer = ap (λ (x : Outcome). x .answer) outcome-is
 
-    pub outcome-refused : (last .stop ≡ 0 → ⊥) → outcome .answer ≡ Refused (refusalNamed (last .stop)) (last .leads)
-    outcome-refused ne = ap (λ (x : ReductionOutcome). x .answer) outcome-is ∙ ap (λ (b : Bool). answerBy b (last .stop) (last .leads) (length (last .remainder))) (ne-eqb (last .stop) 0 ne)
-
-    -- and an answer `Done` is one of a reduction that finished, with these numbers
-    pub answered-done : (k m : ℕ) → outcome .answer ≡ Done k m → (last .stop ≡ 0) × (last .leads ≡ k) × (length (last .remainder) ≡ m)
-    answered-done k m e = by (eqb (last .stop) 0) refl (sym (ap (λ (x : ReductionOutcome). x .answer) outcome-is) ∙ e)
-      where
-        by : (b : Bool) → eqb (last .stop) 0 ≡ b → answerBy b (last .stop) (last .leads) (length (last .remainder)) ≡ Done k m → (last .stop ≡ 0) × (last .leads ≡ k) × (length (last .remainder) ≡ m)
-        by true z h = (eqb-true (last .stop) 0 z, ap leadsIn h, ap termsIn h)
-        by false z h = absurd (let q : _≡_ {A = ℕ} 0 1 = ap doneIn h in let w : ⊥ = omega arith in w)
+    -- so an answer of number 0 is one of a reduction that finished
+    pub answered-done : outcome .answer .number ≡ 0 → last .stop ≡ 0
+    answered-done e = sym (ap (λ (x : Stated). x .number) outcome-answer) ∙ e
 
     -- "Output past the last place written is untouched": the remainder, finished or so far, and then the output as it came
     pub output-is : (outcome .ow ≡ T.words (last .remainder) ++ drop (length (last .remainder)) ow) × (outcome .oc ≡ T.coefs (last .remainder) ++ drop (length (last .remainder)) oc)
-    output-is = (ap (λ (x : ReductionOutcome). x .ow) outcome-is, ap (λ (x : ReductionOutcome). x .oc) outcome-is)
+    output-is = (ap (λ (x : Outcome). x .ow) outcome-is, ap (λ (x : Outcome). x .oc) outcome-is)
 
     -- The steps: it finishes, or a step is refused with 10 to 13, or polynomial 0 with 11, under its condition. It bars a reduction that stops with 13 before the limit's leads are removed.
-    pub demand-1-ending : Ending cmp dividesWord _-_ overWord p gs (length ow) limit (last .stop) f last
+    pub demand-1-ending : Ending cmp (chosen dividesWord gs) _-_ overWord p (length ow) limit (last .stop) f last
     demand-1-ending = R.demand-1-ending (orderOf order) n (opened .n-high) p (opened .prime) gs divisors (length ow) limit f valid
 
     -- "and no other"
-    pub demand-1-only : (k : ℕ) → Ending cmp dividesWord _-_ overWord p gs (length ow) limit k f last → last .stop ≡ k
+    pub demand-1-only : (k : ℕ) → Ending cmp (chosen dividesWord gs) _-_ overWord p (length ow) limit k f last → last .stop ≡ k
     demand-1-only = R.demand-1-only (orderOf order) n (opened .n-high) p (opened .prime) gs divisors (length ow) limit f valid
 
     -- 13 means that the division takes more steps than the limit
-    pub demand-1-short : length f ≤ 4096 → (k : ℕ) (s : List (Term ℕ)) → Division cmp dividesWord _-_ _+_ p gs k f s → last .stop ≡ 13 → limit < k
+    pub demand-1-short : length f ≤ mostTerms → (k : ℕ) (s : List (Term ℕ)) → Division cmp (chosen dividesWord gs) _-_ _+_ p k f s → last .stop ≡ 13 → limit < k
     demand-1-short = R.demand-1-short (orderOf order) n (opened .n-high) p (opened .prime) gs divisors (length ow) limit f valid
 
     -- Demand 2: "A finished remainder is that of the division algorithm in its stated divisor order", and the leads removed are its steps. It bars an engine that always gives zero, and one that touches nothing.
-    pub demand-2-division : last .stop ≡ 0 → Division cmp dividesWord _-_ _+_ p gs (last .leads) f (last .remainder)
+    pub demand-2-division : last .stop ≡ 0 → Division cmp (chosen dividesWord gs) _-_ _+_ p (last .leads) f (last .remainder)
     demand-2-division = R.demand-2-division (orderOf order) n (opened .n-high) p (opened .prime) gs divisors (length ow) limit f valid
 
     -- and no other number and list are
-    pub demand-2-only : last .stop ≡ 0 → (k : ℕ) (s : List (Term ℕ)) → Division cmp dividesWord _-_ _+_ p gs k f s → (last .leads ≡ k) × (last .remainder ≡ s)
+    pub demand-2-only : last .stop ≡ 0 → (k : ℕ) (s : List (Term ℕ)) → Division cmp (chosen dividesWord gs) _-_ _+_ p k f s → (last .leads ≡ k) × (last .remainder ≡ s)
     demand-2-only = R.demand-2-only (orderOf order) n (opened .n-high) p (opened .prime) gs divisors (length ow) limit f valid
 
     -- the same by exponents, as document 000 orders, multiplies and divides monomials
-    pub demand-2-exponents : last .stop ≡ 0 → Division (compareIn (orderOf order)) divides quotient product p (map (inExponents (orderOf order) n) gs) (last .leads) (inExponents (orderOf order) n f) (inExponents (orderOf order) n (last .remainder))
+    pub demand-2-exponents : last .stop ≡ 0 → Division (compareIn (orderOf order)) (chosen divides (map (inExponents (orderOf order) n) gs)) quotient product p (last .leads) (inExponents (orderOf order) n f) (inExponents (orderOf order) n (last .remainder))
     demand-2-exponents = R.demand-2-exponents (orderOf order) n (opened .n-high) p (opened .prime) gs divisors (length ow) limit f valid
 
     -- "Sums are those of polynomials over the integers modulo p": polynomial 0 is the remainder and a sum of multiples of divisors
@@ -141,11 +131,11 @@ module _ (tally : Tally) (p order n : ℕ) (words coefs ss : List ℕ) (limit : 
     demand-2-remainder = R.demand-2-remainder (orderOf order) n (opened .n-high) p (opened .prime) gs divisors (length ow) limit f valid
 
     -- of a stopped one, the remainder so far, what the buckets still hold, and that
-    pub demand-2-sum : length f ≤ 4096 → Combination cmp _+_ p gs f (last .remainder ++ fullSum cmp p (last .work .buckets))
+    pub demand-2-sum : length f ≤ mostTerms → Combination cmp _+_ p gs f (last .remainder ++ fullSum cmp p (last .work .buckets))
     demand-2-sum = R.demand-2-sum (orderOf order) n (opened .n-high) p (opened .prime) gs divisors (length ow) limit f valid
 
     -- what it leaves, divided further, gives the steps and the remainder of polynomial 0
-    pub demand-2-stopped : length f ≤ 4096 → (k : ℕ) (s : List (Term ℕ)) → Division cmp dividesWord _-_ _+_ p gs k (fullSum cmp p (last .work .buckets)) s → Division cmp dividesWord _-_ _+_ p gs (last .leads + k) f (last .remainder ++ s)
+    pub demand-2-stopped : length f ≤ mostTerms → (k : ℕ) (s : List (Term ℕ)) → Division cmp (chosen dividesWord gs) _-_ _+_ p k (fullSum cmp p (last .work .buckets)) s → Division cmp (chosen dividesWord gs) _-_ _+_ p (last .leads + k) f (last .remainder ++ s)
     demand-2-stopped = R.demand-2-stopped (orderOf order) n (opened .n-high) p (opened .prime) gs divisors (length ow) limit f valid
 
     -- the remainder, finished or so far, is canonical, and no term of it is divisible by a divisor's lead
@@ -156,7 +146,7 @@ module _ (tally : Tally) (p order n : ℕ) (words coefs ss : List ℕ) (limit : 
     remainder-irreducible = R.remainder-irreducible (orderOf order) n (opened .n-high) p (opened .prime) gs divisors (length ow) limit f valid
 
     -- "Each lead is the largest term of the true sum under the chosen order": the leads removed are those of the division, one by one; they fall strictly, and the answer has their number
-    pub leads-are : LeadsOf cmp dividesWord _-_ _+_ p gs (last .leads) f (last .work .given)
+    pub leads-are : LeadsOf cmp (chosen dividesWord gs) _-_ _+_ p (last .leads) f (last .work .given)
     leads-are = R.leads-are (orderOf order) n (opened .n-high) p (opened .prime) gs divisors (length ow) limit f valid
 
     pub leads-fall : Falling cmp (last .work .given)
@@ -167,13 +157,13 @@ module _ (tally : Tally) (p order n : ℕ) (words coefs ss : List ℕ) (limit : 
 
     -- Demand 3, "alike for the additions and leads of every reduction, finished or stopped": polynomial 0 is added, each lead is found and removed, each tail added, and the last lead, or zero, is found. It bars an engine whose tally is invented.
     abbrev pub work : Work ℕ
-    work = perform (compareWords (orderOf order)) p (reductionEvents dividesWord _-_ _+_ p (divisorsOf words coefs ss) (polynomial words coefs ss 0) (reducedThrough p order words coefs ss limit (length ow) .work .given)) start
+    work = perform (compareWords (orderOf order)) p (reductionEvents (chosen dividesWord (divisorsOf words coefs ss)) _-_ _+_ p (polynomial words coefs ss 0) (reducedThrough t words coefs ss limit (length ow) .work .given)) start
 
     pub demand-3-events : last .work ≡ work
     demand-3-events = R.demand-3-events (orderOf order) n (opened .n-high) p (opened .prime) gs divisors (length ow) limit f valid
 
     tally-is : outcome .tally ≡ tallyOf last
-    tally-is = ap (λ (x : ReductionOutcome). x .tally) outcome-is
+    tally-is = ap (λ (x : Outcome). x .tally) outcome-is
 
     -- "The monomial comparisons counted are exactly those that the published merge and search make on that list, one by one."
     pub demand-3-count : outcome .tally .comparisons ≡ length (work .pairs)
@@ -197,3 +187,23 @@ module _ (tally : Tally) (p order n : ℕ) (words coefs ss : List ℕ) (limit : 
     -- "as polynomials modulo p, terms given out + terms still held = terms brought in"; "every lead that a step removes is a term the geobucket gives out, whether it is divided or goes to the remainder"
     pub demand-3-kept : (m : ℕ) → (total cmp m (last .work .given) + totalIn cmp m (last .work .buckets)) % p ≡ total cmp m (work .brought) % p
     demand-3-kept m = R.demand-3-kept (orderOf order) n (opened .n-high) p (opened .prime) gs divisors (length ow) limit f valid m ∙ ap (λ (w : Work ℕ). total cmp m (w .brought) % p) demand-3-events
+
+    -- what the output and the bucket space hold at return: the remainder, finished or so far, and the buckets' terms
+    written-is : writtenIn (outcome .answer .places) (outcome .ow) (outcome .oc) ≡ last .remainder
+    written-is = ap (λ (x : Outcome). writtenIn (x .answer .places) (x .ow) (x .oc)) outcome-is ∙ (written-back (last .remainder) _ _ ∙ nonZero-reduced p (last .remainder) (remainder-canonical .reduced))
+
+    held-is : heldAt (outcome .bw) (outcome .bc) ≡ flat (last .work .buckets)
+    held-is = ap (λ (x : Outcome). heldAt (x .bw) (x .bc)) outcome-is ∙ held-back cmp p 4 (last .work .buckets) (R.held-canon (orderOf order) n (opened .n-high) p (opened .prime) gs divisors (length ow) limit f valid)
+
+    -- Demand 3 as "a single claim about the whole list": of what lies in the tally, in the output and in the bucket space at return. Given out are the leads removed; the tally counts the remainder.
+    pub demand-3 : Demand3 cmp p (work .pairs) (work .brought) (last .work .given) (writtenIn (outcome .answer .places) (outcome .ow) (outcome .oc)) (heldAt (outcome .bw) (outcome .bc)) (bound (outcome .tally .brought)) (outcome .tally)
+    demand-3 = record {
+      comparisons-are = demand-3-count;
+      at-most = demand-3-bound;
+      brought-are = demand-3-brought;
+      given-are = demand-3-given ∙ ap length (sym written-is);
+      held-are = ap (λ (x : Outcome). x .tally .held) outcome-is ∙ (sym (flat-held (last .work .buckets)) ∙ ap length (sym held-is));
+      conserved = λ m.
+          ap (λ (y : List (Term ℕ)). coefAt cmp p m (last .work .given ++ y)) held-is
+          ∙ (ap (λ (k : ℕ). k % p) (total-append cmp m (last .work .given) (flat (last .work .buckets)) ∙ ap (λ (k : ℕ). total cmp m (last .work .given) + k) (flat-total cmp m (last .work .buckets))) ∙ demand-3-kept m);
+    }

@@ -1,5 +1,5 @@
 -- What a reduction that no opening check refuses can be done with. Assumes nothing.
-use mathlib.Core.Path.{_≡_, refl, sym, ap, _∙_}
+use mathlib.Core.Path.{_≡_, sym, ap, _∙_}
 use mathlib.Core.List.{List, [], _∷_}
 use Prim.Native.Nat.{ℕ, zero, suc, _+_, _-_, _<_, _≤_}
 use native.Mathlib.Omega.{arith}
@@ -11,16 +11,15 @@ use Rattle.monomial.specs.Layout.{fields, Below, Layout}
 use Rattle.monomial.specs.Words.{compareWords}
 use Rattle.monomial.proofs.Places.{zeros, degree-append, degree-zeros}
 use Rattle.monomial.proofs.LayoutLaws.{length-fields}
-use Rattle.polynomial.specs.Terms.{Term, All}
+use Rattle.polynomial.specs.Terms.{Term}
 use Rattle.polynomial.proofs.MergeLaws.{all-map}
 use Rattle.polynomial.proofs.OpeningLaws.{passes}
 use Rattle.polynomial.proofs.StartLaws.{good-within}
-use Rattle.space.specs.Space.{listFrom}
+use Rattle.space.specs.Space.{Buckets, listFrom, noBuckets}
+use Rattle.polynomial.specs.declared.setting.Setting.{Setting}
 use Rattle.opening.specs.Reduction.{ReductionOpened}
 use Rattle.division.specs.Divisors.{Valid, AllOf}
-use Rattle.engine.specs.Runs.{polynomial}
-use Rattle.space.specs.Space.{noBuckets}
-use Rattle.engine.specs.States.{Lent}
+use Rattle.call.specs.Lending.{polynomial, Lent}
 use Rattle.reducer.specs.Divisors.{divisorsOf}
 use Rattle.reducer.specs.Stepping.{Reducible}
 
@@ -42,7 +41,16 @@ unfolding AllOf listFrom
 all-from Q g i zero h = tt
 all-from Q g i (suc k) h = (h i (omega arith) (omega arith), all-from Q g (suc i) k (λ j l u. h j (omega arith) (omega arith)))
 
-module _ {p order n : ℕ} {words coefs ss : List ℕ} {steps lbw lbc lww lwc low loc : ℕ} (o : ReductionOpened p order n words coefs ss steps lbw lbc lww lwc low loc) where
+module _ {t : Setting} {words coefs ss : List ℕ} {steps lbw lbc lww lwc low loc : ℕ} (o : ReductionOpened t words coefs ss steps lbw lbc lww lwc low loc) where
+  abbrev p : ℕ
+  p = t .p
+
+  abbrev order : ℕ
+  order = t .order
+
+  abbrev n : ℕ
+  n = t .n
+
   pub valid-polynomial : (k : ℕ) → k + 1 < length ss → Valid (compareWords (orderOf order)) p (λ w. Layout (orderOf order) n w) (polynomial words coefs ss k)
   valid-polynomial k h = let v = passes (orderOf order) n p (polynomial words coefs ss k) (o .polynomials k h) in record { canonical = v .0; are = v .1 }
 
@@ -66,5 +74,5 @@ module _ {p order n : ℕ} {words coefs ss : List ℕ} {steps lbw lbc lww lwc lo
     few-steps = o .few-steps;
   }
 
-pub spaces : {p order n : ℕ} {words coefs ss : List ℕ} {steps : ℕ} (bw bc ww wc ow oc : List ℕ) → ReductionOpened p order n words coefs ss steps (length bw) (length bc) (length ww) (length wc) (length ow) (length oc) → Lent noBuckets bw bc ww wc ow oc
-spaces bw bc ww wc ow oc o = record { none = refl; words-long = o .bucket-words; coefs-long = o .bucket-coefs; work = record { words-long = o .work-words; coefs-long = o .work-coefs }; same-long = sym (o .output) }
+pub spaces : {t : Setting} {words coefs ss : List ℕ} {steps : ℕ} {b : Buckets} → b ≡ noBuckets → (bw bc ww wc ow oc : List ℕ) → ReductionOpened t words coefs ss steps (length bw) (length bc) (length ww) (length wc) (length ow) (length oc) → Lent b bw bc ww wc ow oc
+spaces e bw bc ww wc ow oc o = record { none = e; words-long = o .bucket-words; coefs-long = o .bucket-coefs; work = record { words-long = o .work-words; coefs-long = o .work-coefs }; same-long = sym (o .output) }

@@ -1,238 +1,212 @@
--- A run and the events that it does, side by side. Assumes nothing.
+-- A run, operation by operation: induction along it, the events that it does, and what holds of its buckets and its output. Assumes nothing.
 use mathlib.Core.Path.{_≡_, refl, sym, ap, ap₂, _∙_, subst}
 use mathlib.Core.Bool.{Bool, true, false}
 use mathlib.Core.List.{List, [], _∷_, _++_, append-nil}
-use Prim.Native.Nat.{ℕ, zero, suc, _+_, _-_, _*_, _%_, _<_, _≤_, Ordering}
+use Prim.Native.Nat.{ℕ, zero, suc, _+_, _-_, _<_, _≤_, Ordering}
 use native.Mathlib.Decide.{decLe}
 use native.Mathlib.Omega.{arith}
-use borrow.Author.Tests.{le-leb, lt-leb, leb-true, eq-eqb, ne-eqb, eqb-true}
-use lib.Dec.{leb, eqb}
-use lib.ListN.{length, length-append}
+use borrow.Author.Tests.{le-leb, lt-leb, eq-eqb, eqb-true}
+use lib.Dec.{eqb}
+use lib.ListN.{length, take}
+use Rattle.limits.specs.Limits.{mostTerms}
 use Rattle.monomial.specs.TotalOrder.{TotalOrder}
 use Rattle.monomial.proofs.Places.{and-both}
-use Rattle.polynomial.specs.Terms.{Term, term, total, coefAt, Reduced, Canonical}
-use Rattle.geobucket.specs.Buckets.{empty, held, Good, totalIn, add, addCompared, fullSum, sumCompared, emptied}
+use Rattle.polynomial.specs.Terms.{Term, term, Canonical}
+use Rattle.geobucket.specs.Buckets.{empty, held, Good, fullSum, emptied}
 use Rattle.geobucket.specs.Search.{Lead, none, lead, search}
-use Rattle.geobucket.specs.Events as E
-use Rattle.geobucket.specs.Events.{Event, Work, start, leadTerms, perform, Polynomials}
+use Rattle.geobucket.specs.Events.{Event, addition, removal, summation, finding, leadTerms, perform, start, Polynomials}
 use Rattle.geobucket.proofs.AddLaws as G
 use Rattle.geobucket.proofs.EventLaws.{room-six, good-canon, shrunk-good, emptied-good}
 use Rattle.geobucket.proofs.SearchLaws.{Canon, Leads, finds}
 use Rattle.geobucket.proofs.LeadLaws.{sum-right}
 use Rattle.search.proofs.FindLaws.{shrunk-long}
-use Rattle.engine.specs.Runs.{Operation, adds, leads, sums, Running, begun, operate, operateAll, added, taken, summed, addedBy, takenBy, summedBy, placeOf, operationBy, polynomial, operationOf, operationsOf}
+use Rattle.call.specs.Lending.{polynomial}
+use Rattle.call.specs.Places.{nonZero}
+use Rattle.call.proofs.PlaceLaws.{nonZero-append, nonZero-reduced}
 use Rattle.opening.specs.Run.{operationGood, operationsGood}
+use Rattle.engine.specs.Runs.{Operation, adds, leads, sums, Running, begun, stopped, operate, operateAll, added, taken, summed, addedBy, takenBy, summedBy, placeOf, operationBy, operationOf, operationsOf}
+use Rattle.runs.specs.Demanded.{eventOf, eventsOf}
 use Rattle.runs.proofs.OpenedLaws.{one-there}
-use Rattle.runs.specs.Demanded.{eventOf, eventsDone, unlessZero, nonZero}
 
--- ---- the terms given out, read off the output
-nonZero-append : (xs ys : List (Term ℕ)) → nonZero (xs ++ ys) ≡ nonZero xs ++ nonZero ys
-nonZero-append [] ys = refl
-nonZero-append (x ∷ xs) ys = ap (unlessZero (x .coef) x) (nonZero-append xs ys) ∙ by (x .coef)
-  where
-    by : (c : ℕ) → unlessZero c x (nonZero xs ++ nonZero ys) ≡ unlessZero c x (nonZero xs) ++ nonZero ys
-    by zero = refl
-    by (suc c) = refl
+module _ (cmp : ℕ → ℕ → Ordering) (p places : ℕ) where
+  -- the operation leaves u: the run goes on from there, or is stopped
+  pub all-on : {u : Running} (o : Operation) (os : List Operation) (t : Running) → operate cmp p places o t ≡ u → u .stop ≡ 0 → operateAll cmp p places (o ∷ os) t ≡ operateAll cmp p places os u
+  unfolding operateAll
+  all-on {u} o os t is z = ap (λ (x : Running). elim (eqb (x .stop) 0) [ true ↦ operateAll cmp p places os x | false ↦ x ]) is ∙ rw (eq-eqb (u .stop) 0 z)
 
-nonZero-reduced : (p : ℕ) (xs : List (Term ℕ)) → Reduced p xs → nonZero xs ≡ xs
-nonZero-reduced p [] r = refl
-nonZero-reduced p (x ∷ xs) r = ap (unlessZero (x .coef) x) (nonZero-reduced p xs (r .1)) ∙ by (x .coef) (r .0 .0)
-  where
-    by : (c : ℕ) → 0 < c → unlessZero c x xs ≡ x ∷ xs
-    by zero h = absurd (let z : ⊥ = omega arith in z)
-    by (suc c) h = refl
+  all-off : {u : Running} (o : Operation) (os : List Operation) (t : Running) → operate cmp p places o t ≡ u → eqb (u .stop) 0 ≡ false → operateAll cmp p places (o ∷ os) t ≡ u
+  unfolding operateAll
+  all-off {u} o os t is z = ap (λ (x : Running). elim (eqb (x .stop) 0) [ true ↦ operateAll cmp p places os x | false ↦ x ]) is ∙ rw z
 
-pub emptied-long : (bs : List (List (Term ℕ))) → length (emptied bs) ≡ length bs
+  -- ---- Induction along a run.
+  module _
+      (P : List Operation → Running → Running → Type 0)
+      (ends : (t : Running) → t .stop ≡ 0 → P [] t t)
+      (adds-on : (f : List (Term ℕ)) (os : List Operation) (t v : Running) → held (t .work .buckets) + length f ≤ mostTerms → P os (added cmp p f t) v → P (adds f ∷ os) t v)
+      (adds-off : (f : List (Term ℕ)) (os : List Operation) (t : Running) → mostTerms < held (t .work .buckets) + length f → P (adds f ∷ os) t (stopped 11 t))
+      (leads-on : (os : List Operation) (t v : Running) → length (t .output) + 1 ≤ places → P os (taken cmp p t) v → P (leads ∷ os) t v)
+      (leads-off : (os : List Operation) (t : Running) → places < length (t .output) + 1 → P (leads ∷ os) t (stopped 10 t))
+      (sums-on : (os : List Operation) (t v : Running) → length (t .output) + (held (t .work .buckets) + 1) ≤ places → P os (summed cmp p t) v → P (sums ∷ os) t v)
+      (sums-off : (os : List Operation) (t : Running) → places < length (t .output) + (held (t .work .buckets) + 1) → P (sums ∷ os) t (stopped 10 t)) where
+    pub along : (os : List Operation) (t : Running) → t .stop ≡ 0 → P os t (operateAll cmp p places os t)
+    unfolding operateAll operate
+    along [] t z = ends t z
+    along (adds f ∷ os) t z = go (decLe (held (t .work .buckets) + length f) mostTerms) (along os (added cmp p f t) z)
+      where
+        go : Dec (held (t .work .buckets) + length f ≤ mostTerms) → P os (added cmp p f t) (operateAll cmp p places os (added cmp p f t)) → P (adds f ∷ os) t (operateAll cmp p places (adds f ∷ os) t)
+        go (yes h) r = subst (P (adds f ∷ os) t) (sym (all-on (adds f) os t (ap (λ (b : Bool). addedBy cmp p b f t) (le-leb (held (t .work .buckets) + length f) mostTerms h)) z)) (adds-on f os t _ h r)
+        go (no h) r =
+            let k : mostTerms < held (t .work .buckets) + length f = omega arith in
+            subst (P (adds f ∷ os) t) (sym (all-off (adds f) os t (ap (λ (b : Bool). addedBy cmp p b f t) (lt-leb (held (t .work .buckets) + length f) mostTerms k)) refl)) (adds-off f os t k)
+    along (leads ∷ os) t z = go (decLe (length (t .output) + 1) places) (along os (taken cmp p t) z)
+      where
+        go : Dec (length (t .output) + 1 ≤ places) → P os (taken cmp p t) (operateAll cmp p places os (taken cmp p t)) → P (leads ∷ os) t (operateAll cmp p places (leads ∷ os) t)
+        go (yes h) r = subst (P (leads ∷ os) t) (sym (all-on leads os t (ap (λ (b : Bool). takenBy cmp p b t) (le-leb (length (t .output) + 1) places h)) z)) (leads-on os t _ h r)
+        go (no h) r =
+            let k : places < length (t .output) + 1 = omega arith in
+            subst (P (leads ∷ os) t) (sym (all-off leads os t (ap (λ (b : Bool). takenBy cmp p b t) (lt-leb (length (t .output) + 1) places k)) refl)) (leads-off os t k)
+    along (sums ∷ os) t z = go (decLe (length (t .output) + (held (t .work .buckets) + 1)) places) (along os (summed cmp p t) z)
+      where
+        go : Dec (length (t .output) + (held (t .work .buckets) + 1) ≤ places) → P os (summed cmp p t) (operateAll cmp p places os (summed cmp p t)) → P (sums ∷ os) t (operateAll cmp p places (sums ∷ os) t)
+        go (yes h) r = subst (P (sums ∷ os) t) (sym (all-on sums os t (ap (λ (b : Bool). summedBy cmp p b t) (le-leb (length (t .output) + (held (t .work .buckets) + 1)) places h)) z)) (sums-on os t _ h r)
+        go (no h) r =
+            let k : places < length (t .output) + (held (t .work .buckets) + 1) = omega arith in
+            subst (P (sums ∷ os) t) (sym (all-off sums os t (ap (λ (b : Bool). summedBy cmp p b t) (lt-leb (length (t .output) + (held (t .work .buckets) + 1)) places k)) refl)) (sums-off os t k)
+
+  -- ---- the work of a run is that of the operations that it finished
+  record Followed (os : List Operation) (t v : Running) : Type 0 where
+    done : ℕ
+    finished-is : v .finished ≡ t .finished + done
+    work-is : perform cmp p (take done (eventsOf os)) (t .work) ≡ v .work
+
+  no-more : (os : List Operation) (t : Running) (r : ℕ) → Followed os t (stopped r t)
+  unfolding perform
+  no-more os t r = record { done = 0; finished-is = omega arith; work-is = refl }
+
+  followed : (os : List Operation) (t : Running) → t .stop ≡ 0 → Followed os t (operateAll cmp p places os t)
+  unfolding perform
+  followed =
+      along Followed
+      (λ t z. record { done = 0; finished-is = omega arith; work-is = refl })
+      (λ f os t v h r. record { done = suc (r .done); finished-is = omega (arith, r .finished-is); work-is = rw (le-leb (held (t .work .buckets) + length f) mostTerms h, perform) (r .work-is) })
+      (λ f os t h. no-more (adds f ∷ os) t 11)
+      (λ os t v h r. record { done = suc (r .done); finished-is = omega (arith, r .finished-is); work-is = r .work-is })
+      (λ os t h. no-more (leads ∷ os) t 10)
+      (λ os t v h r. record { done = suc (r .done); finished-is = omega (arith, r .finished-is); work-is = r .work-is })
+      (λ os t h. no-more (sums ∷ os) t 10)
+
+  pub work-done : (os : List Operation) → perform cmp p (take (operateAll cmp p places os begun .finished) (eventsOf os)) start ≡ operateAll cmp p places os begun .work
+  work-done os =
+      let r = followed os begun refl in
+      ap (λ (n : ℕ). perform cmp p (take n (eventsOf os)) start) (let e : operateAll cmp p places os begun .finished ≡ r .done = omega (arith, r .finished-is) in e) ∙ r .work-is
+
+pub first-polynomials : (cmp : ℕ → ℕ → Ordering) (p n : ℕ) (es : List (Event ℕ)) → Polynomials cmp p es → Polynomials cmp p (take n es)
+unfolding Polynomials
+first-polynomials cmp p zero es g = tt
+first-polynomials cmp p (suc n) [] g = tt
+first-polynomials cmp p (suc n) (addition f ∷ es) g = (g .0, first-polynomials cmp p n es (g .1))
+first-polynomials cmp p (suc n) (removal ∷ es) g = first-polynomials cmp p n es g
+first-polynomials cmp p (suc n) (summation ∷ es) g = first-polynomials cmp p n es g
+first-polynomials cmp p (suc n) (finding ∷ es) g = first-polynomials cmp p n es g
+
+pub front-polynomials : (cmp : ℕ → ℕ → Ordering) (p : ℕ) (xs ys : List Operation) → Polynomials cmp p (eventsOf (xs ++ ys)) → Polynomials cmp p (eventsOf xs)
+unfolding Polynomials
+front-polynomials cmp p [] ys g = tt
+front-polynomials cmp p (adds f ∷ xs) ys g = (g .0, front-polynomials cmp p xs ys (g .1))
+front-polynomials cmp p (leads ∷ xs) ys g = front-polynomials cmp p xs ys g
+front-polynomials cmp p (sums ∷ xs) ys g = front-polynomials cmp p xs ys g
+
+emptied-long : (bs : List (List (Term ℕ))) → length (emptied bs) ≡ length bs
 unfolding emptied
 emptied-long [] = refl
 emptied-long (b ∷ bs) = ap suc (emptied-long bs)
 
--- each polynomial that is to be added is canonical
-abbrev pub Addable : (cmp : ℕ → ℕ → Ordering) (p : ℕ) → Operation → Type 0
-Addable cmp p (adds f) = Canonical cmp p f
-Addable cmp p leads = Unit {0}
-Addable cmp p sums = Unit {0}
+-- ---- the buckets are good, and the terms given out are the non-zero ones of the output
+module _ (cmp : ℕ → ℕ → Ordering) (p : ℕ) where
+  pub record Sound (t : Running) : Type 0 where
+    pub good : Good cmp p 4 (t .work .buckets)
+    pub six : length (t .work .buckets) ≡ 6
+    pub output-is : nonZero (t .output) ≡ t .work .given
 
-unfoldable pub AllAddable : (cmp : ℕ → ℕ → Ordering) (p : ℕ) → List Operation → Type 0
-AllAddable cmp p [] = Unit {0}
-AllAddable cmp p (o ∷ os) = Addable cmp p o × AllAddable cmp p os
-
-pub addable-front : (cmp : ℕ → ℕ → Ordering) (p : ℕ) (xs ys : List Operation) → AllAddable cmp p (xs ++ ys) → AllAddable cmp p xs
-unfolding AllAddable
-addable-front cmp p [] ys g = tt
-addable-front cmp p (x ∷ xs) ys g = (g .0, addable-front cmp p xs ys (g .1))
-
--- the equations of a run
-module _ (cmp : ℕ → ℕ → Ordering) (p places : ℕ) where
-  pub all-on : (o : Operation) (os : List Operation) (t : Running) → operate cmp p places o t .stop ≡ 0 → operateAll cmp p places (o ∷ os) t ≡ operateAll cmp p places os (operate cmp p places o t)
-  unfolding operateAll
-  all-on o os t e = rw (eq-eqb (operate cmp p places o t .stop) 0 e, operateAll) refl
-
-  pub all-off : (o : Operation) (os : List Operation) (t : Running) → (operate cmp p places o t .stop ≡ 0 → ⊥) → operateAll cmp p places (o ∷ os) t ≡ operate cmp p places o t
-  unfolding operateAll
-  all-off o os t ne = rw (ne-eqb (operate cmp p places o t .stop) 0 ne, operateAll) refl
-
-module _ (cmp : ℕ → ℕ → Ordering) (p : ℕ) (O : TotalOrder ℕ cmp) (pos : 0 < p) where
-  -- a run's state and the work of its events say the same
-  pub record Agree (t : Running) (w : Work ℕ) : Type 0 where
-    pub buckets-are : t .buckets ≡ w .buckets
-    pub count-is : t .comparisons ≡ length (w .pairs)
-    pub brought-is : t .brought ≡ length (w .brought)
-    pub given-is : t .given ≡ length (w .given)
-    pub output-is : nonZero (t .output) ≡ w .given
-    pub good : Good cmp p 4 (w .buckets)
-    pub six : length (w .buckets) ≡ 6
-
-  pub agree-begun : Agree begun start
+  sound-begun : Sound begun
   unfolding emptied
-  agree-begun = record { buckets-are = refl; count-is = refl; brought-is = refl; given-is = refl; output-is = refl; good = emptied-good cmp p 4 empty; six = refl }
+  sound-begun = record { good = emptied-good cmp p 4 empty; six = refl; output-is = refl }
 
-  -- ---- one operation that is done
-  module _ {t : Running} {w : Work ℕ} (a : Agree t w) where
-    agree-stopped : (r : ℕ) → Agree (record { buckets = t .buckets; comparisons = t .comparisons; brought = t .brought; given = t .given; output = t .output; finished = t .finished; stop = r }) w
-    agree-stopped r = record { buckets-are = a .buckets-are; count-is = a .count-is; brought-is = a .brought-is; given-is = a .given-is; output-is = a .output-is; good = a .good; six = a .six }
+  pub canon : {t : Running} → Sound t → Canon cmp p (t .work .buckets)
+  canon {t} a = good-canon cmp p 4 (t .work .buckets) (a .good)
 
-    agree-added : (f : List (Term ℕ)) → Canonical cmp p f → held (w .buckets) + length f ≤ 4096 → Agree (added cmp p f t) (E.added cmp p f w)
-    agree-added f c h =
-        let r = G.adds cmp p O pos f (w .buckets) (omega (arith, h, room-six (w .buckets) (a .six))) c (a .good) in
-        record {
-          buckets-are = ap (add cmp p f) (a .buckets-are);
-          count-is = omega (arith, a .count-is, length-append (w .pairs) (addCompared cmp p f (w .buckets)), ap (λ (x : List (List (Term ℕ))). length (addCompared cmp p f x)) (a .buckets-are));
-          brought-is = omega (arith, a .brought-is, length-append (w .brought) f);
-          given-is = a .given-is;
-          output-is = a .output-is;
-          good = r .good;
-          six = r .count ∙ a .six;
-        }
-
-    canon : Canon cmp p (w .buckets)
-    canon = good-canon cmp p 4 (w .buckets) (a .good)
+  module _ (O : TotalOrder ℕ cmp) (pos : 0 < p) {t : Running} (a : Sound t) where
+    sound-added : (f : List (Term ℕ)) → Canonical cmp p f → held (t .work .buckets) + length f ≤ mostTerms → Sound (added cmp p f t)
+    sound-added f c h =
+        let r = G.adds cmp p O pos f (t .work .buckets) (omega (arith, h, room-six (t .work .buckets) (a .six))) c (a .good) in
+        record { good = r .good; six = r .count ∙ a .six; output-is = a .output-is }
 
     placed : (x : Lead ℕ) (cs : List (List (Term ℕ))) → Leads cmp p x cs → nonZero (placeOf x ∷ []) ≡ leadTerms x
     placed none cs l = refl
-    placed (lead at u) cs l = by (u .coef) (l .0)
-      where
-        by : (c : ℕ) → 0 < c → unlessZero c u [] ≡ u ∷ []
-        by zero h = absurd (let z : ⊥ = omega arith in z)
-        by (suc c) h = refl
+    placed (lead at u) cs l = nonZero-reduced p (u ∷ []) ((l .0, l .1), tt)
 
-    agree-taken : Agree (taken cmp p t) (E.removed cmp p w)
-    agree-taken =
-        let bs = w .buckets in
+    sound-taken : Sound (taken cmp p t)
+    sound-taken =
+        let bs = t .work .buckets in
         let s = search cmp p bs in
-        let f = finds cmp p O pos bs canon in
-        let e : search cmp p (t .buckets) ≡ s = ap (search cmp p) (a .buckets-are) in
+        let f = finds cmp p O pos bs (canon a) in
         record {
-          buckets-are = ap (λ (x : List (List (Term ℕ))). search cmp p x .buckets) (a .buckets-are);
-          count-is = omega (arith, a .count-is, length-append (w .pairs) (s .pairs), ap (λ (x : List (List (Term ℕ))). length (search cmp p x .pairs)) (a .buckets-are));
-          brought-is = a .brought-is;
-          given-is = omega (arith, a .given-is, length-append (w .given) (leadTerms (s .answer)), ap (λ (x : List (List (Term ℕ))). length (leadTerms (search cmp p x .answer))) (a .buckets-are));
-          output-is =
-              nonZero-append (t .output) (placeOf (search cmp p (t .buckets) .answer) ∷ [])
-              ∙ ap₂ (λ (x y : List (Term ℕ)). x ++ y) (a .output-is) (ap (λ (x : List (List (Term ℕ))). nonZero (placeOf (search cmp p x .answer) ∷ [])) (a .buckets-are) ∙ placed (s .answer) (s .buckets) (f .leads));
           good = shrunk-good cmp p 4 (s .buckets) bs (f .short) (f .canon) (a .good);
           six = shrunk-long (s .buckets) bs (f .short) ∙ a .six;
+          output-is = nonZero-append (t .output) (placeOf (s .answer) ∷ []) ∙ ap₂ (λ (x y : List (Term ℕ)). x ++ y) (a .output-is) (placed (s .answer) (s .buckets) (f .leads));
         }
 
-    agree-summed : Agree (summed cmp p t) (E.summed cmp p w)
-    agree-summed =
-        let bs = w .buckets in
-        let c = sum-right cmp p O pos bs canon .0 in
+    sound-summed : Sound (summed cmp p t)
+    sound-summed =
+        let bs = t .work .buckets in
+        let f = fullSum cmp p bs in
         record {
-          buckets-are = ap emptied (a .buckets-are);
-          count-is = omega (arith, a .count-is, length-append (w .pairs) (sumCompared cmp p [] bs), ap (λ (x : List (List (Term ℕ))). length (sumCompared cmp p [] x)) (a .buckets-are));
-          brought-is = a .brought-is;
-          given-is = omega (arith, a .given-is, length-append (w .given) (fullSum cmp p bs), ap (λ (x : List (List (Term ℕ))). length (fullSum cmp p x)) (a .buckets-are));
-          output-is =
-              nonZero-append (t .output) (fullSum cmp p (t .buckets) ++ (term 0 0 ∷ []))
-              ∙ ap₂ (λ (x y : List (Term ℕ)). x ++ y) (a .output-is)
-              (nonZero-append (fullSum cmp p (t .buckets)) (term 0 0 ∷ []) ∙ (append-nil (nonZero (fullSum cmp p (t .buckets))) ∙ (ap (λ (x : List (List (Term ℕ))). nonZero (fullSum cmp p x)) (a .buckets-are) ∙ nonZero-reduced p (fullSum cmp p bs) (c .reduced))));
           good = emptied-good cmp p 4 bs;
           six = emptied-long bs ∙ a .six;
+          output-is =
+              nonZero-append (t .output) (f ++ (term 0 0 ∷ []))
+              ∙ ap₂ (λ (x y : List (Term ℕ)). x ++ y) (a .output-is)
+              (nonZero-append f (term 0 0 ∷ []) ∙ (append-nil (nonZero f) ∙ nonZero-reduced p f (sum-right cmp p O pos bs (canon a) .0 .reduced)));
         }
 
-  -- ---- all of them
-  module _ (places : ℕ) where
-    pub record Both (os : List Operation) (t : Running) (w : Work ℕ) : Type 0 where
-      pub agree : Agree (operateAll cmp p places os t) (perform cmp p (eventsDone cmp p places os t) w)
-      pub polynomials : Polynomials cmp p (eventsDone cmp p places os t)
+  -- ---- Induction along a run of canonical polynomials, which is sound before each operation.
+  module _ (O : TotalOrder ℕ cmp) (pos : 0 < p) (places : ℕ)
+      (P : List Operation → Running → Running → Type 0)
+      (ends : (t : Running) → Sound t → P [] t t)
+      (adds-on : (f : List (Term ℕ)) (os : List Operation) (t v : Running) → Sound t → Canonical cmp p f → held (t .work .buckets) + length f ≤ mostTerms → P os (added cmp p f t) v → P (adds f ∷ os) t v)
+      (leads-on : (os : List Operation) (t v : Running) → Sound t → P os (taken cmp p t) v → P (leads ∷ os) t v)
+      (sums-on : (os : List Operation) (t v : Running) → Sound t → P os (summed cmp p t) v → P (sums ∷ os) t v)
+      (stops : (r : ℕ) (o : Operation) (os : List Operation) (t : Running) → Sound t → P (o ∷ os) t (stopped r t)) where
+    pub sound-along : (os : List Operation) → Polynomials cmp p (eventsOf os) → P os begun (operateAll cmp p places os begun)
+    unfolding Polynomials
+    sound-along os g =
+        along cmp p places (λ os t v. Polynomials cmp p (eventsOf os) → Sound t → P os t v)
+        (λ t z g a. ends t a)
+        (λ f os t v h r g a. adds-on f os t v a (g .0) h (r (g .1) (sound-added O pos a f (g .0) h)))
+        (λ f os t h g a. stops 11 (adds f) os t a)
+        (λ os t v h r g a. leads-on os t v a (r g (sound-taken O pos a)))
+        (λ os t h g a. stops 10 leads os t a)
+        (λ os t v h r g a. sums-on os t v a (r g (sound-summed O pos a)))
+        (λ os t h g a. stops 10 sums os t a)
+        os begun refl g sound-begun
 
-    -- the equations of the events
-    done-on : (o : Operation) (os : List Operation) (t : Running) → operate cmp p places o t .stop ≡ 0 → eventsDone cmp p places (o ∷ os) t ≡ eventOf o ∷ eventsDone cmp p places os (operate cmp p places o t)
-    unfolding eventsDone
-    done-on o os t e = rw (eq-eqb (operate cmp p places o t .stop) 0 e, eventsDone) refl
-
-    done-off : (o : Operation) (os : List Operation) (t : Running) → (operate cmp p places o t .stop ≡ 0 → ⊥) → eventsDone cmp p places (o ∷ os) t ≡ []
-    unfolding eventsDone
-    done-off o os t ne = rw (ne-eqb (operate cmp p places o t .stop) 0 ne, eventsDone) refl
-
-    -- the operation is done: the rest goes on from what it leaves
-    on : (o : Operation) (os : List Operation) (t : Running) (w v : Work ℕ) → operate cmp p places o t .stop ≡ 0 → ((es : List (Event ℕ)) → perform cmp p (eventOf o ∷ es) w ≡ perform cmp p es v) → ((es : List (Event ℕ)) → Polynomials cmp p es → Polynomials cmp p (eventOf o ∷ es))
-        → Both os (operate cmp p places o t) v → Both (o ∷ os) t w
-    on o os t w v e same more r =
-        let es = eventsDone cmp p places os (operate cmp p places o t) in
-        record {
-          agree = subst (λ (x : Running). Agree x (perform cmp p (eventsDone cmp p places (o ∷ os) t) w)) (sym (all-on cmp p places o os t e)) (subst (λ (x : List (Event ℕ)). Agree (operateAll cmp p places os (operate cmp p places o t)) (perform cmp p x w)) (sym (done-on o os t e)) (subst (Agree (operateAll cmp p places os (operate cmp p places o t))) (sym (same es)) (r .agree)));
-          polynomials = subst (Polynomials cmp p) (sym (done-on o os t e)) (more es (r .polynomials));
-        }
-
-    -- it is refused: nothing more is done
-    off : (o : Operation) (os : List Operation) (t : Running) (w : Work ℕ) → (operate cmp p places o t .stop ≡ 0 → ⊥) → Agree (operate cmp p places o t) w → Both (o ∷ os) t w
-    unfolding perform Polynomials
-    off o os t w ne a = record {
-      agree = subst (λ (x : Running). Agree x (perform cmp p (eventsDone cmp p places (o ∷ os) t) w)) (sym (all-off cmp p places o os t ne)) (subst (λ (x : List (Event ℕ)). Agree (operate cmp p places o t) (perform cmp p x w)) (sym (done-off o os t ne)) a);
-      polynomials = subst (Polynomials cmp p) (sym (done-off o os t ne)) tt;
-    }
-
-    add-performs : (f : List (Term ℕ)) (w : Work ℕ) → held (w .buckets) + length f ≤ 4096 → (es : List (Event ℕ)) → perform cmp p (E.addition f ∷ es) w ≡ perform cmp p es (E.added cmp p f w)
-    unfolding perform
-    add-performs f w h es = rw (le-leb (held (w .buckets) + length f) 4096 h, perform) refl
-
-    pub follow : (os : List Operation) (t : Running) (w : Work ℕ) → AllAddable cmp p os → Agree t w → Both os t w
-    unfolding AllAddable operateAll eventsDone perform Polynomials operate
-    follow [] t w g a = record { agree = a; polynomials = tt }
-    follow (adds f ∷ os) t w g a = by (leb (held (t .buckets) + length f) 4096) refl (λ t' w' a'. follow os t' w' (g .1) a')
-      where
-        by : (b : Bool) → leb (held (t .buckets) + length f) 4096 ≡ b → ((t' : Running) (w' : Work ℕ) → Agree t' w' → Both os t' w') → Both (adds f ∷ os) t w
-        by true e r =
-            let is : operate cmp p places (adds f) t ≡ added cmp p f t = ap (λ (b : Bool). addedBy cmp p b f t) e in
-            let h : held (w .buckets) + length f ≤ 4096 = omega (arith, leb-true (held (t .buckets) + length f) 4096 e, ap held (a .buckets-are)) in
-            on (adds f) os t w (E.added cmp p f w) (ap (λ (x : Running). x .stop) is) (add-performs f w h) (λ es q. (g .0, q)) (subst (λ (x : Running). Both os x (E.added cmp p f w)) (sym is) (r (added cmp p f t) (E.added cmp p f w) (agree-added a f (g .0) h)))
-        by false e r =
-            let is : operate cmp p places (adds f) t ≡ record { buckets = t .buckets; comparisons = t .comparisons; brought = t .brought; given = t .given; output = t .output; finished = t .finished; stop = 11 } = ap (λ (b : Bool). addedBy cmp p b f t) e in
-            off (adds f) os t w (λ z. let q : ⊥ = omega (arith, sym (ap (λ (x : Running). x .stop) is) ∙ z) in q) (subst (λ (x : Running). Agree x w) (sym is) (agree-stopped a 11))
-    follow (leads ∷ os) t w g a = by (leb (length (t .output) + 1) places) refl (λ t' w' a'. follow os t' w' (g .1) a')
-      where
-        by : (b : Bool) → leb (length (t .output) + 1) places ≡ b → ((t' : Running) (w' : Work ℕ) → Agree t' w' → Both os t' w') → Both (leads ∷ os) t w
-        by true e r =
-            let is : operate cmp p places leads t ≡ taken cmp p t = ap (λ (b : Bool). takenBy cmp p b t) e in
-            on leads os t w (E.removed cmp p w) (ap (λ (x : Running). x .stop) is) (λ es. refl) (λ es q. q) (subst (λ (x : Running). Both os x (E.removed cmp p w)) (sym is) (r (taken cmp p t) (E.removed cmp p w) (agree-taken a)))
-        by false e r =
-            let is : operate cmp p places leads t ≡ record { buckets = t .buckets; comparisons = t .comparisons; brought = t .brought; given = t .given; output = t .output; finished = t .finished; stop = 10 } = ap (λ (b : Bool). takenBy cmp p b t) e in
-            off leads os t w (λ z. let q : ⊥ = omega (arith, sym (ap (λ (x : Running). x .stop) is) ∙ z) in q) (subst (λ (x : Running). Agree x w) (sym is) (agree-stopped a 10))
-    follow (sums ∷ os) t w g a = by (leb (length (t .output) + (held (t .buckets) + 1)) places) refl (λ t' w' a'. follow os t' w' (g .1) a')
-      where
-        by : (b : Bool) → leb (length (t .output) + (held (t .buckets) + 1)) places ≡ b → ((t' : Running) (w' : Work ℕ) → Agree t' w' → Both os t' w') → Both (sums ∷ os) t w
-        by true e r =
-            let is : operate cmp p places sums t ≡ summed cmp p t = ap (λ (b : Bool). summedBy cmp p b t) e in
-            on sums os t w (E.summed cmp p w) (ap (λ (x : Running). x .stop) is) (λ es. refl) (λ es q. q) (subst (λ (x : Running). Both os x (E.summed cmp p w)) (sym is) (r (summed cmp p t) (E.summed cmp p w) (agree-summed a)))
-        by false e r =
-            let is : operate cmp p places sums t ≡ record { buckets = t .buckets; comparisons = t .comparisons; brought = t .brought; given = t .given; output = t .output; finished = t .finished; stop = 10 } = ap (λ (b : Bool). summedBy cmp p b t) e in
-            off sums os t w (λ z. let q : ⊥ = omega (arith, sym (ap (λ (x : Running). x .stop) is) ∙ z) in q) (subst (λ (x : Running). Agree x w) (sym is) (agree-stopped a 10))
+  pub sound : TotalOrder ℕ cmp → 0 < p → (places : ℕ) (os : List Operation) → Polynomials cmp p (eventsOf os) → Sound (operateAll cmp p places os begun)
+  sound O pos places = sound-along O pos places (λ os t v. Sound v) (λ t a. a) (λ f os t v a c h r. r) (λ os t v a r. r) (λ os t v a r. r) (λ r o os t a. record { good = a .good; six = a .six; output-is = a .output-is })
 
 -- ---- the operations of a run that passed its opening checks
-by-code : (cmp : ℕ → ℕ → Ordering) (p : ℕ) (words coefs starts : List ℕ) (code k : ℕ) → (code ≡ 1 → Canonical cmp p (polynomial words coefs starts k)) → Addable cmp p (operationOf words coefs starts code k)
-by-code cmp p words coefs starts code k h = by (eqb code 1) (eqb code 2) refl
+by-code : (cmp : ℕ → ℕ → Ordering) (p : ℕ) (words coefs starts : List ℕ) (code k : ℕ) (es : List (Event ℕ)) → (code ≡ 1 → Canonical cmp p (polynomial words coefs starts k)) → Polynomials cmp p es → Polynomials cmp p (eventOf (operationOf words coefs starts code k) ∷ es)
+unfolding Polynomials
+by-code cmp p words coefs starts code k es h g = by (eqb code 1) (eqb code 2) refl
   where
-    by : (x y : Bool) → eqb code 1 ≡ x → Addable cmp p (operationBy x y (polynomial words coefs starts k))
-    by true y e = h (eqb-true code 1 e)
-    by false true e = tt
-    by false false e = tt
+    by : (x y : Bool) → eqb code 1 ≡ x → Polynomials cmp p (eventOf (operationBy x y (polynomial words coefs starts k)) ∷ es)
+    by true y e = (h (eqb-true code 1 e), g)
+    by false true e = g
+    by false false e = g
 
-pub all-addable : (cmp : ℕ → ℕ → Ordering) (p : ℕ) (words coefs starts ops : List ℕ) → operationsGood ops (length starts - 1) ≡ true → ((k : ℕ) → k < length starts - 1 → Canonical cmp p (polynomial words coefs starts k)) → AllAddable cmp p (operationsOf words coefs starts ops)
-unfolding AllAddable operationsOf operationsGood
-all-addable cmp p words coefs starts [] h c = tt
-all-addable cmp p words coefs starts (code ∷ []) h c = tt
-all-addable cmp p words coefs starts (code ∷ (k ∷ ops)) h c =
+pub all-polynomials : (cmp : ℕ → ℕ → Ordering) (p : ℕ) (words coefs starts ops : List ℕ) → operationsGood ops (length starts - 1) ≡ true → ((k : ℕ) → k < length starts - 1 → Canonical cmp p (polynomial words coefs starts k)) → Polynomials cmp p (eventsOf (operationsOf words coefs starts ops))
+unfolding Polynomials operationsOf operationsGood
+all-polynomials cmp p words coefs starts [] h c = tt
+all-polynomials cmp p words coefs starts (code ∷ []) h c = tt
+all-polynomials cmp p words coefs starts (code ∷ (k ∷ ops)) h c =
     let e = and-both (operationGood code k (length starts - 1)) (operationsGood ops (length starts - 1)) h in
-    (by-code cmp p words coefs starts code k (λ one. c k (one-there code k (length starts - 1) (e .0) one)), all-addable cmp p words coefs starts ops (e .1) c)
+    by-code cmp p words coefs starts code k (eventsOf (operationsOf words coefs starts ops)) (λ one. c k (one-there code k (length starts - 1) (e .0) one)) (all-polynomials cmp p words coefs starts ops (e .1) c)

@@ -1,6 +1,5 @@
 pub mod OpenedLaws
 pub mod OutcomeLaws
-pub mod Said
 pub mod Follow
 pub mod Outcomes
 pub mod Endings

@@ -1,27 +1,30 @@
 -- What the opening checks of a run let pass can be run. Assumes nothing.
-use mathlib.Core.Path.{_≡_, refl, sym, ap, _∙_, subst}
-use mathlib.Core.Bool.{Bool, true, false, _&&_}
+use mathlib.Core.Path.{_≡_, sym, ap, _∙_, subst}
+use mathlib.Core.Bool.{Bool, true}
 use mathlib.Core.List.{List, [], _∷_}
 use Prim.Native.Nat.{ℕ, zero, suc, _+_, _-_, _*_, _/_, _%_, _<_, _≤_}
 use native.Mathlib.Omega.{arith}
 use borrow.Author.Tests.{eqb-true, leb-true, ltb-true, eq-eqb}
-use lib.Dec.{leb, ltb, eqb}
+use lib.Dec.{leb, eqb}
 use lib.ListN.{length, getD}
+use Rattle.limits.specs.Limits.{mostOperations}
 use Rattle.monomial.specs.Exponents.{orderOf}
 use Rattle.monomial.specs.Words.{compareWords}
 use Rattle.polynomial.proofs.OpeningLaws.{passes}
 use Rattle.monomial.proofs.Places.{and-both}
 use Rattle.polynomial.proofs.StartLaws.{good-within}
+use Rattle.polynomial.specs.declared.setting.Setting.{Setting}
 use Rattle.opening.specs.Run.{Opened, pairsGood, operationBy, operationGood, operationsGood}
-use Rattle.space.specs.Space.{noBuckets}
-use Rattle.engine.specs.States.{Loaded, Lent, Work}
+use Rattle.space.specs.Space.{Buckets, noBuckets}
+use Rattle.call.specs.Lending.{Lent}
+use Rattle.engine.specs.States.{Loaded}
 
 -- 16,777,216 pairs at most, and no half one
-pairs-whole : (len : ℕ) → pairsGood len ≡ true → (len ≡ 2 * (len / 2)) × (len / 2 ≤ 16777216)
+pairs-whole : (len : ℕ) → pairsGood len ≡ true → (len ≡ 2 * (len / 2)) × (len / 2 ≤ mostOperations)
 unfolding pairsGood
 pairs-whole len h =
-    let e = and-both (eqb (len % 2) 0) (leb len 33554432) h in
-    (omega (arith, eqb-true (len % 2) 0 (e .0)), omega (arith, leb-true len 33554432 (e .1)))
+    let e = and-both (eqb (len % 2) 0) (leb (len / 2) mostOperations) h in
+    (omega (arith, eqb-true (len % 2) 0 (e .0)), omega (arith, leb-true (len / 2) mostOperations (e .1)))
 
 -- the polynomial of an addition is there
 pub one-there : (code k polynomials : ℕ) → operationGood code k polynomials ≡ true → code ≡ 1 → k < polynomials
@@ -38,7 +41,16 @@ additions-there (code ∷ (k ∷ ops)) n h (suc j) l e =
     let w : 2 * suc j + 1 ≡ suc (suc (2 * j + 1)) = omega arith in
     subst (λ (m : ℕ). getD (code ∷ (k ∷ ops)) m 0 < n) (sym w) (additions-there ops n (and-both (operationGood code k n) (operationsGood ops n) h .1) j (omega arith) (ap (λ (m : ℕ). getD (code ∷ (k ∷ ops)) m 0) (sym z) ∙ e))
 
-module _ {p order n : ℕ} {words coefs ss ops : List ℕ} {lbw lbc lww lwc low loc : ℕ} (o : Opened p order n words coefs ss ops lbw lbc lww lwc low loc) where
+module _ {t : Setting} {words coefs ss ops : List ℕ} {lbw lbc lww lwc low loc : ℕ} (o : Opened t words coefs ss ops lbw lbc lww lwc low loc) where
+  abbrev p : ℕ
+  p = t .p
+
+  abbrev order : ℕ
+  order = t .order
+
+  abbrev n : ℕ
+  n = t .n
+
   pub loaded : Loaded (compareWords (orderOf order)) p words coefs ss ops
   loaded = record {
     modulus = record { two = o .prime .above; limit = omega (arith, o .limit) };
@@ -51,5 +63,5 @@ module _ {p order n : ℕ} {words coefs ss ops : List ℕ} {lbw lbc lww lwc low 
     there = λ j h e. let k = additions-there ops (length ss - 1) (o .operations) j (omega (arith, h, pairs-whole (length ops) (o .pairs) .0)) e in omega (arith, k);
   }
 
-pub spaces : {p order n : ℕ} {words coefs ss ops : List ℕ} (bw bc ww wc ow oc : List ℕ) → Opened p order n words coefs ss ops (length bw) (length bc) (length ww) (length wc) (length ow) (length oc) → Lent noBuckets bw bc ww wc ow oc
-spaces bw bc ww wc ow oc o = record { none = refl; words-long = o .bucket-words; coefs-long = o .bucket-coefs; work = record { words-long = o .work-words; coefs-long = o .work-coefs }; same-long = sym (o .output) }
+pub spaces : {t : Setting} {words coefs ss ops : List ℕ} {b : Buckets} (bw bc ww wc ow oc : List ℕ) → b ≡ noBuckets → Opened t words coefs ss ops (length bw) (length bc) (length ww) (length wc) (length ow) (length oc) → Lent b bw bc ww wc ow oc
+spaces bw bc ww wc ow oc e o = record { none = e; words-long = o .bucket-words; coefs-long = o .bucket-coefs; work = record { words-long = o .work-words; coefs-long = o .work-coefs }; same-long = sym (o .output) }

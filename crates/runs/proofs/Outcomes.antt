@@ -1,14 +1,13 @@
 -- Idle engines (document 01, "Which idle engines get through a weak contract?"): for each a list of operations, and what is right there; the idle engine makes something else of it. Assumes nothing.
 use mathlib.Core.Path.{_≡_, refl}
-use mathlib.Core.List.{List, [], _∷_}
-use Prim.Native.Nat.{ℕ, compare}
-use lib.ListN.{length}
-use Rattle.polynomial.specs.Terms.{Term, term}
+use mathlib.Core.List.{[], _∷_}
+use Prim.Native.Nat.{compare}
+use Rattle.polynomial.specs.Terms.{term}
 use Rattle.polynomial.specs.Merge.{keep, into, merge, comparedInto, compared}
-use Rattle.geobucket.specs.Buckets.{held, carry, carryCompared, place, placeCompared, add, addCompared, sumFrom, sumCompared, emptied}
+use Rattle.geobucket.specs.Buckets.{held, carry, carryCompared, place, placeCompared, add, addCompared}
 use Rattle.geobucket.specs.Search.{seek, pass, onward, ended, searchIn}
 use Rattle.runs.specs.Outcome.{tallyOf}
-use Rattle.engine.specs.Runs.{adds, leads, sums, Running, begun, operate, operateAll}
+use Rattle.engine.specs.Runs.{adds, leads, Running, begun, operate, operateAll}
 
 -- the polynomial of one term, 3 at monomial 5, is added, and its lead taken
 abbrev once : Running
@@ -28,8 +27,8 @@ pub both-finished : once .finished ≡ 2
 unfolding operateAll operate held add place carry merge into keep addCompared placeCompared carryCompared compared comparedInto searchIn pass seek ended onward
 both-finished = refl
 
--- one that does the first operation and repeats its state for the rest has brought in 1 here
-pub twice-brought : operateAll compare 7 10 (adds (term 5 3 ∷ []) ∷ (adds (term 4 1 ∷ []) ∷ [])) begun .brought ≡ 2
+-- one that does the first operation and repeats its state for the rest has brought in one term here
+pub twice-brought : operateAll compare 7 10 (adds (term 5 3 ∷ []) ∷ (adds (term 4 1 ∷ []) ∷ [])) begun .work .brought ≡ term 5 3 ∷ (term 4 1 ∷ [])
 unfolding operateAll operate held add place carry merge into keep addCompared placeCompared carryCompared compared comparedInto
 twice-brought = refl
 

@@ -1,37 +1,20 @@
 // The entry for runs: a list of operations on an empty geobucket. `run` takes and hands back the counts
 // of its tally by value; `run_in_place` sets them in a record that is lent.
+use call::answer::Answer;
+use call::answer::Returned;
+use call::answer::Tally;
+use call::answer::ended;
+use call::answer::refused;
 use engine::run::operate_all;
-use engine::state::State;
 use monomial::order::order_of;
-use opening::refusal::Refusal;
-use opening::refusal::refusal_of;
 use opening::run::run_opening;
+use polynomial::setting::Setting;
 use space::settle::settle;
-use space::state::held;
+use space::state::clear;
 ghost use mathlib.Core.Path.{_≡_};
-ghost use Rattle.space.specs.Space.{Laid};
-ghost use Rattle.runs.specs.Outcome.{RunOutcome, runOutcome, refusedWith, ranOf};
-
-// The four counts of a run.
-#[repr(C)]
-pub struct Tally {
-    pub comparisons: u64,
-    pub brought: u64,
-    pub given: u64,
-    pub held: u64,
-}
-
-// All operations are done, with the output places written; or one is refused, or the run at its
-// opening, with the operations finished.
-pub enum Answer {
-    Done { operations: u64, places: u64 },
-    Refused { refusal: Refusal, finished: u64 },
-}
-
-pub struct Ran {
-    pub answer: Answer,
-    pub tally: Tally,
-}
+ghost use Rattle.polynomial.specs.Settings.{settingOf};
+ghost use Rattle.call.specs.Answers.{Outcome, stated};
+ghost use Rattle.runs.specs.Outcome.{runOutcome};
 
 // Does the operations on an empty geobucket. The old counts come back from an opening refusal, which
 // changes nothing.
@@ -50,15 +33,13 @@ pub fn run<'a>(
     wc: &mut [u32],
     ow: &mut [u64],
     oc: &mut [u32],
-) -> Ran
-    ensures { λ r. ⌜ _≡_ {A = RunOutcome}
-        (record { answer = r .answer; tally = r .tally; bw = now (bw .exit); bc = now (bc .exit); ww = now (ww .exit); wc = now (wc .exit); ow = now (ow .exit); oc = now (oc .exit) })
-        (runOutcome tally p order n (now (words .entry)) (now (coefs .entry)) (now (starts .entry)) (now (ops .entry)) (now (bw .entry)) (now (bc .entry)) (now (ww .entry)) (now (wc .entry)) (now (ow .entry)) (now (oc .entry))) ⌝ }
+) -> Returned
+    ensures { λ r. ⌜ _≡_ {A = Outcome}
+        (record { answer = stated (r .answer); tally = r .tally; bw = now (bw .exit); bc = now (bc .exit); ww = now (ww .exit); wc = now (wc .exit); ow = now (ow .exit); oc = now (oc .exit) })
+        (runOutcome tally (settingOf p order n) (now (words .entry)) (now (coefs .entry)) (now (starts .entry)) (now (ops .entry)) (now (bw .entry)) (now (bc .entry)) (now (ww .entry)) (now (wc .entry)) (now (ow .entry)) (now (oc .entry))) ⌝ }
 {
     let number = run_opening(
-        p,
-        order,
-        n,
+        Setting { p, order, n },
         words,
         coefs,
         starts,
@@ -73,8 +54,8 @@ pub fn run<'a>(
     if number != 0 {
         return refused(number, tally);
     }
-    // Empty buckets, each at its start.
-    let mut b: [usize; 12] = [0, 4, 20, 84, 340, 1364, 0, 0, 0, 0, 0, 0];
+    let mut b = [0usize; 12];
+    clear(&mut b);
     let s = operate_all(
         order_of(order),
         p,
@@ -94,42 +75,6 @@ pub fn run<'a>(
     ended(s, &b)
 }
 
-// What an opening refusal gives.
-fn refused(number: u32, tally: Tally) -> Ran
-    ensures { λ r. ⌜ r ≡ refusedWith number tally ⌝ }
-{
-    let answer = Answer::Refused {
-        refusal: refusal_of(number),
-        finished: 0,
-    };
-    Ran { answer, tally }
-}
-
-// What a run gives, from its last state and its buckets.
-fn ended(s: State, b: &[usize]) -> Ran
-    requires { ⌜ Laid (now b) ⌝ }
-    ensures { λ r. ⌜ r ≡ ranOf s (now (b .entry)) ⌝ }
-{
-    let tally = Tally {
-        comparisons: s.comparisons,
-        brought: s.brought,
-        given: s.given,
-        held: held(b) as u64,
-    };
-    if s.stop == 0 {
-        let answer = Answer::Done {
-            operations: s.finished,
-            places: s.places as u64,
-        };
-        return Ran { answer, tally };
-    }
-    let answer = Answer::Refused {
-        refusal: refusal_of(s.stop),
-        finished: s.finished,
-    };
-    Ran { answer, tally }
-}
-
 // The same, with the counts set in place.
 pub fn run_in_place<'t, 'a>(
     tally: &'t mut Tally,
@@ -147,9 +92,9 @@ pub fn run_in_place<'t, 'a>(
     ow: &mut [u64],
     oc: &mut [u32],
 ) -> Answer
-    ensures { λ r. ⌜ _≡_ {A = RunOutcome}
-        (record { answer = r; tally = now (tally .exit); bw = now (bw .exit); bc = now (bc .exit); ww = now (ww .exit); wc = now (wc .exit); ow = now (ow .exit); oc = now (oc .exit) })
-        (runOutcome (now (tally .entry)) p order n (now (words .entry)) (now (coefs .entry)) (now (starts .entry)) (now (ops .entry)) (now (bw .entry)) (now (bc .entry)) (now (ww .entry)) (now (wc .entry)) (now (ow .entry)) (now (oc .entry))) ⌝ }
+    ensures { λ r. ⌜ _≡_ {A = Outcome}
+        (record { answer = stated r; tally = now (tally .exit); bw = now (bw .exit); bc = now (bc .exit); ww = now (ww .exit); wc = now (wc .exit); ow = now (ow .exit); oc = now (oc .exit) })
+        (runOutcome (now (tally .entry)) (settingOf p order n) (now (words .entry)) (now (coefs .entry)) (now (starts .entry)) (now (ops .entry)) (now (bw .entry)) (now (bc .entry)) (now (ww .entry)) (now (wc .entry)) (now (ow .entry)) (now (oc .entry))) ⌝ }
 {
     let ran = run(
         *tally,

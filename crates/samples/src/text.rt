@@ -24,7 +24,7 @@ pub fn exponents(exps: &[u8]) {
 }
 
 // The exponent at place i, after a dot unless it is the first.
-fn dotted(i: usize, e: u8) {
+pub fn dotted(i: usize, e: u8) {
     if i > 0 {
         put(b".");
     }

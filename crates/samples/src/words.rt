@@ -1,6 +1,6 @@
 // Words read back: their exponents, and whether they are of the layout.
 use crate::text;
-use monomial::exponents::exponents_of;
+use monomial::exponents::exponent;
 use monomial::layout::in_layout;
 use monomial::order::Order;
 use monomial::order::order_of;
@@ -76,8 +76,9 @@ pub fn reading(order: Order, n: usize, w: u64)
 pub fn back(order: Order, n: usize, w: u64)
     requires { ⌜ n ≤ 6 ⌝ }
 {
-    let mut out = [0u8; 6];
-    let part = &mut out[..n];
-    exponents_of(order, w, part);
-    text::exponents(part);
+    let mut i = 0;
+    while i < n {
+        text::dotted(i, exponent(order, w, i as u32));
+        i += 1;
+    }
 }

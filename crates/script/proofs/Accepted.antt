@@ -8,6 +8,7 @@ use mathlib.Core.Option.{Option, none, some}
 use borrow.Author.Tests.{eqb-true, ltb-true, leb-true}
 use lib.Dec.{eqb, ltb, leb}
 use lib.ListN.{length, take, drop}
+use Rattle.limits.specs.Limits.{scriptBytes}
 use Rattle.monomial.specs.declared.order.Order.{Order}
 use Rattle.monomial.specs.declared.order.Order.the-variants.{Lex, DegLex, DegRevLex}
 use Rattle.text.specs.Bytes.{begins, same, indexOf, parts, joined}
@@ -161,11 +162,11 @@ header-read (a ∷ (b ∷ (c ∷ ls))) s e =
 -- No other text is accepted: what is read as s is the text of s, and s is a script of the grammar.
 pub text-read : (bytes : List ℕ) (s : Script) → scriptOf bytes ≡ some s → GoodScript s × (bytes ≡ scriptText s)
 unfolding scriptOf
-text-read bytes s e = go (leb (length bytes) 16384) refl e
+text-read bytes s e = go (leb (length bytes) scriptBytes) refl e
   where
-    go : (b : Bool) → leb (length bytes) 16384 ≡ b → elim b [ true ↦ withHeader (parts 10 bytes) | false ↦ none ] ≡ some s → GoodScript s × (bytes ≡ scriptText s)
+    go : (b : Bool) → leb (length bytes) scriptBytes ≡ b → elim b [ true ↦ withHeader (parts 10 bytes) | false ↦ none ] ≡ some s → GoodScript s × (bytes ≡ scriptText s)
     go true l e =
         let h = header-read (parts 10 bytes) s e in
         let is : bytes ≡ scriptText s = sym (joined-parts 10 bytes) ∙ h .3 in
-        (record { prime-small = h .0; vars-small = h .1; lines-good = h .2; not-long = rw is at (leb-true (length bytes) 16384 l) }, is)
+        (record { prime-small = h .0; vars-small = h .1; lines-good = h .2; not-long = rw is at (leb-true (length bytes) scriptBytes l) }, is)
     go false l e = never e

@@ -14,7 +14,7 @@ use Rattle.monomial.specs.declared.order.Order.{Order}
 use Rattle.monomial.specs.Layout.{wordOf}
 use Rattle.text.specs.Bytes.{indexOf, parts}
 use Rattle.text.specs.Numbers.{andThen, onlyIf, numberOf}
-use Rattle.merge.proofs.Lists.{sets-append, sets-snoc}
+use Rattle.merge_common.proofs.Lists.{sets-append, sets-snoc}
 use Rattle.script.specs.declared.entry.Counted.{Counted}
 use Rattle.script.specs.declared.entry.Counted.the-variants.{All}
 use Rattle.script.specs.declared.entry.Counted.the-variants.{Bad as Counted·Bad}

@@ -15,7 +15,7 @@ use Rattle.text.specs.Bytes.{indexOf, onto, parts, joined}
 use Rattle.text.specs.Numbers.{decimal, andThen}
 use Rattle.text.proofs.ByteLaws.{index-most, parts-some, parts-found, parts-last, found-there}
 use Rattle.text.proofs.NumberLaws.{decimal-some}
-use Rattle.merge.proofs.Lists.{sets-snoc}
+use Rattle.merge_common.proofs.Lists.{sets-snoc}
 use Rattle.script.specs.declared.entry.Counted.{Counted}
 use Rattle.script.specs.declared.entry.Counted.the-variants.{All}
 use Rattle.script.specs.declared.entry.Counted.the-variants.{Bad as Counted·Bad}

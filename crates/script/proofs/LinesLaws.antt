@@ -14,7 +14,7 @@ use Rattle.monomial.specs.declared.order.Order.{Order}
 use Rattle.text.specs.Bytes.{indexOf, parts}
 use Rattle.text.specs.Numbers.{andThen}
 use Rattle.text.proofs.ByteLaws.{parts-some}
-use Rattle.merge.proofs.Lists.{sets-append}
+use Rattle.merge_common.proofs.Lists.{sets-append}
 use Rattle.script.specs.declared.line.Counts.{Counts}
 use Rattle.script.specs.declared.line.Behind.{Behind}
 use Rattle.script.specs.declared.line.Behind.the-variants.{Line as Behind·Line, Bad as Behind·Bad}

@@ -9,6 +9,7 @@ use borrow.Author.Tests.{le-leb, lt-leb}
 use lib.Dec.{leb}
 use lib.ListN.{length, drop, set, length-set}
 use lib.Seq.{sets}
+use Rattle.limits.specs.Limits.{scriptBytes}
 use Rattle.monomial.specs.declared.order.Order.{Order}
 use Rattle.monomial.specs.declared.order.Order.the-variants.{Lex, DegLex, DegRevLex}
 use Rattle.monomial.specs.Exponents.{orderOf}
@@ -37,13 +38,13 @@ module _ {s words coefs starts ops words' coefs' starts' ops' : List ℕ} where
   script-none e = record { is = rw e refl }
 
   -- "At most 16,384 bytes"
-  pub too-long : 16384 < length s → ReadScript s words coefs starts ops words' coefs' starts' ops' Found·Bad
+  pub too-long : scriptBytes < length s → ReadScript s words coefs starts ops words' coefs' starts' ops' Found·Bad
   unfolding scriptOf
-  too-long h = script-none (rw (lt-leb (length s) 16384 h, scriptOf))
+  too-long h = script-none (rw (lt-leb (length s) scriptBytes h, scriptOf))
 
-short : (s : List ℕ) → length s ≤ 16384 → scriptOf s ≡ withHeader (parts 10 s)
+short : (s : List ℕ) → length s ≤ scriptBytes → scriptOf s ≡ withHeader (parts 10 s)
 unfolding scriptOf
-short s h = rw (le-leb (length s) 16384 h, scriptOf)
+short s h = rw (le-leb (length s) scriptBytes h, scriptOf)
 
 head-bad : (x : Option Script) (s : List ℕ) (r : Head) → HeadAs x s r → r ≡ Head·Bad → x ≡ none
 head-bad x s Head·Bad d e = d
@@ -59,13 +60,13 @@ head-good : (s : List ℕ) (r : Head) (h : Header) → HeadAs (withHeader (parts
 head-good s Head·Bad h d e = absurd (let z : _≡_ {A = ℕ} 0 1 = cc in let y : ⊥ = omega arith in y)
 head-good s (Is k) h d e = let q : k ≡ h = cc in rw (← q) (record { from-in = d .0; order = d .1; named = d .2; is = d .3 })
 
-pub no-header : {s words coefs starts ops : List ℕ} {r : Head} → length s ≤ 16384 → ReadHeader s r → r ≡ Head·Bad → ReadScript s words coefs starts ops words coefs starts ops Found·Bad
+pub no-header : {s words coefs starts ops : List ℕ} {r : Head} → length s ≤ scriptBytes → ReadHeader s r → r ≡ Head·Bad → ReadScript s words coefs starts ops words coefs starts ops Found·Bad
 no-header {s} {words} {coefs} {starts} {ops} {r} h d e = script-none (short s h ∙ head-bad (withHeader (parts 10 s)) s r (d .is) e)
 
 pub header-is : {s : List ℕ} {r : Head} {h : Header} → ReadHeader s r → r ≡ Is h → HeadRead s h
 header-is {s} {r} {h} d e = head-good s r h (d .is) e
 
-module _ {s : List ℕ} {h : Header} (l : length s ≤ 16384) (d : HeadRead s h) where
+module _ {s : List ℕ} {h : Header} (l : length s ≤ scriptBytes) (d : HeadRead s h) where
   order-is : orderOf (h .order) ≡ d .order
   order-is = ap orderOf (d .named) ∙ order-number (d .order)
 

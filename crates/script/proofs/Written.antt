@@ -9,6 +9,7 @@ use borrow.Author.Tests.{eq-eqb, lt-ltb, le-leb}
 use lib.Dec.{eqb, ltb, leb}
 use lib.ListN.{length, take, drop, length-append}
 use lib.Seq.{take-append-seam, drop-append-seam}
+use Rattle.limits.specs.Limits.{scriptBytes}
 use Rattle.monomial.specs.declared.order.Order.{Order}
 use Rattle.monomial.specs.declared.order.Order.the-variants.{Lex, DegLex, DegRevLex}
 use Rattle.text.specs.Bytes.{begins, same, indexOf, parts, joined}
@@ -127,9 +128,9 @@ order-without o = below-without 32 122 10 (order-word ++ orderName o) (omega ari
     name DegLex = within-true 32 122 (order-word ++ orderName DegLex) refl
     name DegRevLex = within-true 32 122 (order-word ++ orderName DegRevLex) refl
 
-script-at : (bytes : List ℕ) (ps : List (List ℕ)) → length bytes ≤ 16384 → parts 10 bytes ≡ ps → scriptOf bytes ≡ withHeader ps
+script-at : (bytes : List ℕ) (ps : List (List ℕ)) → length bytes ≤ scriptBytes → parts 10 bytes ≡ ps → scriptOf bytes ≡ withHeader ps
 unfolding scriptOf
-script-at bytes ps l e = rw (le-leb (length bytes) 16384 l, scriptOf, e)
+script-at bytes ps l e = rw (le-leb (length bytes) scriptBytes l, scriptOf, e)
 
 -- Every script of the grammar is accepted.
 pub read-text : (s : Script) → GoodScript s → scriptOf (scriptText s) ≡ some s

@@ -3,6 +3,7 @@ use Prim.Native.Nat.{ℕ, _≤_}
 use mathlib.Core.Path.{_≡_}
 use mathlib.Core.List.{List, [], _∷_, _++_, map}
 use lib.ListN.{length}
+use Rattle.limits.specs.Limits.{scriptBytes}
 use Rattle.monomial.specs.declared.order.Order.{Order}
 use Rattle.monomial.specs.declared.order.Order.the-variants.{Lex, DegLex, DegRevLex}
 use Rattle.text.specs.Bytes.{joined}
@@ -110,4 +111,4 @@ pub record GoodScript (s : Script) : Type 0 where
   pub prime-small : Small (s .prime)
   pub vars-small : Small (s .vars)
   pub lines-good : GoodLines (s .vars) (s .lines)
-  pub not-long : length (scriptText s) ≤ 16384
+  pub not-long : length (scriptText s) ≤ scriptBytes

@@ -5,6 +5,7 @@ use mathlib.Core.Path.{_≡_}
 use mathlib.Core.Option.{Option, none, some}
 use lib.ListN.{length, take, drop}
 use lib.Seq.{sets}
+use Rattle.limits.specs.Limits.{scriptNumbers, scriptTerms}
 use Rattle.monomial.specs.declared.order.Order.{Order}
 use Rattle.monomial.specs.declared.order.Order.the-variants.{Lex, DegLex, DegRevLex}
 use Rattle.monomial.specs.Layout.{wordOf}
@@ -189,10 +190,10 @@ pub record ReadVars (s : List ℕ) (p order j : ℕ) (r : Head) : Type 0 where
 
 -- "buffers sized from the script's length": 16,384 bytes hold at most 4,096 terms, and at most 4,096 lines
 pub record ScriptRoom (words coefs starts ops : ℕ) : Type 0 where
-  pub words-long : words ≡ 4096
-  pub coefs-long : coefs ≡ 4096
+  pub words-long : words ≡ scriptTerms
+  pub coefs-long : coefs ≡ scriptTerms
   pub starts-long : starts ≡ 4097
-  pub ops-long : ops ≡ 8192
+  pub ops-long : ops ≡ scriptNumbers
 
 abbrev pub loadedOf : Script → Loaded
 loadedOf s = record { prime = s .prime; order = orderNumber (s .order); vars = s .vars; counts = countsOf (s .lines) }

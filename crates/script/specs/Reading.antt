@@ -5,6 +5,7 @@ use mathlib.Core.List.{List, [], _∷_, _++_}
 use mathlib.Core.Option.{Option, none, some}
 use lib.Dec.{eqb, ltb, leb}
 use lib.ListN.{length, take, drop}
+use Rattle.limits.specs.Limits.{scriptBytes}
 use Rattle.monomial.specs.declared.order.Order.{Order}
 use Rattle.monomial.specs.declared.order.Order.the-variants.{Lex, DegLex, DegRevLex}
 use Rattle.text.specs.Bytes.{begins, same, indexOf, parts}
@@ -88,4 +89,4 @@ withHeader (a ∷ (b ∷ [])) = none
 
 -- the reading of a script, where there is one; "At most 16,384 bytes"
 unfoldable pub scriptOf : List ℕ → Option Script
-scriptOf s = elim (leb (length s) 16384) [ true ↦ withHeader (parts 10 s) | false ↦ none ]
+scriptOf s = elim (leb (length s) scriptBytes) [ true ↦ withHeader (parts 10 s) | false ↦ none ]

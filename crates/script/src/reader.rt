@@ -4,6 +4,7 @@ use crate::header::read_header;
 use crate::line::Behind;
 use crate::line::Counts;
 use crate::lines::read_lines;
+use limits::SCRIPT_BYTES;
 use monomial::order::order_of;
 ghost use lib.ListN.{length};
 ghost use Rattle.script.specs.Loading.{ScriptRoom, ReadScript};
@@ -32,7 +33,7 @@ pub fn read_script(
     requires { ⌜ ScriptRoom (length (now words)) (length (now coefs)) (length (now starts)) (length (now ops)) ⌝ }
     ensures { λ r. ⌜ ReadScript (now (s .entry)) (now (words .entry)) (now (coefs .entry)) (now (starts .entry)) (now (ops .entry)) (now (words .exit)) (now (coefs .exit)) (now (starts .exit)) (now (ops .exit)) r ⌝ }
 {
-    if 16384 < s.len() {
+    if SCRIPT_BYTES < s.len() {
         return Found::Bad;
     }
     let head = read_header(s);

@@ -5,6 +5,7 @@ use Prim.Native.Nat.{ℕ, zero, suc, _+_, _-_, _*_, _<_, _≤_, Ordering}
 use native.Mathlib.Decide.{decLe}
 use native.Mathlib.Omega.{arith}
 use lib.ListN.{length, getD, drop, length-append}
+use Rattle.limits.specs.Limits.{bucketPlaces}
 use Rattle.monomial.specs.TotalOrder.{TotalOrder}
 use Rattle.polynomial.specs.Terms.{Term, term, Canonical, Under}
 use Rattle.geobucket.specs.Buckets.{held, Good}
@@ -109,7 +110,7 @@ pub record Finding (cmp : ℕ → ℕ → Ordering) (p : ℕ) (F : Searched ℕ)
   pub canon : Canon cmp p bs
   pub few : n + 6 * held bs ≤ 40000
 
-pub finding-start : (cmp : ℕ → ℕ → Ordering) (p : ℕ) (bs : List (List (Term ℕ))) → Canon cmp p bs → held bs ≤ 5460 → Finding cmp p (search cmp p bs) bs 0
+pub finding-start : (cmp : ℕ → ℕ → Ordering) (p : ℕ) (bs : List (List (Term ℕ))) → Canon cmp p bs → held bs ≤ bucketPlaces → Finding cmp p (search cmp p bs) bs 0
 finding-start cmp p bs c h = record { fuel = suc (held bs); enough = omega arith; answer-is = refl; buckets-are = refl; count-is = omega arith; canon = c; few = omega arith }
 
 -- a search whose first pass is P

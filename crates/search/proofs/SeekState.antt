@@ -1,26 +1,26 @@
 -- A pass under way in the bucket space: what each turn of the loop asks and leaves. Assumes nothing.
 use mathlib.Core.Path.{_≡_, refl, sym, ap, ap₂, _∙_, subst}
-use mathlib.Core.Bool.{Bool, true, false, not}
-use mathlib.Core.List.{List, [], _∷_, _++_}
-use Prim.Native.Nat.{ℕ, zero, suc, _+_, _-_, _%_, _<_, _≤_, Ordering, Ordering·lt, Ordering·eq, Ordering·gt}
+use mathlib.Core.Bool.{Bool, not}
+use mathlib.Core.List.{List, _∷_, _++_}
+use Prim.Native.Nat.{ℕ, zero, suc, _+_, _-_, _%_, _<_, _≤_, Ordering, Ordering·lt, Ordering·gt}
 use native.Mathlib.Nat.{mod-lt}
 use native.Mathlib.Numerals.{add-one}
-use native.Mathlib.Decide.{decLe}
 use native.Mathlib.Omega.{arith}
 use borrow.Author.Tests.{eq-eqb, ne-eqb}
 use lib.Dec.{eqb}
 use lib.ListN.{length, getD, set, length-set}
+use Rattle.limits.specs.Limits.{bucketPlaces}
 use Rattle.residue.specs.Modular.{Modulus}
 use Rattle.monomial.specs.TotalOrder.{TotalOrder}
-use Rattle.polynomial.specs.Terms.{Term, term, Reduced, Canonical}
+use Rattle.polynomial.specs.Terms.{Term, term, Reduced}
 use Rattle.polynomial.specs.Merge.{keep}
 use Rattle.polynomial.specs.Opening.{isLarger}
 use Rattle.polynomial.proofs.MergeLaws.{turned-lt, turned-gt}
-use Rattle.merge.specs.Lent.{flag}
-use Rattle.merge.proofs.State.{more-by, less-by, same-by}
-use Rattle.geobucket.specs.Search.{Pass, seek, putBack}
-use Rattle.space.specs.Space.{Buckets, headAt, lenAt, listFrom, bucketAt, bucketsIn, Laid, moved, dropped}
-use Rattle.space.proofs.SpaceLaws.{laid-moved, moved-head-other, moved-same, bucket-none, bucket-lead, head-in, dropped-laid, dropped-other, put-other, some-of, lead-of, drop-here, put-at}
+use Rattle.merge_common.specs.Lent.{flag}
+use Rattle.merge_common.proofs.State.{more-by, less-by, same-by}
+use Rattle.geobucket.specs.Search.{putBack}
+use Rattle.space.specs.Space.{Buckets, headAt, lenAt, listFrom, bucketAt, Laid, moved, dropped}
+use Rattle.space.proofs.SpaceLaws.{moved-head-other, moved-same, bucket-none, bucket-lead, head-in, dropped-laid, dropped-other, put-other, some-of, drop-here, put-at}
 use Rattle.search.specs.declared.candidate.Candidate.{Candidate}
 use Rattle.search.specs.Candidates.{passedBy, joined, replacedBy}
 use Rattle.search.specs.Searching.{Seek, SeekDone, passFrom}
@@ -28,8 +28,8 @@ use Rattle.search.proofs.SeekLaws.{Seeking, seek-starts, goes-empty, go
 
 pub record Seeks (cmp : ℕ → ℕ → Ordering) (p : ℕ) (G : List (List (Term ℕ))) (A : ℕ) (L : Term ℕ) (N : ℕ) (sw : List ℕ) (b : Buckets) (c : Candidate) (sc : List ℕ) (i : ℕ) : Type 0 where
   pub modulus : Modulus p
-  pub words-long : length sw ≡ 5460
-  pub coefs-long : length sc ≡ 5460
+  pub words-long : length sw ≡ bucketPlaces
+  pub coefs-long : length sc ≡ bucketPlaces
   pub laid : Laid b
   pub state : Seeking cmp p G A L N (bucketAt b sw sc) (c .bucket) i (term (c .word) (c .coef)) (c .count)
   pub ahead : (j : ℕ) → i ≤ j → j < 6 → Reduced p (bucketAt b sw sc j)
@@ -74,15 +74,15 @@ module _ {cmp : ℕ → ℕ → Ordering} {p : ℕ} {G : List (List (Term ℕ))}
   pub own-some : 0 < lenAt b (c .bucket)
   own-some = some-of b (c .bucket) (v .laid) own-six sw sc (v .words-long) (v .coefs-long) (term (c .word) (c .coef)) (v .state .rest) (v .state .own)
 
-  pub own-head : headAt b (c .bucket) < 5460
+  pub own-head : headAt b (c .bucket) < bucketPlaces
   own-head = head-in b (c .bucket) (v .laid) own-six own-some
 
   -- the same of the candidate that a like lead has joined
   pub joined-six : {k : ℕ} → k ≡ c .bucket → k < 6
   joined-six e = omega (arith, own-six)
 
-  pub joined-head : {k : ℕ} → k ≡ c .bucket → headAt b k < 5460
-  joined-head e = subst (λ (x : ℕ). headAt b x < 5460) (sym e) own-head
+  pub joined-head : {k : ℕ} → k ≡ c .bucket → headAt b k < bucketPlaces
+  joined-head e = subst (λ (x : ℕ). headAt b x < bucketPlaces) (sym e) own-head
 
   module _ (h : i < 6) where
     not-own : i ≡ c .bucket → ⊥
@@ -100,29 +100,29 @@ module _ {cmp : ℕ → ℕ → Ordering} {p : ℕ} {G : List (List (Term ℕ))}
       few = omega (arith, v .few);
     }
 
-    module _ (some : lenAt b i ≡ 0 → ⊥) where
+    module _ {at len : ℕ} (ea : at ≡ headAt b i) (en : len ≡ lenAt b i) (some : len ≡ 0 → ⊥) where
       pos : 0 < lenAt b i
-      pos = omega (arith, some)
+      pos = omega (arith, en, some)
 
-      pub lead-head : headAt b i < 5460
-      lead-head = head-in b i (v .laid) h pos
+      pub lead-head : at < bucketPlaces
+      lead-head = omega (arith, ea, head-in b i (v .laid) h pos)
 
       abbrev y : Term ℕ
-      y = term (getD sw (headAt b i) 0) (getD sc (headAt b i) 0)
+      y = term (getD sw at 0) (getD sc at 0)
 
       abbrev ys : List (Term ℕ)
       ys = bucketAt (dropped b i) sw sc i
 
       lead-is : bucketAt b sw sc i ≡ y ∷ ys
-      lead-is = bucket-lead b i (v .laid) h pos sw sc (v .words-long) (v .coefs-long)
+      lead-is = bucket-lead b i (v .laid) h pos sw sc (v .words-long) (v .coefs-long) ∙ ap (λ (x : ℕ). term (getD sw x 0) (getD sc x 0) ∷ ys) (sym ea)
 
-      pub lead-small : getD sc (headAt b i) 0 < p
+      pub lead-small : getD sc at 0 < p
       lead-small = subst (λ (l : List (Term ℕ)). Reduced p l) lead-is (v .ahead i (omega arith) h) .0 .1
 
       -- the lead is smaller, and is passed by
-      pub on-past : TotalOrder ℕ cmp → (l : ℕ) → l ≡ flag (isLarger (cmp (getD sw (headAt b i) 0) (c .word))) → (l ≡ 1 → ⊥) → (getD sw (headAt b i) 0 ≡ c .word → ⊥) → {d : Candidate} → d ≡ passedBy c → Seeks cmp p G A L N sw b d sc (i + 1)
+      pub on-past : TotalOrder ℕ cmp → (l : ℕ) → l ≡ flag (isLarger (cmp (getD sw at 0) (c .word))) → (l ≡ 1 → ⊥) → (getD sw at 0 ≡ c .word → ⊥) → {d : Candidate} → d ≡ passedBy c → Seeks cmp p G A L N sw b d sc (i + 1)
       on-past O l el not-one ne {d} ed =
-          let o : cmp (c .word) (getD sw (headAt b i) 0) ≡ Ordering·gt = turned-gt cmp O (getD sw (headAt b i) 0) (c .word) (less-by cmp O (getD sw (headAt b i) 0) (c .word) l el not-one ne) in
+          let o : cmp (c .word) (getD sw at 0) ≡ Ordering·gt = turned-gt cmp O (getD sw at 0) (c .word) (less-by cmp O (getD sw at 0) (c .word) l el not-one ne) in
           subst (λ (x : Candidate). Seeks cmp p G A L N sw b x sc (i + 1)) (sym ed)
           (record {
             modulus = v .modulus;
@@ -136,10 +136,10 @@ module _ {cmp : ℕ → ℕ → Ordering} {p : ℕ} {G : List (List (Term ℕ))}
           })
 
       -- the lead is like the candidate: its coefficient joins, and it is removed
-      pub on-like : TotalOrder ℕ cmp → getD sw (headAt b i) 0 ≡ c .word → {d : Candidate} → d ≡ joined c (getD sc (headAt b i) 0) p → Seeks cmp p G A L N sw (dropped b i) d (set sc (headAt b (d .bucket)) (d .coef)) (i + 1)
-      on-like O e {d} ed =
+      pub on-like : TotalOrder ℕ cmp → getD sw at 0 ≡ c .word → {d : Candidate} → d ≡ joined c (getD sc at 0) p → {o : ℕ} → o ≡ headAt b (d .bucket) → {b₁ : Buckets} → b₁ ≡ moved b i (at + 1) (len - 1) → Seeks cmp p G A L N sw b₁ d (set sc o (d .coef)) (i + 1)
+      on-like O e {d} ed {o} eo {b₁} eb =
           let own = c .bucket in
-          let sum = (c .coef + getD sc (headAt b i) 0) % p in
+          let sum = (c .coef + getD sc at 0) % p in
           let b' = dropped b i in
           let sc' = set sc (headAt b own) sum in
           let laid' = dropped-laid b i (v .laid) h pos in
@@ -148,22 +148,24 @@ module _ {cmp : ℕ → ℕ → Ordering} {p : ℕ} {G : List (List (Term ℕ))}
           let some' = some-of b' own laid' own-six sw sc (v .words-long) (v .coefs-long) (term (c .word) (c .coef)) (v .state .rest) own' in
           let put : (j : ℕ) → j < 6 → (j ≡ own → ⊥) → bucketAt b' sw sc' j ≡ bucketAt b' sw sc j = λ j u w. ap (λ (m : ℕ). bucketAt b' sw (set sc m sum) j) (sym same-head) ∙ put-other b' own laid' own-six some' sw sc (v .words-long) (v .coefs-long) sum j u w in
           let others : (j : ℕ) → j < 6 → (j ≡ own → ⊥) → (j ≡ i → ⊥) → bucketAt b' sw sc' j ≡ bucketAt b sw sc j = λ j u w z. put j u w ∙ dropped-other b i (v .laid) h pos sw sc (v .words-long) (v .coefs-long) j u z in
-          let go : Seeks cmp p G A L N sw b' (joined c (getD sc (headAt b i) 0) p) sc' (i + 1) =
+          let go : Seeks cmp p G A L N sw b' (joined c (getD sc at 0) p) sc' (i + 1) =
           record {
             modulus = v .modulus;
             words-long = v .words-long;
             coefs-long = length-set sc (headAt b own) sum ∙ v .coefs-long;
             laid = laid';
             state = rw (add-one i) (
-                goes-like (v .state) h y ys lead-is (same-by cmp O (c .word) (getD sw (headAt b i) 0) (sym e)) (bucketAt b' sw sc')
+                goes-like (v .state) h y ys lead-is (same-by cmp O (c .word) (getD sw at 0) (sym e)) (bucketAt b' sw sc')
                 (ap (λ (m : ℕ). bucketAt b' sw (set sc m sum) own) (sym same-head) ∙ put-at b' own laid' own-six sw sc (v .words-long) (v .coefs-long) (term (c .word) (c .coef)) (v .state .rest) own' sum)
                 (put i h not-own) others
                 );
             ahead = λ j u w. subst (λ (l : List (Term ℕ)). Reduced p l) (sym (others j w (λ q. let z : ⊥ = omega (arith, v .state .below) in z) (λ q. let z : ⊥ = omega arith in z))) (v .ahead j (omega arith) w);
-            small = mod-lt (c .coef + getD sc (headAt b i) 0) (omega (arith, v .modulus .two));
+            small = mod-lt (c .coef + getD sc at 0) (omega (arith, v .modulus .two));
             few = omega (arith, v .few);
           } in
-          subst (λ (x : Candidate). Seeks cmp p G A L N sw b' x (set sc (headAt b (x .bucket)) (x .coef)) (i + 1)) (sym ed) go
+          let there : set sc o (d .coef) ≡ sc' = ap (λ (m : ℕ). set sc m (d .coef)) eo ∙ ap (λ (x : Candidate). set sc (headAt b (x .bucket)) (x .coef)) ed in
+          let back : b₁ ≡ b' = eb ∙ ap₂ (λ (x y : ℕ). moved b i (x + 1) (y - 1)) ea en in
+          rw (back, there, ed) go
 
       -- the lead is larger, and replaces the candidate
       module _ (z : ℕ) (ez : z ≡ 1 - flag (not (eqb (c .coef) 0))) where
@@ -201,11 +203,11 @@ module _ {cmp : ℕ → ℕ → Ordering} {p : ℕ} {G : List (List (Term ℕ))}
                   left-other = λ j u w. ap (λ (x : Buckets). bucketAt x sw sc j) is;
                 }
 
-        pub on-up : TotalOrder ℕ cmp → (l : ℕ) → l ≡ flag (isLarger (cmp (getD sw (headAt b i) 0) (c .word))) → l ≡ 1 → {d : Candidate} → d ≡ replacedBy c i (getD sw (headAt b i) 0) (getD sc (headAt b i) 0) → Seeks cmp p G A L N sw b'' d sc (i + 1)
-        on-up O l el one {d} ed =
-            let o : cmp (c .word) (getD sw (headAt b i) 0) ≡ Ordering·lt = turned-lt cmp O (getD sw (headAt b i) 0) (c .word) (more-by cmp (getD sw (headAt b i) 0) (c .word) l el one) in
-            subst (λ (x : Candidate). Seeks cmp p G A L N sw b'' x sc (i + 1)) (sym ed)
-            (record {
+        pub on-up : TotalOrder ℕ cmp → (l : ℕ) → l ≡ flag (isLarger (cmp (getD sw at 0) (c .word))) → l ≡ 1 → {d : Candidate} → d ≡ replacedBy c i (getD sw at 0) (getD sc at 0) → {o n : ℕ} → o ≡ headAt b (c .bucket) → n ≡ lenAt b (c .bucket) → {b₁ : Buckets} → b₁ ≡ moved b (c .bucket) (o + z) (n - z) → Seeks cmp p G A L N sw b₁ d sc (i + 1)
+        on-up O l el one {d} ed eo en {b₁} eb =
+            let o : cmp (c .word) (getD sw at 0) ≡ Ordering·lt = turned-lt cmp O (getD sw at 0) (c .word) (more-by cmp (getD sw at 0) (c .word) l el one) in
+            let back : b₁ ≡ b'' = eb ∙ ap₂ (λ (x y : ℕ). moved b (c .bucket) (x + z) (y - z)) eo en in
+            rw (back, ed) (record {
               modulus = v .modulus;
               words-long = v .words-long;
               coefs-long = v .coefs-long;

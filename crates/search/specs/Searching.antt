@@ -3,6 +3,7 @@ use Prim.Native.Nat.{ℕ, suc, _+_, _-_, _<_, _≤_, Ordering}
 use mathlib.Core.Path.{_≡_}
 use mathlib.Core.List.{List, _∷_, _++_}
 use lib.ListN.{length, getD}
+use Rattle.limits.specs.Limits.{bucketPlaces}
 use Rattle.residue.specs.Modular.{Modulus}
 use Rattle.polynomial.specs.Terms.{Term, term, Canonical}
 use Rattle.geobucket.specs.Search.{Pass, seek, search, putBack, withLead}
@@ -38,8 +39,8 @@ pub record FirstHeld (b : Buckets) (i : ℕ) : Type 0 where
 -- the candidate is the lead of its bucket
 pub record Seek (cmp : ℕ → ℕ → Ordering) (p : ℕ) (b : Buckets) (c : Candidate) (sw sc : List ℕ) : Type 0 where
   pub modulus : Modulus p
-  pub words-long : length sw ≡ 5460
-  pub coefs-long : length sc ≡ 5460
+  pub words-long : length sw ≡ bucketPlaces
+  pub coefs-long : length sc ≡ bucketPlaces
   pub laid : Laid b
   pub canonical : (j : ℕ) → j < 6 → Canonical cmp p (bucketAt b sw sc j)
   pub within : c .bucket < 6
@@ -55,7 +56,7 @@ passFrom cmp p b c sw sc = seek cmp p (term (c .word) (c .coef)) (bucketAt (drop
 -- the pass's last candidate, with its comparisons, stands in front of its bucket
 pub record SeekDone (cmp : ℕ → ℕ → Ordering) (p : ℕ) (b : Buckets) (c : Candidate) (sw sc sc' : List ℕ) (b' : Buckets) (d : Candidate) : Type 0 where
   pub laid : Laid b'
-  pub coefs-long : length sc' ≡ 5460
+  pub coefs-long : length sc' ≡ bucketPlaces
   pub bucket-is : d .bucket ≡ c .bucket + passFrom cmp p b c sw sc .at
   pub term-is : term (d .word) (d .coef) ≡ passFrom cmp p b c sw sc .lead
   pub count-is : d .count ≡ c .count + length (passFrom cmp p b c sw sc .pairs)

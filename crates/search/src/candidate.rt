@@ -29,29 +29,22 @@ impl Candidate {
     }
 
     // A smaller lead is passed by.
-    pub fn pass_by(self) -> Self
+    pub fn pass_by(mut self) -> Self
         requires { ⌜ self .count ≤ 1000000 ⌝ }
         ensures { λ r. ⌜ r ≡ passedBy self ⌝ }
     {
-        Candidate {
-            bucket: self.bucket,
-            count: self.count + 1,
-            word: self.word,
-            coef: self.coef,
-        }
+        self.count += 1;
+        self
     }
 
     // The coefficient of a like lead is added.
-    pub fn join(self, coef: u32, p: u32) -> Self
+    pub fn join(mut self, coef: u32, p: u32) -> Self
         requires { ⌜ Modulus p × (self .coef < p) × (coef < p) × (self .count ≤ 1000000) ⌝ }
         ensures { λ r. ⌜ r ≡ joined self coef p ⌝ }
     {
-        Candidate {
-            bucket: self.bucket,
-            count: self.count + 1,
-            word: self.word,
-            coef: add(self.coef, coef, p),
-        }
+        self.count += 1;
+        self.coef = add(self.coef, coef, p);
+        self
     }
 
     // A larger lead replaces it.

@@ -1,8 +1,11 @@
 // The search for the lead.
 use crate::candidate::Candidate;
-use merge::merging::larger;
-use merge::merging::not_zero;
+use merge_common::merging::larger;
+use merge_common::merging::not_zero;
 use monomial::order::Order;
+use space::state::head_of;
+use space::state::len_of;
+use space::state::place;
 ghost use mathlib.Core.Path.{_≡_};
 ghost use lib.ListN.{length};
 ghost use Rattle.monomial.specs.Words.{compareWords};
@@ -18,7 +21,7 @@ pub fn find_lead(order: Order, p: u32, b: &mut [usize], sw: &[u64], sc: &mut [u3
     let mut n: u64 = 0;
     let mut i = first_held(b);
     while i < 6 {
-        let at = b[i];
+        let at = head_of(b, i);
         let c = Candidate {
             bucket: i,
             count: n,
@@ -65,25 +68,22 @@ fn seek(
     let mut c = candidate;
     let mut i = c.bucket + 1;
     while i < 6 {
-        let at = b[i];
-        let len = b[6 + i];
+        let at = head_of(b, i);
+        let len = len_of(b, i);
         if len == 0 {
             i += 1;
         } else if sw[at] == c.word {
             c = c.join(sc[at], p);
-            let own = c.bucket;
-            let place = b[own];
-            sc[place] = c.coef;
-            b[i] = at + 1;
-            b[6 + i] = len - 1;
+            let lead = head_of(b, c.bucket);
+            sc[lead] = c.coef;
+            place(b, i, at + 1, len - 1);
             i += 1;
         } else if larger(order, sw[at], c.word) == 1 {
             let own = c.bucket;
             let gone = 1 - not_zero(c.coef);
-            let head = b[own];
-            let left = b[6 + own];
-            b[own] = head + gone;
-            b[6 + own] = left - gone;
+            let head = head_of(b, own);
+            let left = len_of(b, own);
+            place(b, own, head + gone, left - gone);
             c = c.replace(i, sw[at], sc[at]);
             i += 1;
         } else {
@@ -100,7 +100,7 @@ fn first_held(b: &[usize]) -> usize
     ensures { λ r. ⌜ FirstHeld (now (b .entry)) r ⌝ }
 {
     let mut i = 0;
-    while i < 6 && b[6 + i] == 0 {
+    while i < 6 && len_of(b, i) == 0 {
         i += 1;
     }
     i
@@ -111,8 +111,7 @@ pub fn remove_lead(b: &mut [usize], i: usize)
     requires { ⌜ Removal (now b) i ⌝ }
     ensures { λ _. ⌜ now (b .exit) ≡ dropped (now (b .entry)) i ⌝ }
 {
-    let head = b[i];
-    let len = b[6 + i];
-    b[i] = head + 1;
-    b[6 + i] = len - 1;
+    let head = head_of(b, i);
+    let len = len_of(b, i);
+    place(b, i, head + 1, len - 1);
 }

@@ -6,11 +6,12 @@ use mathlib.Core.Logic.{inr}
 use native.Mathlib.Nat.{zero-add}
 use native.Mathlib.Omega.{arith}
 use lib.ListN.{length, getD, set, take, replicate, length-append, length-replicate, getD-replicate, drop-of-length-le}
-use lib.Seq.{sets, sets-eq, length-sets, ext-getD, length-take-le}
+use lib.Seq.{sets, sets-eq, length-sets, length-take-le}
+use Rattle.limits.specs.Limits.{bucketPlaces, workPlaces}
 use Rattle.polynomial.specs.Terms.{Term, words, coefs}
 use Rattle.polynomial.proofs.TermLists.{words-terms, coefs-terms}
-use Rattle.merge.specs.Lent.{part}
-use Rattle.merge.proofs.Lists.{Begun, begun-more, begun-all, sets-append, getD-sets-other, length-part, getD-part}
+use Rattle.merge_common.specs.Lent.{part}
+use Rattle.merge_common.proofs.Lists.{Begun, begun-more, begun-all, sets-append, getD-sets-other, length-part, getD-part}
 use Rattle.space.specs.Space.{Buckets, headAt, lenAt, Laid, capacity, start, listFrom, laidOut, rowAt, bucketAt, bucketsIn, settled, AtReturn}
 use Rattle.space.proofs.SpaceLaws.{part-frame}
 use Rattle.space.proofs.Starts.{next-start, next-capacity, ends-within, six}
@@ -52,13 +53,13 @@ pub settling-none : (b : Buckets) (s : List ℕ) → Settling b s s 0 0 4
 unfolding start capacity
 settling-none b s = record { few = omega arith; starts = refl; holds = refl; long = refl; done = []; done-long = refl; whole = refl; is = refl }
 
--- bucket i lies between the place where it is settled and the end of the space
-pub record Fits (b : Buckets) (s : List ℕ) (i at cap : ℕ) : Type 0 where
-  pub low : at ≤ headAt b i
-  pub room : lenAt b i ≤ cap
-  pub within : headAt b i + lenAt b i ≤ length s
+-- the n numbers from `from` on lie between the place `at`, where they are settled, and the end of the space
+pub record Fits (s : List ℕ) (at cap from n : ℕ) : Type 0 where
+  pub low : at ≤ from
+  pub room : n ≤ cap
+  pub within : from + n ≤ length s
   pub ends : at + cap ≤ length s
-  pub small : at + cap ≤ 5460
+  pub small : at + cap ≤ bucketPlaces
 
 -- the rows from i on begin with row i
 rows-left : (cap : ℕ) (f : ℕ → List ℕ) (i n : ℕ) → i < 6 → length (f i) ≡ n
@@ -77,13 +78,13 @@ rows-left cap f i n h e =
 put-all : (l vs : List ℕ) → length vs ≡ length l → sets l 0 vs ≡ vs
 put-all l vs e = sets-eq vs l 0 (omega arith) ∙ (ap (λ (x : List ℕ). vs ++ x) (drop-of-length-le l {i = 0 + length vs} (omega arith)) ∙ append-nil vs)
 
-module _ {b : Buckets} {s₀ s : List ℕ} {i at cap : ℕ} (g : Settling b s₀ s i at cap) (e : length s₀ ≡ 5460) where
+module _ {b : Buckets} {s₀ s : List ℕ} {i at cap : ℕ} (g : Settling b s₀ s i at cap) (e : length s₀ ≡ bucketPlaces) where
   -- bucket i fits where it is settled
-  pub fits : Laid b → i < 6 → Fits b s i at cap
-  fits l h =
+  pub fits : Laid b → i < 6 → {from n : ℕ} → from ≡ headAt b i → n ≡ lenAt b i → Fits s at cap from n
+  fits l h eh en =
       let lo = l .low i h in
       let hi = l .high i h in
-      let n = next-start i in
+      let next = next-start i in
       let w = ends-within i h in
       let a = g .starts in
       let k = g .holds in
@@ -91,10 +92,12 @@ module _ {b : Buckets} {s₀ s : List ℕ} {i at cap : ℕ} (g : Settling b s₀
       record { low = omega arith; room = omega arith; within = omega arith; ends = omega arith; small = omega arith }
 
   -- a turn: the bucket's numbers are put where it starts, and 0 past them
-  pub settling-more : Laid b → i < 6 → {s₁ s₂ : List ℕ} → s₁ ≡ sets s at (rowAt b s i) → s₂ ≡ sets s₁ (at + lenAt b i) (replicate (cap - lenAt b i) 0)
+  pub settling-more : Laid b → i < 6 → {from m : ℕ} → from ≡ headAt b i → m ≡ lenAt b i → {s₁ s₂ : List ℕ} → s₁ ≡ sets s at (part from m s) → s₂ ≡ sets s₁ (at + m) (replicate (cap - m) 0)
       → Settling b s₀ s₂ (i + 1) (at + cap) (cap * 4)
-  settling-more l h {s₁} {s₂} e₁ e₂ =
-      let f = fits l h in
+  settling-more l h eh em {s₁} {s₂} d₁ d₂ =
+      let e₁ : s₁ ≡ sets s at (rowAt b s i) = d₁ ∙ ap₂ (λ (x y : ℕ). sets s at (part x y s)) eh em in
+      let e₂ : s₂ ≡ sets s₁ (at + lenAt b i) (replicate (cap - lenAt b i) 0) = d₂ ∙ ap (λ (k : ℕ). sets s₁ (at + k) (replicate (cap - k) 0)) em in
+      let f = fits l h refl refl in
       let n : ℕ = lenAt b i in
       let row : List ℕ = rowAt b s₀ i in
       let zeros : List ℕ = replicate (cap - n) 0 in
@@ -136,18 +139,18 @@ unfolding listFrom
 map-from f g r i zero h = refl
 map-from f g r i (suc k) h = ap₂ (λ (x : List ℕ) (y : List (List ℕ)). x ∷ y) (sym (h i (omega arith))) (map-from f g r (suc i) k (λ j l. h j (omega arith)))
 
-module _ (b : Buckets) (sw sc ww wc : List ℕ) (l : Laid b) (ew : length sw ≡ 5460) (ec : length sc ≡ 5460) (lw : length ww ≡ 8192) (lc : length wc ≡ 8192) where
-  rows-long : (s : List ℕ) → length s ≡ 5460 → (i : ℕ) → i < 6 → length (rowAt b s i) ≡ lenAt b i
+module _ (b : Buckets) (sw sc ww wc : List ℕ) (l : Laid b) (ew : length sw ≡ bucketPlaces) (ec : length sc ≡ bucketPlaces) (lw : length ww ≡ workPlaces) (lc : length wc ≡ workPlaces) where
+  rows-long : (s : List ℕ) → length s ≡ bucketPlaces → (i : ℕ) → i < 6 → length (rowAt b s i) ≡ lenAt b i
   rows-long s e i h = length-part (headAt b i) (lenAt b i) s (omega (arith, l .high i h, next-start i, ends-within i h))
 
   same-long : (i : ℕ) → i < 6 → length (rowAt b sc i) ≡ length (rowAt b sw i)
   same-long i h = rows-long sc ec i h ∙ sym (rows-long sw ew i h)
 
-  pub at-return : {sw' sc' ww' wc' : List ℕ} → sw' ≡ settled b sw → sc' ≡ settled b sc → ww' ≡ sets ww 0 (replicate 8192 0) → wc' ≡ sets wc 0 (replicate 8192 0)
+  pub at-return : {sw' sc' ww' wc' : List ℕ} → sw' ≡ settled b sw → sc' ≡ settled b sc → ww' ≡ sets ww 0 (replicate workPlaces 0) → wc' ≡ sets wc 0 (replicate workPlaces 0)
       → AtReturn (bucketsIn b sw sc) sw' sc' ww' wc'
   at-return e₁ e₂ e₃ e₄ =
-      let zeros : List ℕ = replicate 8192 0 in
-      let z : length zeros ≡ 8192 = length-replicate {A = ℕ} 8192 0 in
+      let zeros : List ℕ = replicate workPlaces 0 in
+      let z : length zeros ≡ workPlaces = length-replicate {A = ℕ} workPlaces 0 in
       record {
         words-are = e₁ ∙ ap (laidOut 4) (map-from words (bucketAt b sw sc) (rowAt b sw) 0 6 (λ j h. words-terms (rowAt b sw j) (rowAt b sc j) (same-long j h)));
         coefs-are = e₂ ∙ ap (laidOut 4) (map-from coefs (bucketAt b sw sc) (rowAt b sc) 0 6 (λ j h. coefs-terms (rowAt b sw j) (rowAt b sc j) (same-long j h)));

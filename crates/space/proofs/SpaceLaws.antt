@@ -3,13 +3,13 @@ use mathlib.Core.Path.{_≡_, refl, sym, ap, ap₂, _∙_, subst}
 use mathlib.Core.List.{List, [], _∷_, _++_, append-assoc}
 use mathlib.Core.Logic.{_⊎_, inl, inr, ⊎-elim}
 use Prim.Native.Nat.{ℕ, zero, suc, _+_, _-_, _*_, _<_, _≤_, min, Ordering}
-use native.Mathlib.Nat.{add-zero, add-suc}
 use native.Mathlib.Decide.{decLe}
 use native.Mathlib.Omega.{arith}
 use lib.ListN.{length, take, drop, set, getD, length-take, length-drop, length-set}
 use lib.Seq.{sets, ext-getD, length-sets, sets-eq, take-at, drop-at, length-take-le, getD-set-same, getD-set-other, set-getD, drop-cons}
-use Rattle.merge.specs.Lent.{Poly, part, Apart}
-use Rattle.merge.proofs.Lists.{sets-append, getD-sets-other, getD-part, length-part}
+use Rattle.limits.specs.Limits.{bucketPlaces}
+use Rattle.merge_common.specs.Lent.{Poly, part, Apart}
+use Rattle.merge_common.proofs.Lists.{sets-append, getD-sets-other, getD-part, length-part}
 use Rattle.polynomial.specs.Terms.{Term, term, terms, Canonical}
 use Rattle.polynomial.proofs.TermLists.{length-terms}
 use Rattle.residue.specs.Modular.{Modulus}
@@ -66,6 +66,10 @@ part-frame s a vs h n out =
 -- a part that is lent from h to h + n
 pub part-to : (h n : ℕ) (s : List ℕ) → take (h + n - h) (drop h s) ≡ part h n s
 part-to h n s = ap (λ (m : ℕ). take m (drop h s)) (let e : h + n - h ≡ n = omega arith in e)
+
+-- the same of a bucket
+pub row-of : (b : Buckets) (i : ℕ) {h n : ℕ} → h ≡ headAt b i → n ≡ lenAt b i → (s : List ℕ) → take (h + n - h) (drop h s) ≡ rowAt b s i
+row-of b i {h} {n} eh en s = part-to h n s ∙ ap₂ (λ (x y : ℕ). part x y s) eh en
 
 pub part-put : (s : List ℕ) (a : ℕ) (vs : List ℕ) → a + length vs ≤ length s → part a (length vs) (sets s a vs) ≡ vs
 part-put s a vs h =
@@ -150,16 +154,16 @@ good-at cmp p g (suc k) i cap h j l u = by (decLe j i) (λ v. good-at cmp p g k 
 
 module _ (b : Buckets) (laid : Laid b) (i : ℕ) (in-six : i < 6) where
   -- bucket i lies within the bucket space
-  pub row-end : headAt b i + lenAt b i ≤ 5460
+  pub row-end : headAt b i + lenAt b i ≤ bucketPlaces
   row-end = omega (arith, laid .high i in-six, start-end i in-six)
 
-  pub row-long : (s : List ℕ) → length s ≡ 5460 → length (rowAt b s i) ≡ lenAt b i
+  pub row-long : (s : List ℕ) → length s ≡ bucketPlaces → length (rowAt b s i) ≡ lenAt b i
   row-long s h = length-part (headAt b i) (lenAt b i) s (omega (arith, row-end, h))
 
-  pub bucket-long : (sw sc : List ℕ) → length sw ≡ 5460 → length sc ≡ 5460 → length (bucketAt b sw sc i) ≡ lenAt b i
+  pub bucket-long : (sw sc : List ℕ) → length sw ≡ bucketPlaces → length sc ≡ bucketPlaces → length (bucketAt b sw sc i) ≡ lenAt b i
   bucket-long sw sc hw hc = length-terms (rowAt b sw i) (rowAt b sc i) (row-long sc hc ∙ sym (row-long sw hw)) ∙ row-long sw hw
 
-  pub bucket-poly : (p : ℕ) (cmp : ℕ → ℕ → Ordering) (sw sc : List ℕ) → length sw ≡ 5460 → length sc ≡ 5460 → Canonical cmp p (bucketAt b sw sc i) → Poly p (rowAt b sw i) (rowAt b sc i)
+  pub bucket-poly : (p : ℕ) (cmp : ℕ → ℕ → Ordering) (sw sc : List ℕ) → length sw ≡ bucketPlaces → length sc ≡ bucketPlaces → Canonical cmp p (bucketAt b sw sc i) → Poly p (rowAt b sw i) (rowAt b sc i)
   bucket-poly p cmp sw sc hw hc c = record { long = row-long sc hc ∙ sym (row-long sw hw); reduced = c .reduced }
 
 -- ---- the terms held
@@ -189,13 +193,13 @@ module _ (b : Buckets) (i : ℕ) (laid : Laid b) (in-six : i < 6) where
   bucket-none sw sc e = ap (λ (n : ℕ). terms (part (headAt b i) n sw) (part (headAt b i) n sc)) e
 
   module _ (some : 0 < lenAt b i) where
-    pub head-in : headAt b i < 5460
+    pub head-in : headAt b i < bucketPlaces
     head-in = omega (arith, row-end b laid i in-six)
 
     pub dropped-laid : Laid (dropped b i)
     dropped-laid = laid-moved b i (headAt b i + 1) (lenAt b i - 1) laid in-six (omega (arith, laid .low i in-six)) (omega (arith, laid .high i in-six))
 
-    module _ (sw sc : List ℕ) (hw : length sw ≡ 5460) (hc : length sc ≡ 5460) where
+    module _ (sw sc : List ℕ) (hw : length sw ≡ bucketPlaces) (hc : length sc ≡ bucketPlaces) where
       pub bucket-lead : bucketAt b sw sc i ≡ term (getD sw (headAt b i) 0) (getD sc (headAt b i) 0) ∷ bucketAt (dropped b i) sw sc i
       bucket-lead =
           let h = headAt b i in
@@ -217,7 +221,7 @@ module _ (b : Buckets) (i : ℕ) (laid : Laid b) (in-six : i < 6) where
       put-here v =
           let h = headAt b i in
           let n = lenAt b i in
-          let hv : length (set sc h v) ≡ 5460 = length-set sc h v ∙ hc in
+          let hv : length (set sc h v) ≡ bucketPlaces = length-set sc h v ∙ hc in
           ap₂ terms (row-lead sw h n (omega (arith, head-in, hw)) some) (row-lead (set sc h v) h n (omega (arith, head-in, hv)) some)
           ∙ (ap₂ (λ (x : ℕ) (y : List ℕ). term (getD sw h 0) x ∷ terms (part (h + 1) (n - 1) sw) y) (getD-set-same sc h v 0 (omega (arith, head-in, hc))) (part-frame sc h (v ∷ []) (h + 1) (n - 1) (inr (omega arith)))
           ∙ ap₂ (λ (x y : ℕ). term (getD sw h 0) v ∷ terms (part x y sw) (part x y sc)) (sym (moved-head b i (h + 1) (n - 1) laid in-six)) (sym (moved-len b i (h + 1) (n - 1) laid in-six)))
@@ -229,7 +233,7 @@ cons-head {A} {x} e = ap (λ (l : List A). getD l 0 x) e
 cons-tail : {A : Type 0} {x y : A} {xs ys : List A} → x ∷ xs ≡ y ∷ ys → xs ≡ ys
 cons-tail {A} e = ap (λ (l : List A). drop 1 l) e
 
-module _ (b : Buckets) (i : ℕ) (laid : Laid b) (in-six : i < 6) (sw sc : List ℕ) (hw : length sw ≡ 5460) (hc : length sc ≡ 5460) (x : Term ℕ) (xs : List (Term ℕ)) (e : bucketAt b sw sc i ≡ x ∷ xs) where
+module _ (b : Buckets) (i : ℕ) (laid : Laid b) (in-six : i < 6) (sw sc : List ℕ) (hw : length sw ≡ bucketPlaces) (hc : length sc ≡ bucketPlaces) (x : Term ℕ) (xs : List (Term ℕ)) (e : bucketAt b sw sc i ≡ x ∷ xs) where
   pub some-of : 0 < lenAt b i
   some-of = omega (arith, bucket-long b laid i in-six sw sc hw hc, ap length e)
 
@@ -245,7 +249,7 @@ module _ (b : Buckets) (i : ℕ) (laid : Laid b) (in-six : i < 6) (sw sc : List 
   put-at v = put-here b i laid in-six some-of sw sc hw hc v ∙ ap₂ (λ (m : ℕ) (l : List (Term ℕ)). term m v ∷ l) (ap (λ (t : Term ℕ). t .mono) (sym lead-of)) drop-here
 
 -- ---- good buckets, by each of them
-pub bucket-short : (b : Buckets) → Laid b → (sw sc : List ℕ) → length sw ≡ 5460 → length sc ≡ 5460 → (j : ℕ) → j < 6 → length (bucketAt b sw sc j) ≤ capacity j
+pub bucket-short : (b : Buckets) → Laid b → (sw sc : List ℕ) → length sw ≡ bucketPlaces → length sc ≡ bucketPlaces → (j : ℕ) → j < 6 → length (bucketAt b sw sc j) ≤ capacity j
 bucket-short b laid sw sc hw hc j h = omega (arith, bucket-long b laid j h sw sc hw hc, laid .low j h, laid .high j h, next-start j)
 
 module _ (cmp : ℕ → ℕ → Ordering) (p : ℕ) (g : ℕ → List (Term ℕ)) where
@@ -324,15 +328,20 @@ good-none cmp p = (blank 4, (blank (4 * 4), (blank (4 * (4 * 4)), (blank (4 * (4
     blank : (cap : ℕ) → Canonical cmp p [] × (length {A = Term ℕ} [] ≤ cap)
     blank cap = (record { falling = tt; reduced = tt }, let z : 0 ≤ cap = omega arith in z)
 
-pub stands-none : (cmp : ℕ → ℕ → Ordering) (p : ℕ) (sw sc : List ℕ) → Modulus p → length sw ≡ 5460 → length sc ≡ 5460 → Stands cmp p noBuckets sw sc
+pub stands-none : (cmp : ℕ → ℕ → Ordering) (p : ℕ) (sw sc : List ℕ) → Modulus p → length sw ≡ bucketPlaces → length sc ≡ bucketPlaces → Stands cmp p noBuckets sw sc
 stands-none cmp p sw sc m hw hc = record { modulus = m; words-long = hw; coefs-long = hc; laid = laid-none; good = subst (Good cmp p 4) (sym (lists-none sw sc)) (good-none cmp p) }
 
 -- ---- the terms held, by the lengths
-pub held-lens : (b : Buckets) → Laid b → (sw sc : List ℕ) → length sw ≡ 5460 → length sc ≡ 5460 → held (bucketsIn b sw sc) ≡ heldIn b
+pub held-lens : (b : Buckets) → Laid b → (sw sc : List ℕ) → length sw ≡ bucketPlaces → length sc ≡ bucketPlaces → held (bucketsIn b sw sc) ≡ heldIn b
 unfolding held listFrom
 held-lens b laid sw sc hw hc =
     let at : (i : ℕ) → i < 6 → length (bucketAt b sw sc i) ≡ lenAt b i = λ i h. bucket-long b laid i h sw sc hw hc in
     omega (arith, at 0 (omega arith), at 1 (omega arith), at 2 (omega arith), at 3 (omega arith), at 4 (omega arith), at 5 (omega arith))
 
-pub len-small : (b : Buckets) → Laid b → (i : ℕ) → i < 6 → lenAt b i ≤ 5460
+len-small : (b : Buckets) → Laid b → (i : ℕ) → i < 6 → lenAt b i ≤ bucketPlaces
 len-small b laid i h = omega (arith, row-end b laid i h)
+
+pub held-small : (b : Buckets) → Laid b → heldIn b ≤ 6 * bucketPlaces
+held-small b laid =
+    let n = len-small b laid in
+    omega (arith, n 0 (omega arith), n 1 (omega arith), n 2 (omega arith), n 3 (omega arith), n 4 (omega arith), n 5 (omega arith))

@@ -4,6 +4,7 @@ use mathlib.Core.Path.{_≡_, refl, ap, _∙_, subst}
 use native.Mathlib.Nat.{add-zero, add-suc, pow-suc, pow-le-pow-right}
 use native.Mathlib.Omega.{arith}
 use lib.Dec.{lit<}
+use Rattle.limits.specs.Limits.{bucketPlaces, mostTerms}
 use Rattle.space.specs.Space.{capacity, start}
 
 pub next-start : (i : ℕ) → start (suc i) ≡ start i + capacity i
@@ -26,17 +27,17 @@ thrice (suc i) = omega (arith, thrice i, next-start i, next-capacity i)
 pub starts-are : (i : ℕ) → start i ≡ (4 ^ suc i - 4) / 3
 starts-are i = omega (arith, thrice i, capacity-is i)
 
-pub six : start 6 ≡ 5460
+pub six : start 6 ≡ bucketPlaces
 unfolding start capacity
 six = refl
 
 -- each bucket ends within the space
-pub ends-within : (i : ℕ) → i < 6 → start i + capacity i ≤ 5460
+pub ends-within : (i : ℕ) → i < 6 → start i + capacity i ≤ bucketPlaces
 ends-within i h =
     let grows : 4 ^ suc i ≤ 4 ^ 6 = pow-le-pow-right (lit< tt) h in
     omega (arith, thrice i, thrice 5, six, next-start 5, capacity-is i, capacity-is 5)
 
-pub start-end : (i : ℕ) → i < 6 → start (suc i) ≤ 5460
+pub start-end : (i : ℕ) → i < 6 → start (suc i) ≤ bucketPlaces
 start-end i h = omega (arith, next-start i, ends-within i h)
 
 start-rises : (j d : ℕ) → start j ≤ start (j + d)
@@ -51,9 +52,9 @@ pub cap-zero : capacity 0 ≡ 4
 unfolding capacity
 cap-zero = refl
 
-pub cap-last : capacity 5 ≡ 4096
+pub cap-last : capacity 5 ≡ mostTerms
 unfolding capacity
 cap-last = refl
 
-pub cap-small : (i : ℕ) → i < 6 → capacity i ≤ 4096
+pub cap-small : (i : ℕ) → i < 6 → capacity i ≤ mostTerms
 cap-small i h = let grows : 4 ^ suc i ≤ 4 ^ 6 = pow-le-pow-right (lit< tt) h in omega (arith, capacity-is i, capacity-is 5, cap-last)

@@ -3,9 +3,10 @@ use Prim.Native.Nat.{ℕ, zero, suc, _+_, _-_, _*_, _^_, _≤_, _<_, Ordering}
 use mathlib.Core.Path.{_≡_}
 use mathlib.Core.List.{List, [], _∷_, _++_, map}
 use lib.ListN.{length, getD, set, replicate}
+use Rattle.limits.specs.Limits.{bucketPlaces, workPlaces}
 use Rattle.residue.specs.Modular.{Modulus}
 use Rattle.polynomial.specs.Terms.{Term, terms, words, coefs}
-use Rattle.merge.specs.Lent.{part}
+use Rattle.merge_common.specs.Lent.{part}
 use Rattle.geobucket.specs.Buckets.{Good}
 
 -- "buckets 1 to 6 of capacity 4, 16, 64, 256, 1,024 and 4,096"
@@ -58,8 +59,8 @@ pub record Laid (b : Buckets) : Type 0 where
 -- good buckets lie in the bucket space
 pub record Stands (cmp : ℕ → ℕ → Ordering) (p : ℕ) (b : Buckets) (sw sc : List ℕ) : Type 0 where
   pub modulus : Modulus p
-  pub words-long : length sw ≡ 5460
-  pub coefs-long : length sc ≡ 5460
+  pub words-long : length sw ≡ bucketPlaces
+  pub coefs-long : length sc ≡ bucketPlaces
   pub laid : Laid b
   pub good : Good cmp p 4 (bucketsIn b sw sc)
 
@@ -88,5 +89,5 @@ settled b s = laidOut 4 (listFrom (rowAt b s) 0 6)
 pub record AtReturn (bs : List (List (Term ℕ))) (sw sc ww wc : List ℕ) : Type 0 where
   pub words-are : sw ≡ laidOut 4 (map words bs)
   pub coefs-are : sc ≡ laidOut 4 (map coefs bs)
-  pub work-words : ww ≡ replicate 8192 0
-  pub work-coefs : wc ≡ replicate 8192 0
+  pub work-words : ww ≡ replicate workPlaces 0
+  pub work-coefs : wc ≡ replicate workPlaces 0

@@ -1,35 +1,39 @@
 // The spaces as they are at return: "Places past a bucket's terms are 0 at return. The work space is
 // all 0 at return."
+use crate::state::head_of;
+use crate::state::len_of;
+use limits::WORK_PLACES;
 ghost use mathlib.Core.Path.{_≡_};
 ghost use Prim.Native.Nat.{_+_, _≤_};
 ghost use lib.ListN.{length, replicate};
 ghost use lib.Seq.{sets};
-ghost use Rattle.merge.specs.Lent.{part};
+ghost use Rattle.limits.specs.Limits.{bucketPlaces, workPlaces};
+ghost use Rattle.merge_common.specs.Lent.{part};
 ghost use Rattle.space.specs.Space.{Laid, settled, bucketsIn, AtReturn};
 
 // Leaves the spaces as document 01 has them at return: each bucket's terms from its start on and 0
 // past them, the work space all 0.
 pub fn settle(b: &[usize], sw: &mut [u64], sc: &mut [u32], ww: &mut [u64], wc: &mut [u32])
-    requires { ⌜ Laid (now b) × (length (now sw) ≡ 5460) × (length (now sc) ≡ 5460) × (length (now ww) ≡ 8192) × (length (now wc) ≡ 8192) ⌝ }
+    requires { ⌜ Laid (now b) × (length (now sw) ≡ bucketPlaces) × (length (now sc) ≡ bucketPlaces) × (length (now ww) ≡ workPlaces) × (length (now wc) ≡ workPlaces) ⌝ }
     ensures { λ _. ⌜ AtReturn (bucketsIn (now (b .entry)) (now (sw .entry)) (now (sc .entry))) (now (sw .exit)) (now (sc .exit)) (now (ww .exit)) (now (wc .exit)) ⌝ }
 {
     settle_words(b, sw);
     settle_coefs(b, sc);
-    clear_words(ww, 0, 8192);
-    clear_coefs(wc, 0, 8192);
+    clear_words(ww, 0, WORK_PLACES);
+    clear_coefs(wc, 0, WORK_PLACES);
 }
 
 // Moves each bucket's words to the bucket's start, and sets the words past them to 0.
 pub fn settle_words(b: &[usize], s: &mut [u64])
-    requires { ⌜ Laid (now b) × (length (now s) ≡ 5460) ⌝ }
+    requires { ⌜ Laid (now b) × (length (now s) ≡ bucketPlaces) ⌝ }
     ensures { λ _. ⌜ now (s .exit) ≡ settled (now (b .entry)) (now (s .entry)) ⌝ }
 {
     let mut i = 0;
     let mut start = 0;
     let mut cap = 4;
     while i < 6 {
-        let n = b[6 + i];
-        pull_words(s, b[i], start, n);
+        let n = len_of(b, i);
+        pull_words(s, head_of(b, i), start, n);
         clear_words(s, start + n, cap - n);
         start += cap;
         cap *= 4;
@@ -39,15 +43,15 @@ pub fn settle_words(b: &[usize], s: &mut [u64])
 
 // The same for coefficients.
 pub fn settle_coefs(b: &[usize], s: &mut [u32])
-    requires { ⌜ Laid (now b) × (length (now s) ≡ 5460) ⌝ }
+    requires { ⌜ Laid (now b) × (length (now s) ≡ bucketPlaces) ⌝ }
     ensures { λ _. ⌜ now (s .exit) ≡ settled (now (b .entry)) (now (s .entry)) ⌝ }
 {
     let mut i = 0;
     let mut start = 0;
     let mut cap = 4;
     while i < 6 {
-        let n = b[6 + i];
-        pull_coefs(s, b[i], start, n);
+        let n = len_of(b, i);
+        pull_coefs(s, head_of(b, i), start, n);
         clear_coefs(s, start + n, cap - n);
         start += cap;
         cap *= 4;

@@ -122,8 +122,8 @@ impl Engine {
         }
     }
 
-    /// Does the operations, from nothing held. A refusal 1 to 9 does nothing at all; 10 and 11 stop the
-    /// run before the operation that they refuse.
+    /// Does the operations, from nothing held. A refusal at the opening does nothing at all; one on the
+    /// way stops the run before the operation that it refuses.
     pub fn run(
         &mut self,
         polynomials: &Polynomials,
@@ -131,7 +131,7 @@ impl Engine {
     ) -> Result<Run, Refused> {
         let pairs: Vec<usize> = operations.iter().flat_map(|o| o.pair()).collect();
         let answer = raw::run(polynomials.given(), &pairs, self.loan());
-        Refused::unless_0(answer.refusal, answer.finished)?;
+        Refused::unless_0(answer.refusal, answer.finished, answer.places)?;
         let outputs = self.outputs(polynomials.setting(), operations);
         Ok(Run {
             outputs,
@@ -141,7 +141,8 @@ impl Engine {
 
     /// Reduces polynomial 0 by the others, with at most `limit` leads removed: the first divisor in the
     /// list whose lead divides the lead is used, and a lead that none divides goes to the remainder. A
-    /// refusal 1 to 8 does nothing at all; 10 to 13 stop the reduction.
+    /// refusal at the opening does nothing at all; one on the way stops the reduction before the lead is
+    /// removed.
     ///
     /// ```
     /// use damselbuckle::{Engine, Order, Polynomials, Refusal, Setting};
@@ -165,7 +166,7 @@ impl Engine {
     /// ```
     pub fn reduce(&mut self, polynomials: &Polynomials, limit: u64) -> Result<Reduction, Refused> {
         let answer = raw::reduce(polynomials.given(), limit, self.loan());
-        Refused::unless_0(answer.refusal, answer.leads)?;
+        Refused::unless_0(answer.refusal, answer.leads, answer.terms)?;
         let terms = answer.terms as usize;
         let Places { words, coefs } = &self.output;
         Ok(Reduction {
@@ -189,7 +190,23 @@ impl Engine {
     }
 
     /// The words and coefficients of the output, as the calls so far left them. What a stopped call gave
-    /// out lies at its start.
+    /// out are the first [`Refused::places`] of them.
+    ///
+    /// ```
+    /// use damselbuckle::{Engine, Order, Polynomials, Refusal, Setting};
+    ///
+    /// let setting = Setting { p: 7, order: Order::DegRevLex, n: 2 };
+    /// let mut polynomials = Polynomials::new(setting);
+    /// polynomials.push(&[(1, [2, 0]), (3, [0, 1]), (5, [0, 0])])?; // x1² + 3·x2 + 5, by nothing
+    ///
+    /// let mut engine = Engine::new(100);
+    /// let refused = engine.reduce(&polynomials, 2).unwrap_err();
+    /// assert_eq!((refused.refusal, refused.places), (Refusal::StepLimit, 2));
+    /// let (words, coefs) = engine.output();
+    /// let remainder = setting.terms(&words[..refused.places], &coefs[..refused.places]);
+    /// assert_eq!(remainder[1].coef, 3); // x1² + 3·x2 so far
+    /// # Ok::<(), damselbuckle::Refused>(())
+    /// ```
     pub fn output(&self) -> (&[u64], &[u32]) {
         (&self.output.words, &self.output.coefs)
     }

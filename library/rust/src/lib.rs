@@ -5,24 +5,26 @@
 //! An arm closes where its closing condition, reduced by its joint equations, leaves the remainder zero:
 //!
 //! ```
-//! use damselbuckle::{Engine, Order, Polynomials, Setting};
+//! use damselbuckle::{Engine, Order, Polynomials, Setting, MOST_TERMS};
 //!
 //! let setting = Setting { p: 32003, order: Order::DegRevLex, n: 2 };
 //! let mut polynomials = Polynomials::new(setting);
 //! polynomials.push(&[(1, [2, 1]), (1, [0, 3])])?; // x1²·x2 + x2³
 //! polynomials.push(&[(1, [2, 0]), (1, [0, 2]), (32002, [0, 0])])?; // x1² + x2² − 1
 //!
-//! let reduction = Engine::new(4096).reduce(&polynomials, 1_000_000)?;
+//! let reduction = Engine::new(MOST_TERMS).reduce(&polynomials, 1_000_000)?;
 //! assert!(!reduction.is_zero()); // x2 is left: this arm does not close
 //! assert_eq!(reduction.remainder[0].exponents, [0, 1]);
 //! # Ok::<(), damselbuckle::Refused>(())
 //! ```
 mod engine;
+mod limits;
 mod polynomials;
 pub mod raw;
 mod refusal;
 
 pub use engine::{Engine, Operation, Output, Reduction, Run};
+pub use limits::*;
 pub use polynomials::{Order, Polynomials, Setting, Term};
 pub use raw::Tally;
 pub use refusal::{Refusal, Refused};
@@ -32,61 +34,37 @@ pub use refusal::{Refusal, Refused};
 #[doc = include_str!("../../../docs/INTEGRATION.md")]
 struct Integration;
 
-/// Places of the bucket space, for words and for coefficients.
-pub const BUCKET_PLACES: usize = 5_460;
-
-/// Places of the work space, for words and for coefficients.
-pub const WORK_PLACES: usize = 8_192;
-
-/// The most terms that are held, or written to blocks.
-pub const MOST_TERMS: usize = 4_096;
-
-/// Bytes of a block, and the most blocks of a polynomial.
-pub const BLOCK_BYTES: usize = 512;
-pub const MOST_BLOCKS: usize = 100;
-
-/// The most operations of a run, and the largest step limit of a reduction.
-pub const MOST_OPERATIONS: usize = 16_777_216;
-pub const LARGEST_LIMIT: u64 = 8_796_093_022_208;
-
-/// The most bytes of a script, and those that a listing must be lent.
-pub const SCRIPT_BYTES: usize = 16_384;
-pub const LISTING_BYTES: usize = 65_536;
-
-/// The blocks of polynomial k. Where it is not there, refusal 9; the others are 1 to 6 and 11.
+/// The blocks of polynomial k. Where it is not there, the refusal is [`Refusal::BadOperation`].
 ///
 /// ```
-/// use damselbuckle::{read_blocks, write_blocks, Order, Polynomials, Setting};
+/// use damselbuckle::{read_blocks, write_blocks, Order, Polynomials, Setting, BLOCK_BYTES};
 ///
 /// let setting = Setting { p: 7, order: Order::Lex, n: 3 };
 /// let mut polynomials = Polynomials::new(setting);
 /// polynomials.push(&[(3, [2, 0, 1]), (6, [0, 5, 0])])?;
 /// let blocks = write_blocks(&polynomials, 0)?;
-/// assert_eq!(blocks.len(), 512);
+/// assert_eq!(blocks.len(), BLOCK_BYTES);
 /// assert_eq!(read_blocks(&blocks)?, polynomials);
 /// # Ok::<(), damselbuckle::Refused>(())
 /// ```
 pub fn write_blocks(polynomials: &Polynomials, k: usize) -> Result<Vec<u8>, Refused> {
-    let absent = Refused {
-        refusal: Refusal::BadOperation,
-        finished: 0,
-    };
+    let absent = Refused::at_opening(Refusal::BadOperation);
     let (words, coefs) = polynomials.words_of(k).ok_or(absent)?;
     let Setting { p, order, n } = polynomials.setting();
     let mut bytes = vec![0; MOST_BLOCKS * BLOCK_BYTES];
     let answer = raw::write_blocks([p, order.number(), n], words, coefs, &mut bytes);
-    Refused::unless_0(answer.refusal, answer.finished)?;
+    Refused::unless_0(answer.refusal, answer.finished, 0)?;
     bytes.truncate(answer.blocks as usize * BLOCK_BYTES);
     Ok(bytes)
 }
 
 /// The one polynomial that the bytes hold, with its setting: all of them must be its blocks, as writing
-/// makes them. The refusals are 14 to 16, then 1 to 6.
+/// makes them.
 pub fn read_blocks(bytes: &[u8]) -> Result<Polynomials, Refused> {
     let mut words = vec![0; MOST_TERMS];
     let mut coefs = vec![0; MOST_TERMS];
     let answer = raw::read_blocks(bytes, &mut words, &mut coefs);
-    Refused::unless_0(answer.refusal, answer.finished)?;
+    Refused::unless_0(answer.refusal, answer.finished, 0)?;
     words.truncate(answer.terms as usize);
     coefs.truncate(answer.terms as usize);
     let setting = Setting {

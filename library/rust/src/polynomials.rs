@@ -54,10 +54,10 @@ impl Order {
 /// A prime, an order and a number of variables.
 #[derive(Clone, Copy, Debug, PartialEq, Eq, Hash)]
 pub struct Setting {
-    /// A prime from 2 to 65,521.
+    /// A prime from 2 to [`LARGEST_PRIME`](crate::LARGEST_PRIME).
     pub p: u32,
     pub order: Order,
-    /// 1 to 6.
+    /// 1 to [`MOST_VARIABLES`](crate::MOST_VARIABLES).
     pub n: u32,
 }
 
@@ -69,8 +69,9 @@ pub struct Term {
 }
 
 impl Setting {
-    /// The terms of words and coefficients.
-    pub(crate) fn terms(self, words: &[u64], coefs: &[u32]) -> Vec<Term> {
+    /// The terms of words and coefficients, as [`Engine::output`](crate::Engine::output) and
+    /// [`Engine::buckets`](crate::Engine::buckets) have them. A zero place is a term of coefficient 0.
+    pub fn terms(self, words: &[u64], coefs: &[u32]) -> Vec<Term> {
         let terms = words.iter().zip(coefs);
         terms.map(|(&word, &coef)| self.term(word, coef)).collect()
     }
@@ -84,7 +85,7 @@ impl Setting {
 /// Polynomials in one setting, by the numbers 0, 1, and so on.
 ///
 /// What is wrong with a term, or with the setting, is said by the call that is given the polynomials: it
-/// is refused with 1 to 6 before it does anything.
+/// is refused before it does anything.
 ///
 /// ```
 /// use damselbuckle::{Order, Polynomials, Setting};
@@ -130,16 +131,12 @@ impl Polynomials {
     /// Puts a polynomial behind the others, and gives its number. The terms fall in the order: each is a
     /// coefficient, 1 to p − 1, and n exponents, 0 to 127. No terms are the polynomial zero.
     ///
-    /// Where a term has another number of exponents than n, or more than six, it has no word: refusal 5,
-    /// and nothing is put.
+    /// Where a term has another number of exponents than n, or more than six, it has no word: the
+    /// refusal is [`Refusal::BadLayout`], and nothing is put.
     pub fn push<E: AsRef<[u8]>>(&mut self, terms: &[(u32, E)]) -> Result<usize, Refused> {
         let fits = |e: &[u8]| e.len() == self.setting.n as usize && e.len() <= FIELDS;
         if !terms.iter().all(|(_, e)| fits(e.as_ref())) {
-            let refusal = Refusal::BadLayout;
-            return Err(Refused {
-                refusal,
-                finished: 0,
-            });
+            return Err(Refused::at_opening(Refusal::BadLayout));
         }
         for (coef, exponents) in terms {
             self.words.push(self.setting.order.word(exponents.as_ref()));

@@ -22,9 +22,9 @@ pub struct Tally {
 pub struct RunAnswer {
     /// 0 for none.
     pub refusal: u64,
-    /// Operations done.
+    /// Operations done; where refused, before it.
     pub finished: u64,
-    /// Output places written; 0 where refused.
+    /// Output places written; where refused, before it.
     pub places: u64,
 }
 
@@ -34,9 +34,9 @@ pub struct RunAnswer {
 pub struct ReductionAnswer {
     /// 0 for none.
     pub refusal: u64,
-    /// Leads removed.
+    /// Leads removed; where refused, before it.
     pub leads: u64,
-    /// Terms of the remainder; 0 where refused.
+    /// Terms of the remainder that are in the output; where refused, before it.
     pub terms: u64,
 }
 

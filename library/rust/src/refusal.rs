@@ -1,26 +1,44 @@
 //! The refusals: their numbers, and their meaning in words.
 use std::fmt;
 
+// made from refusals.txt by make_refusals: begin
 /// Why a call was refused or stopped. The numbers are those of the C functions.
 #[derive(Clone, Copy, Debug, PartialEq, Eq, Hash)]
 #[repr(u8)]
 pub enum Refusal {
+    /// p is not a prime from 2 to 65,521
     NotPrime = 1,
+    /// the order is not 1, 2 or 3
     BadOrder = 2,
+    /// the number n of variables is not 1 to 6
     BadVariables = 3,
+    /// a coefficient is 0, or not below p
     BadCoefficient = 4,
+    /// a word is not of the layout: an exponent over 127, a wrong degree, or a variable past the n-th
     BadLayout = 5,
+    /// the terms of a polynomial do not fall strictly in the order
     NotFalling = 6,
+    /// a divisor is zero
     ZeroDivisor = 7,
+    /// lengths, sizes, starts, number of operations or step limit are wrong, or a reduction has no polynomial 0
     BadShape = 8,
+    /// an operation is unknown, names a polynomial that is not there, or has a second number that is not 0
     BadOperation = 9,
+    /// there is too little room for the output
     NoOutput = 10,
+    /// over 4,096 terms would be held, or are to be written
     TooManyTerms = 11,
+    /// a product has an exponent over 127
     ExponentOver = 12,
+    /// the step limit is reached, and a lead is left
     StepLimit = 13,
+    /// the bytes are not 1 to 100 whole blocks
     NotBlocks = 14,
+    /// the check of a block is wrong
     BadCheck = 15,
+    /// a block's numbers or filler are not what writing would put there
     BadBlock = 16,
+    /// the script is not of the form
     BadScript = 17,
 }
 
@@ -46,7 +64,34 @@ impl Refusal {
         Refusal::BadScript,
     ];
 
-    /// The number, 1 to 17.
+    /// What it means.
+    #[rustfmt::skip]
+    pub fn meaning(self) -> &'static str {
+        match self {
+            Refusal::NotPrime => "p is not a prime from 2 to 65,521",
+            Refusal::BadOrder => "the order is not 1, 2 or 3",
+            Refusal::BadVariables => "the number n of variables is not 1 to 6",
+            Refusal::BadCoefficient => "a coefficient is 0, or not below p",
+            Refusal::BadLayout => "a word is not of the layout: an exponent over 127, a wrong degree, or a variable past the n-th",
+            Refusal::NotFalling => "the terms of a polynomial do not fall strictly in the order",
+            Refusal::ZeroDivisor => "a divisor is zero",
+            Refusal::BadShape => "lengths, sizes, starts, number of operations or step limit are wrong, or a reduction has no polynomial 0",
+            Refusal::BadOperation => "an operation is unknown, names a polynomial that is not there, or has a second number that is not 0",
+            Refusal::NoOutput => "there is too little room for the output",
+            Refusal::TooManyTerms => "over 4,096 terms would be held, or are to be written",
+            Refusal::ExponentOver => "a product has an exponent over 127",
+            Refusal::StepLimit => "the step limit is reached, and a lead is left",
+            Refusal::NotBlocks => "the bytes are not 1 to 100 whole blocks",
+            Refusal::BadCheck => "the check of a block is wrong",
+            Refusal::BadBlock => "a block's numbers or filler are not what writing would put there",
+            Refusal::BadScript => "the script is not of the form",
+        }
+    }
+}
+// made from refusals.txt by make_refusals: end
+
+impl Refusal {
+    /// The number.
     pub fn number(self) -> u64 {
         self as u64
     }
@@ -54,29 +99,6 @@ impl Refusal {
     /// The refusal of a number; none for 0, and for a number that no call gives.
     pub fn from_number(number: u64) -> Option<Self> {
         Self::ALL.into_iter().find(|r| r.number() == number)
-    }
-
-    /// What it means.
-    pub fn meaning(self) -> &'static str {
-        match self {
-            Refusal::NotPrime => "p is not a prime from 2 to 65,521",
-            Refusal::BadOrder => "the order is not 1, 2 or 3",
-            Refusal::BadVariables => "the number of variables is not 1 to 6",
-            Refusal::BadCoefficient => "a coefficient is 0, or not below p",
-            Refusal::BadLayout => "a monomial is not of the layout: an exponent over 127, a wrong degree, or a variable too many",
-            Refusal::NotFalling => "the terms of a polynomial do not fall strictly in the order",
-            Refusal::ZeroDivisor => "a divisor is zero",
-            Refusal::BadShape => "the lengths of slices, the starts, the number of operations or the step limit are not as they must be",
-            Refusal::BadOperation => "an operation is unknown, or names a polynomial that is not there",
-            Refusal::NoOutput => "there is too little room for the output",
-            Refusal::TooManyTerms => "there would be more than 4,096 terms",
-            Refusal::ExponentOver => "a product has an exponent over 127",
-            Refusal::StepLimit => "the step limit is reached, and a lead is left",
-            Refusal::NotBlocks => "the bytes are not 1 to 100 whole blocks",
-            Refusal::BadCheck => "the check of a block is wrong",
-            Refusal::BadBlock => "a block is not one that writing would make",
-            Refusal::BadScript => "the script is not of the form",
-        }
     }
 }
 
@@ -86,13 +108,12 @@ impl fmt::Display for Refusal {
     }
 }
 
-/// A call that was refused at its opening, or stopped: why, and how many operations (of a run) or leads
-/// (of a reduction) were finished before.
+/// A call that was refused at its opening, or stopped.
 ///
 /// ```
 /// use damselbuckle::{Refusal, Refused};
 ///
-/// let refused = Refused { refusal: Refusal::StepLimit, finished: 5 };
+/// let refused = Refused { refusal: Refusal::StepLimit, finished: 5, places: 2 };
 /// assert_eq!(
 ///     refused.to_string(),
 ///     "refused 13 after 5: the step limit is reached, and a lead is left"
@@ -100,18 +121,36 @@ impl fmt::Display for Refusal {
 /// ```
 #[derive(Clone, Copy, Debug, PartialEq, Eq, Hash)]
 pub struct Refused {
+    /// Why.
     pub refusal: Refusal,
+    /// Operations of a run, or leads of a reduction, that were finished before.
     pub finished: u64,
+    /// Output places that a run or a reduction wrote before: the first of
+    /// [`Engine::output`](crate::Engine::output).
+    pub places: usize,
 }
 
 impl Refused {
+    /// A call that did nothing.
+    pub(crate) fn at_opening(refusal: Refusal) -> Self {
+        Refused {
+            refusal,
+            finished: 0,
+            places: 0,
+        }
+    }
+
     /// Nothing, where the number is 0.
-    pub(crate) fn unless_0(number: u64, finished: u64) -> Result<(), Refused> {
+    pub(crate) fn unless_0(number: u64, finished: u64, places: u64) -> Result<(), Refused> {
         if number == 0 {
             return Ok(());
         }
-        let refusal = Refusal::from_number(number).expect("a refusal is 0 to 17");
-        Err(Refused { refusal, finished })
+        let refusal = Refusal::from_number(number).expect("a number of the list");
+        Err(Refused {
+            refusal,
+            finished,
+            places: places as usize,
+        })
     }
 }
 

@@ -2,22 +2,19 @@
 //! all three declare the same; a program in C that prints the layouts and calls everything; and the
 //! example.
 mod declared;
+mod texts;
 
 use damselbuckle::raw::{self, Given, Loan, Tally};
-use damselbuckle::{Refusal, BUCKET_PLACES, LISTING_BYTES, WORK_PLACES};
-use declared::{in_c, in_rust, snake};
+use damselbuckle::{
+    Refusal, BLOCK_BYTES, BUCKET_PLACES, LISTING_BYTES, MOST_BLOCKS, MOST_TERMS, WORK_PLACES,
+};
+use declared::{in_c, in_rust};
+use std::collections::BTreeMap;
 use std::fmt::Write;
 use std::mem::{offset_of, size_of};
-use std::path::{Path, PathBuf};
+use std::path::Path;
 use std::process::Command;
-
-fn root() -> PathBuf {
-    Path::new(env!("CARGO_MANIFEST_DIR")).join("../..")
-}
-
-fn text(path: &str) -> String {
-    std::fs::read_to_string(root().join(path)).unwrap_or_else(|e| panic!("{path}: {e}"))
-}
+use texts::{defined, root, snake, text, with_commas};
 
 /// Compiles a program against the header and the library as the example is built, and gives what it
 /// prints.
@@ -142,7 +139,7 @@ fn calls() -> String {
         coefs,
         starts: &[0, 2, 3],
     };
-    let (mut ow, mut oc, mut bytes) = ([0; 9], [0; 9], [0; 512]);
+    let (mut ow, mut oc, mut bytes) = ([0; 9], [0; 9], [0; BLOCK_BYTES]);
     let (ran, t) = lending((&mut ow, &mut oc), |loan| {
         raw::run(given, &[1, 0, 1, 1, 3, 0], loan)
     });
@@ -198,11 +195,17 @@ fn header_and_rust_declare_what_rattle_exports() {
         .split_once("\n}\n\n/// Polynomials")
         .expect("the extern block ends");
     let rust = in_rust(declarations, "    pub fn ", ';');
-    let mut rattle = in_rust(&text("crates/runs/src/lib.rt"), "extern \"C\" fn ", '\n');
+    let mut rattle = in_rust(&text("crates/call/src/answer.rt"), "extern \"C\" fn ", '\n');
     assert_eq!(rattle.structs.len(), 1, "the tally alone");
-    for name in ["run", "reduction", "store", "lister"] {
-        let path = format!("crates/damselbuckle/src/{name}.rt");
-        let more = in_rust(&text(&path), "pub extern \"C\" fn ", '\n');
+    let answers = ["course", "store", "lister"].map(|name| format!("answers/src/{name}"));
+    let exports = ["run", "reduction", "store", "lister"];
+    let exports = exports.map(|name| format!("damselbuckle/src/{name}"));
+    for path in answers.iter().chain(&exports) {
+        let more = in_rust(
+            &text(&format!("crates/{path}.rt")),
+            "pub extern \"C\" fn ",
+            '\n',
+        );
         rattle.structs.extend(more.structs);
         rattle.functions.extend(more.functions);
     }
@@ -212,57 +215,75 @@ fn header_and_rust_declare_what_rattle_exports() {
     assert_eq!(rust, rattle);
 }
 
-/// The number that the header defines for a name.
-fn defined(header: &str, name: &str) -> u64 {
-    let line = format!("#define DAMSELBUCKLE_{name} ");
-    let behind = header
-        .split_once(&line)
-        .unwrap_or_else(|| panic!("{name}"))
-        .1;
-    let number = behind
-        .lines()
-        .next()
-        .unwrap_or("")
-        .trim_start_matches("UINT64_C(");
-    let digits = number.chars().take_while(char::is_ascii_digit);
-    digits.collect::<String>().parse().expect("a number")
+/// The constants of a text in Rust or in Rattle: name, type and number.
+fn constants(text: &str) -> BTreeMap<&str, (&str, u64)> {
+    let lines = text.lines().filter_map(|l| l.strip_prefix("pub const "));
+    let pairs = lines.filter_map(|l| l.strip_suffix(';')?.split_once(": "));
+    let constants = pairs.map(|(name, behind)| {
+        let (kind, number) = behind.split_once(" = ").expect("a number");
+        let number = number.replace('_', "").parse().expect("a number");
+        (name, (kind, number))
+    });
+    constants.collect()
 }
 
+/// Limits of crates/limits that a caller does not need, and limits of blocks, which it does not have.
+const WITHIN: [&str; 2] = ["SCRIPT_TERMS", "SCRIPT_NUMBERS"];
+const OF_BLOCKS: [&str; 2] = ["BLOCK_BYTES", "MOST_BLOCKS"];
+
+#[test]
+fn the_wrapper_has_the_limits_of_rattle() {
+    let (rattle, rust) = (
+        text("crates/limits/src/lib.rt"),
+        text("library/rust/src/limits.rs"),
+    );
+    let (mut rattle, mut rust) = (constants(&rattle), constants(&rust));
+    for name in WITHIN {
+        assert!(rattle.remove(name).is_some(), "{name}");
+    }
+    for name in OF_BLOCKS {
+        assert!(rust.remove(name).is_some(), "{name}");
+    }
+    assert_eq!(rust, rattle);
+}
+
+/// The limits of the wrapper, orders, operations and refusals, and nothing else.
 #[test]
 fn the_header_has_the_numbers() {
+    let rust = text("library/rust/src/limits.rs");
+    let limits = constants(&rust).into_iter().map(|(name, (_, n))| (name, n));
+    let orders = [("LP", 1), ("DP_LEX", 2), ("DP_REV", 3)];
+    let operations = [("ADD", 1), ("LEAD", 2), ("SUM", 3)];
+    let numbers = limits.chain(orders).chain(operations);
+    let numbers = numbers.map(|(name, number)| (name.to_string(), number));
+    let refusals = Refusal::ALL.map(|r| (snake(&format!("{r:?}")).to_uppercase(), r.number()));
     let header = text("library/damselbuckle.h");
-    for (name, number) in [
-        ("BUCKET_PLACES", BUCKET_PLACES as u64),
-        ("WORK_PLACES", WORK_PLACES as u64),
-        ("MOST_TERMS", damselbuckle::MOST_TERMS as u64),
-        ("BLOCK_BYTES", damselbuckle::BLOCK_BYTES as u64),
-        ("MOST_BLOCKS", damselbuckle::MOST_BLOCKS as u64),
-        ("MOST_OPERATIONS", damselbuckle::MOST_OPERATIONS as u64),
-        ("LARGEST_LIMIT", damselbuckle::LARGEST_LIMIT),
-        ("SCRIPT_BYTES", damselbuckle::SCRIPT_BYTES as u64),
-        ("LISTING_BYTES", LISTING_BYTES as u64),
-        ("LP", 1),
-        ("DP_LEX", 2),
-        ("DP_REV", 3),
-        ("ADD", 1),
-        ("LEAD", 2),
-        ("SUM", 3),
-    ] {
-        assert_eq!(defined(&header, name), number, "{name}");
-    }
+    let defined = defined(&header).into_iter();
+    let defined: BTreeMap<String, u64> = defined.map(|(n, k)| (n.to_string(), k)).collect();
+    assert_eq!(defined, numbers.chain(refusals).collect());
 }
 
+/// docs/INTEGRATION.md names what is to be lent.
 #[test]
-fn refusals_have_the_names_and_numbers_of_rattle() {
-    let header = text("library/damselbuckle.h");
-    let rattle = text("crates/opening/src/refusal.rt");
-    for refusal in Refusal::ALL {
-        let name = format!("{refusal:?}");
-        let number = refusal.number();
-        assert_eq!(defined(&header, &snake(&name).to_uppercase()), number);
-        assert!(
-            rattle.contains(&format!("Refusal::{name} => {number},")),
-            "{name}"
-        );
+fn the_guide_has_the_limits() {
+    let guide = text("docs/INTEGRATION.md").replace('\n', " ");
+    let n = |number: usize| with_commas(number as u64);
+    let space = |places| {
+        format!(
+            "{}, exactly | {} + {}",
+            n(places),
+            n(8 * places),
+            n(4 * places)
+        )
+    };
+    for words in [
+        format!("| bucket space | {} |", space(BUCKET_PLACES)),
+        format!("| work space | {} |", space(WORK_PLACES)),
+        format!("Blocks need {} bytes for each", n(BLOCK_BYTES)),
+        format!("{} at most; reading", n(MOST_BLOCKS * BLOCK_BYTES)),
+        format!("reading them needs {} places at most", n(MOST_TERMS)),
+        format!("A listing is lent {} bytes", n(LISTING_BYTES)),
+    ] {
+        assert!(guide.contains(&words), "{words}");
     }
 }

@@ -6,6 +6,8 @@
 
 #include <stdio.h>
 
+#define BUCKETS DAMSELBUCKLE_BUCKET_PLACES
+#define WORK DAMSELBUCKLE_WORK_PLACES
 #define SIZE(s) printf(#s " %zu\n", sizeof(s))
 #define FIELD(s, f) printf("  " #f " %zu %zu\n", offsetof(s, f), sizeof(((s *)0)->f))
 #define VALUE(a, f) printf(" %llu", (unsigned long long)(a).f)
@@ -56,7 +58,7 @@ static const uint8_t script[] = "prime 5\n";
 static void calls(void)
 {
     damselbuckle_tally tally = {0, 0, 0, 0};
-    damselbuckle_run_answer ran = damselbuckle_run(&tally, 5, 1, 1, words, 3, coefs, 3, starts, 3, ops, 6, bw, 5460, bc, 5460, ww, 8192, wc, 8192, ow, 9, oc, 9);
+    damselbuckle_run_answer ran = damselbuckle_run(&tally, 5, 1, 1, words, 3, coefs, 3, starts, 3, ops, 6, bw, BUCKETS, bc, BUCKETS, ww, WORK, wc, WORK, ow, 9, oc, 9);
     damselbuckle_reduction_answer reduced;
     damselbuckle_write_answer written;
     damselbuckle_read_answer read;
@@ -70,7 +72,7 @@ static void calls(void)
     VALUE(tally, brought);
     VALUE(tally, given);
     VALUE(tally, held);
-    reduced = damselbuckle_reduce(&tally, 5, 1, 1, words, 3, coefs, 3, starts, 3, 7, bw, 5460, bc, 5460, ww, 8192, wc, 8192, ow, 9, oc, 9);
+    reduced = damselbuckle_reduce(&tally, 5, 1, 1, words, 3, coefs, 3, starts, 3, 7, bw, BUCKETS, bc, BUCKETS, ww, WORK, wc, WORK, ow, 9, oc, 9);
     printf("\nreduce");
     VALUE(reduced, refusal);
     VALUE(reduced, leads);
@@ -79,12 +81,12 @@ static void calls(void)
     VALUE(tally, brought);
     VALUE(tally, given);
     VALUE(tally, held);
-    written = damselbuckle_write_blocks(5, 1, 1, words, 2, coefs, 2, bytes, 512);
+    written = damselbuckle_write_blocks(5, 1, 1, words, 2, coefs, 2, bytes, sizeof bytes);
     printf("\nwrite_blocks");
     VALUE(written, refusal);
     VALUE(written, finished);
     VALUE(written, blocks);
-    read = damselbuckle_read_blocks(bytes, 512, ow, 9, oc, 9);
+    read = damselbuckle_read_blocks(bytes, sizeof bytes, ow, 9, oc, 9);
     printf("\nread_blocks");
     VALUE(read, refusal);
     VALUE(read, finished);
@@ -92,7 +94,7 @@ static void calls(void)
     VALUE(read, order);
     VALUE(read, n);
     VALUE(read, terms);
-    listed = damselbuckle_listing(script, sizeof script - 1, out, 65536);
+    listed = damselbuckle_listing(script, sizeof script - 1, out, sizeof out);
     printf("\nlisting");
     VALUE(listed, refusal);
     VALUE(listed, finished);

@@ -1,7 +1,8 @@
 //! The wrapper: known results, every refusal by its cause, and what stopped calls leave.
 use damselbuckle::{
     listing, raw, read_blocks, write_blocks, Engine, Operation, Order, Output, Polynomials,
-    Refusal, Refused, Setting, Tally, Term, BUCKET_PLACES, LARGEST_LIMIT, MOST_TERMS, WORK_PLACES,
+    Refusal, Refused, Setting, Tally, Term, BLOCK_BYTES, BUCKET_PLACES, MOST_BLOCKS, MOST_STEPS,
+    MOST_TERMS, WORK_PLACES,
 };
 
 const SETTING: Setting = Setting {
@@ -28,8 +29,17 @@ fn term(coef: u32, exponents: [u8; 2]) -> Term {
     }
 }
 
-fn refused(refusal: Refusal, finished: u64) -> Refused {
-    Refused { refusal, finished }
+/// Refused at the opening.
+fn refused(refusal: Refusal) -> Refused {
+    stopped(refusal, 0, 0)
+}
+
+fn stopped(refusal: Refusal, finished: u64, places: usize) -> Refused {
+    Refused {
+        refusal,
+        finished,
+        places,
+    }
 }
 
 fn reduce(many: &[Terms], limit: u64) -> Result<(Vec<Term>, u64), Refused> {
@@ -102,7 +112,7 @@ fn opening_refusals() {
     ];
     for (setting, f, refusal) in cases {
         let given = polynomials(setting, &[f]);
-        let none = refused(refusal, 0);
+        let none = refused(refusal);
         let mut engine = Engine::new(9);
         assert_eq!(engine.run(&given, &[Operation::Lead]), Err(none));
         assert_eq!(engine.reduce(&given, 1), Err(none));
@@ -119,10 +129,10 @@ fn variables_and_exponents_that_do_not_fit() {
         let pushed = given.push(&[(1, exponents)]);
         assert_eq!(pushed.is_ok(), n == 0, "seven exponents have no word");
         let run = Engine::new(9).run(&given, &[]);
-        assert_eq!(run, Err(refused(Refusal::BadVariables, 0)));
+        assert_eq!(run, Err(refused(Refusal::BadVariables)));
     }
     let mut given = Polynomials::new(SETTING);
-    let bad = Err(refused(Refusal::BadLayout, 0));
+    let bad = Err(refused(Refusal::BadLayout));
     assert_eq!(given.push(&[(1, vec![1, 0]), (1, vec![0])]), bad);
     assert_eq!(given.push(&[(1, [1, 0, 0])]), bad);
     assert_eq!(given, Polynomials::new(SETTING), "nothing was put");
@@ -132,13 +142,13 @@ fn variables_and_exponents_that_do_not_fit() {
 #[test]
 fn refusals_of_the_call() {
     let zero_divisor = reduce(&[F, G, &[]], 9);
-    assert_eq!(zero_divisor, Err(refused(Refusal::ZeroDivisor, 0)));
-    let shape = Err(refused(Refusal::BadShape, 0));
+    assert_eq!(zero_divisor, Err(refused(Refusal::ZeroDivisor)));
+    let shape = Err(refused(Refusal::BadShape));
     assert_eq!(reduce(&[], 9), shape);
-    assert_eq!(reduce(&[F, G], LARGEST_LIMIT + 1), shape);
-    assert!(reduce(&[F, G], LARGEST_LIMIT).is_ok());
+    assert_eq!(reduce(&[F, G], MOST_STEPS + 1), shape);
+    assert!(reduce(&[F, G], MOST_STEPS).is_ok());
     let given = polynomials(SETTING, &[F]);
-    let absent = refused(Refusal::BadOperation, 0);
+    let absent = refused(Refusal::BadOperation);
     let run = Engine::new(9).run(&given, &[Operation::Add(0), Operation::Add(1)]);
     assert_eq!(run, Err(absent));
     assert_eq!(write_blocks(&given, 1), Err(absent));
@@ -160,26 +170,29 @@ fn stopped_calls_leave_what_was_held() {
     let mut engine = Engine::new(1);
     let operations = [Operation::Add(0), Operation::Add(1)];
     let run = engine.run(&given, &operations);
-    assert_eq!(run, Err(refused(Refusal::TooManyTerms, 1)));
+    assert_eq!(run, Err(stopped(Refusal::TooManyTerms, 1, 0)));
     let held = engine.buckets().1.iter().filter(|&&c| c != 0).count();
-    assert_eq!((engine.tally().held, held), (4_096, MOST_TERMS));
+    assert_eq!((engine.tally().held, held), (MOST_TERMS as u64, MOST_TERMS));
     let run = engine.run(
         &given,
         &[Operation::Add(1), Operation::Lead, Operation::Lead],
     );
-    assert_eq!(run, Err(refused(Refusal::NoOutput, 2)));
+    assert_eq!(run, Err(stopped(Refusal::NoOutput, 2, 1)));
     assert_eq!(engine.output().1, [1]);
     assert_eq!(engine.tally().given, 1);
     let over: Terms = &[(1, [127, 2])];
     assert_eq!(
         reduce(&[over, K], 9),
-        Err(refused(Refusal::ExponentOver, 0))
+        Err(stopped(Refusal::ExponentOver, 0, 0))
     );
-    assert_eq!(reduce(&[F, G, H], 5), Err(refused(Refusal::StepLimit, 5)));
+    assert_eq!(
+        reduce(&[F, G, H], 5),
+        Err(stopped(Refusal::StepLimit, 5, 2))
+    );
     // What was held before is not read.
     let given = polynomials(SETTING, &[F, G, H]);
     let again = engine.reduce(&given, 9);
-    assert_eq!(again, Err(refused(Refusal::NoOutput, 4)));
+    assert_eq!(again, Err(stopped(Refusal::NoOutput, 4, 1)));
     let fresh = Engine::new(3).reduce(&given, 9).expect("three places");
     assert_eq!((fresh.leads, fresh.tally.given), (6, 3));
 }
@@ -201,9 +214,12 @@ fn blocks_that_are_not_written_so() {
     assert_eq!(read_blocks(&block), Ok(given));
     let long = long(MOST_TERMS + 1);
     let written = write_blocks(&polynomials(SETTING, &[&long[1..], &long]), 0);
-    assert_eq!(written.map(|bytes| bytes.len()), Ok(51_200));
+    assert_eq!(
+        written.map(|bytes| bytes.len()),
+        Ok(MOST_BLOCKS * BLOCK_BYTES)
+    );
     let written = write_blocks(&polynomials(SETTING, &[&long]), 0);
-    assert_eq!(written, Err(refused(Refusal::TooManyTerms, 0)));
+    assert_eq!(written, Err(refused(Refusal::TooManyTerms)));
     let refusals = [
         (vec![], Refusal::NotBlocks),
         (block[1..].to_vec(), Refusal::NotBlocks),
@@ -212,7 +228,7 @@ fn blocks_that_are_not_written_so() {
         (checked(changed(&block, 8, 4)), Refusal::BadOrder),
     ];
     for (bytes, refusal) in refusals {
-        assert_eq!(read_blocks(&bytes), Err(refused(refusal, 0)));
+        assert_eq!(read_blocks(&bytes), Err(refused(refusal)));
     }
 }
 
@@ -237,41 +253,6 @@ fn words_of_the_known_monomial() {
         assert_eq!(Order::from_number(order.number().into()), Some(order));
     }
     assert_eq!(Order::from_number(4), None);
-}
-
-/// Each refusal by its number, with words that only it has.
-#[test]
-fn every_refusal_has_its_words() {
-    let words = [
-        "p is not a prime",
-        "order is not 1, 2 or 3",
-        "number of variables",
-        "coefficient",
-        "layout",
-        "fall strictly",
-        "divisor is zero",
-        "lengths of slices",
-        "operation is unknown",
-        "too little room",
-        "more than 4,096 terms",
-        "exponent over 127",
-        "step limit is reached",
-        "whole blocks",
-        "check of a block",
-        "writing would make",
-        "script",
-    ];
-    for (i, (refusal, words)) in Refusal::ALL.into_iter().zip(words).enumerate() {
-        let number = i as u64 + 1;
-        assert_eq!(refusal.number(), number);
-        assert_eq!(Refusal::from_number(number), Some(refusal));
-        let error: Box<dyn std::error::Error> = Box::new(refused(refusal, 3));
-        let said = error.to_string();
-        assert!(said.starts_with(&format!("refused {number} after 3: ")));
-        assert!(said.contains(words), "{said}");
-    }
-    assert_eq!(Refusal::from_number(0), None);
-    assert_eq!(Refusal::from_number(18), None);
 }
 
 #[test]

@@ -41,16 +41,19 @@ use denote.Triple.Call.{calls-at}
 use denote.Triple.Clauses.{Lasts, ensured, lasts}
 use denote.Triple.Table.{entered, cited}
 use denote.Triple.Walked.{says, Stays, stay-ref, walkOf, AllGo, goes-ref, Walks, ends-at, walked, walk-meets}
-use Rattle.runs.specs.Outcome.{RunOutcome, runOutcome}
-use Rattle.runs.specs.declared.Tally.{Tally}
-use Rattle.runs.specs.declared.Ran.{Ran}
-use Rattle.runs.proofs.Said.{rest-of, all-said, all-go}
-use Rattle.runs.proofs.Answer as A
-use Rattle.runs.proofs.Answer.Laws as A′
-use Rattle.runs.proofs.Tally as T
-use Rattle.runs.proofs.Tally.Laws as T′
-use Rattle.runs.proofs.Ran as R
-use Rattle.runs.proofs.Ran.Laws as R′
+use Rattle.polynomial.specs.Settings.{settingOf}
+use Rattle.call.specs.declared.answer.Tally.{Tally}
+use Rattle.call.specs.declared.answer.Returned.{Returned}
+use Rattle.call.specs.Answers as answers
+use Rattle.call.specs.Answers.{Outcome}
+use Rattle.call.proofs.Said.{rest-of, all-said, all-go}
+use Rattle.call.proofs.answer.Answer as A
+use Rattle.call.proofs.answer.Answer.Laws as A′
+use Rattle.call.proofs.answer.Tally as T
+use Rattle.call.proofs.answer.Tally.Laws as T′
+use Rattle.call.proofs.answer.Returned as R
+use Rattle.call.proofs.answer.Returned.Laws as R′
+use Rattle.runs.specs.Outcome.{runOutcome}
 use Rattle.runs.proofs.run as core
 use Rattle.runs.proofs.run.Symbol as core-def
 use Rattle.runs.proofs.run.Symbol.{name as #runs·run}
@@ -103,14 +106,14 @@ module _ {M : Type 1} (𝓤 : URA M) (H : Heap 𝓤) (𝓐 : Atoms 𝓤) (W : Gi
       qed W (raw (alive 𝓤 H 𝓐 core.signature κs qs) ∷ ‵ (owns (u32 ∷ u32 ∷ u32 ∷ ShrSlice (named 0) (κs .0) u64 ∷ ShrSlice (named 0) (κs .0) u32 ∷ ShrSlice (named 1) (κs .1 .0) usize ∷ ShrSlice (named 2) (κs .1 .1 .0) usize ∷ MutSlice (named 3) (κs .1 .1 .1 .0) u64 ∷ MutSlice (named 4) (κs .1 .1 .1 .1 .0) u32 ∷ MutSlice (named 5) (κs .1 .1 .1 .1 .1 .0) u64 ∷ MutSlice (named 6) (κs .1 .1 .1 .1 .1 .1 .0) u32 ∷ MutSlice (named 7) (κs .1 .1 .1 .1 .1 .1 .1 .0) u64 ∷ MutSlice (named 8) (κs .1 .1 .1 .1 .1 .1 .1 .1 .0) u32 ∷ []) rest restᵛ) ∷ []) ∵
       owned ! T.the-row (Is T.the-row) (LL.makes T.the-type T′.the-plain 𝓤 H 𝓐) h _ is $ move ! (0 ∷ 2 ∷ []) $ fjoin ! $ move ! (1 ∷ 0 ∷ []) $ join ! $ frame ! $ done !
 
-  abbrev Said : Ran → Lasts core.ended κs (h, rest) → Type 0
-  Said r ws = _≡_ {A = RunOutcome} (record { answer = r .answer; tally = r .tally; bw = ws .1 .1 .1 .1 .1 .1 .1 .1 .0; bc = ws .1 .1 .1 .1 .1 .1 .1 .1 .1 .0; ww = ws .1 .1 .1 .1 .1 .1 .1 .1 .1 .1 .0; wc = ws .1 .1 .1 .1 .1 .1 .1 .1 .1 .1 .1 .0; ow = ws .1 .1 .1 .1 .1 .1 .1 .1 .1 .1 .1 .1 .0; oc = ws .1 .1 .1 .1 .1 .1 .1 .1 .1 .1 .1 .1 .1 .0 }) (runOutcome h p order n (words .now) (coefs .now) (starts .now) (ops .now) (bw .now) (bc .now) (ww .now) (wc .now) (ow .now) (oc .now))
+  abbrev Said : Returned → Lasts core.ended κs (h, rest) → Type 0
+  Said r ws = _≡_ {A = Outcome} (record { answer = answers.stated (r .answer); tally = r .tally; bw = ws .1 .1 .1 .1 .1 .1 .1 .1 .0; bc = ws .1 .1 .1 .1 .1 .1 .1 .1 .1 .0; ww = ws .1 .1 .1 .1 .1 .1 .1 .1 .1 .1 .0; wc = ws .1 .1 .1 .1 .1 .1 .1 .1 .1 .1 .1 .0; ow = ws .1 .1 .1 .1 .1 .1 .1 .1 .1 .1 .1 .1 .0; oc = ws .1 .1 .1 .1 .1 .1 .1 .1 .1 .1 .1 .1 .1 .0 }) (runOutcome h (settingOf p order n) (words .now) (coefs .now) (starts .now) (ops .now) (bw .now) (bc .now) (ww .now) (wc .now) (ow .now) (oc .now))
 
   -- what the result's two fields are known to be
-  parts : (r : Ran) (v : Val) → Is R.the-row r (v ∷ []) → Is A.the-row (r .answer) (EL.vals A.the-type A′.the-laws (r .answer)) × Is T.the-row (r .tally) (LL.vals T.the-type T′.the-laws (r .tally))
+  parts : (r : Returned) (v : Val) → Is R.the-row r (v ∷ []) → Is A.the-row (r .answer) (EL.vals A.the-type A′.the-laws (r .answer)) × Is T.the-row (r .tally) (LL.vals T.the-type T′.the-laws (r .tally))
   parts r v is = let fields = LL.owed R.the-type R′.the-laws r (v ∷ []) is in (fields .0, fields .1 .0)
 
-  exits : (r : Ran) (v : Val) (ws : Lasts core.ended κs (h, rest)) → Is R.the-row r (v ∷ []) → Said r ws
+  exits : (r : Returned) (v : Val) (ws : Lasts core.ended κs (h, rest)) → Is R.the-row r (v ∷ []) → Said r ws
       → ent 𝓤 (⋆ 𝓤 H 𝓐 (‵ (fobs γ (T.the-row .coded .code (r .tally))) ∷ ‵ (fbor κ (Body (mem T.the-row) b o γ)) ∷ ‵ (flft κ qᵗ) ∷ raw (alive 𝓤 H 𝓐 core.signature κs qs) ∷ ‵ (lasts core.ended κs (h, rest) ws) ∷ [])) (Post (EL.val A.the-type A′.the-laws (r .answer)))
   exits r v ws is e =
       qed W (‵ (fobs γ (T.the-row .coded .code (r .tally))) ∷ ‵ (fbor κ (Body (mem T.the-row) b o γ)) ∷ ‵ (flft κ qᵗ) ∷ raw (alive 𝓤 H 𝓐 core.signature κs qs) ∷ ‵ (lasts core.ended κs (h, rest) ws) ∷ []) ∵
@@ -159,7 +162,7 @@ module _ {M : Type 1} (𝓤 : URA M) (H : Heap 𝓤) (𝓐 : Atoms 𝓤) (W : Gi
         assigns ! (agg ! (and-then ! (load ! (from ! (stop !)) (look ! 6 refl)) (and-then ! (load ! (from ! (fld ! refl (stop !))) (look-in ! 32 (sub ! 1 refl (whole !)))) (no-more !)))) (from ! (stop !)) (init ! 4 refl (mut-slice-lawful 𝓤 H 𝓐 W (named 9) (κs .1 .1 .1 .1 .1 .1 .1 .1 .0) u32 .typed oc (slice-vals oc) oc-is .0)) $
         move ! (63 ∷ 62 ∷ []) $ use2 W (raw (Core 𝓤 H 𝓐 at-mem run′ .pre to-core)) (goes was) $
         calls-at ! fm (Core 𝓤 H 𝓐 at-mem run′) known to-core (and-then ! (load ! (from ! (stop !)) (look ! 29 refl)) (and-then ! (load ! (from ! (stop !)) (look ! 57 refl)) (and-then ! (load ! (from ! (stop !)) (look ! 55 refl)) (and-then ! (load ! (from ! (stop !)) (look ! 53 refl)) (and-then ! (load ! (from ! (stop !)) (look ! 51 refl)) (and-then ! (load ! (from ! (stop !)) (look ! 49 refl)) (and-then ! (load ! (from ! (stop !)) (look ! 47 refl)) (and-then ! (load ! (from ! (stop !)) (look ! 45 refl)) (and-then ! (load ! (from ! (stop !)) (look ! 25 refl)) (and-then ! (load ! (from ! (stop !)) (look ! 21 refl)) (and-then ! (load ! (from ! (stop !)) (look ! 17 refl)) (and-then ! (load ! (from ! (stop !)) (look ! 13 refl)) (and-then ! (load ! (from ! (stop !)) (look ! 9 refl)) (and-then ! (load ! (from ! (stop !)) (look ! 5 refl)) (no-more !))))))))))))))) (λ v.
-        use1 W (later (some (λ (r : Ran). (raw (alive 𝓤 H 𝓐 core.signature κs qs) ⊛ ‵ (R.the-row .own r (v ∷ []))) ⊛ raw (ensured 𝓤 H 𝓐 core.ended (core.clauses 𝓤 H 𝓐 at-mem run′) κs (h, rest) tt r)))) (id⊢ 𝓤 _) $ await ! tt $ pick ! (λ r.
+        use1 W (later (some (λ (r : Returned). (raw (alive 𝓤 H 𝓐 core.signature κs qs) ⊛ ‵ (R.the-row .own r (v ∷ []))) ⊛ raw (ensured 𝓤 H 𝓐 core.ended (core.clauses 𝓤 H 𝓐 at-mem run′) κs (h, rest) tt r)))) (id⊢ 𝓤 _) $ await ! tt $ pick ! (λ r.
         split ! $ move ! (1 ∷ []) $ use1 W (some (λ (ws : Lasts core.ended κs (h, rest)). ‵ (lasts core.ended κs (h, rest) ws) ⊛ raw (fact 𝓤 (Said r ws)))) (id⊢ 𝓤 _) $ pick ! (λ ws. split ! $ move ! (1 ∷ []) $ heard ! (Said r ws) (λ e.
         move ! (1 ∷ []) $ split ! $ move ! (1 ∷ []) $ peeks ! R.the-row (Is R.the-row) (shows 𝓤 H 𝓐 R.the-row) r (v ∷ []) (λ is. drop ! $
         -- [the other tokens; the last lists; the counts' cell; the open borrow; obs; auth; the locals]

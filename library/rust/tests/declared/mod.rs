@@ -1,4 +1,5 @@
 //! Reads declarations of structs and functions from the texts of C, Rust and Rattle.
+use crate::texts::snake;
 
 /// What is declared: structs with their fields, and functions with their parameters and what they give
 /// back, each as a name and a type in the words of Rust.
@@ -14,18 +15,6 @@ impl Declared {
         self.functions.sort();
         self
     }
-}
-
-/// `RunAnswer` as `run_answer`.
-pub fn snake(name: &str) -> String {
-    let parts = name.chars().map(|c| match c {
-        'A'..='Z' => format!("_{}", c.to_ascii_lowercase()),
-        _ => c.to_string(),
-    });
-    parts
-        .collect::<String>()
-        .trim_start_matches('_')
-        .to_string()
 }
 
 /// The text between two others, and what is behind it.

@@ -3,7 +3,7 @@ use native.Mathlib.Omega.{arith}
 use mathlib.Core.Path.{_≡_, refl, ap, _∙_}
 use Prim.Native.Nat.{_+_, _-_, _%_, _^_, _≤_}
 use Prim.Native.Nat.{ℕ}
-use Rattle.merge.specs.Lent.{part}
+use Rattle.merge_common.specs.Lent.{part}
 use Rattle.block.specs.Block.{sumWords}
 use Rattle.block.proofs.BlockLaws.{one-more}
 use Rattle.block.proofs.check.check_of.Statement.{statement}

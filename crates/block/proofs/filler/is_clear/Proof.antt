@@ -2,7 +2,7 @@
 use native.Mathlib.Omega.{arith}
 use mathlib.Core.Path.{_≡_, _∙_}
 use Prim.Native.Nat.{_+_, _-_, _≤_}
-use Rattle.merge.specs.Lent.{part}
+use Rattle.merge_common.specs.Lent.{part}
 use Rattle.block.specs.Block.{zeros}
 use Rattle.block.proofs.BlockLaws.{zero-byte, other-byte, zeros-end, zeros-start}
 use Rattle.block.proofs.filler.is_clear.Statement.{statement}

@@ -3,7 +3,7 @@ use native.Mathlib.Omega.{arith}
 use mathlib.Core.Path.{_≡_, _∙_}
 use lib.ListN.{length, drop}
 use Prim.Native.Nat.{_+_, _-_, _≤_}
-use Rattle.merge.specs.Lent.{part}
+use Rattle.merge_common.specs.Lent.{part}
 use Rattle.block.specs.Block.{same}
 use Rattle.block.proofs.BlockLaws.{like-byte, unlike-byte, same-end, same-start}
 use Rattle.block.proofs.header.stands.Statement.{statement}

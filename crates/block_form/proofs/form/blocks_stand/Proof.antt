@@ -1,5 +1,6 @@
 -- `block_form::form::blocks_stand` meets its contract. Assumes nothing.
-use Rattle.block_form.proofs.FormLaws.{wrong-count, over-4096, by-each}
+use Rattle.limits.specs.Limits.{mostTerms}
+use Rattle.block_form.proofs.FormLaws.{wrong-count, over-mostTerms, by-each}
 use borrow.Author.Needs.{needs}
 use Rattle.block_form.proofs.form.blocks_stand.Statement.{statement}
 use Rattle.block_form.proofs.form.blocks_stand.Tie as tie
@@ -14,7 +15,7 @@ returns : tie.Need-returns
 returns c = let a = c .before .before .before .before .args in wrong-count (a .s .now) (c .before .before .total-in .result) _ (c .before .before .total-in .ensures) (c .before .block-count .ensures) (c .if1 .taken)
 
 returns-2 : tie.Need-returns-2
-returns-2 c = let a = c .before .before .before .before .before .args in over-4096 (a .s .now) (c .before .before .before .total-in .result) _ (c .before .before .before .total-in .ensures) (c .before .before .block-count .ensures) (c .before .if1 .left) (c .if2 .taken)
+returns-2 c = let a = c .before .before .before .before .before .args in over-mostTerms (a .s .now) (c .before .before .before .total-in .result) _ (c .before .before .before .total-in .ensures) (c .before .before .block-count .ensures) (c .before .if1 .left) (c .if2 .taken)
 
 each-stands-requires : tie.Need-each-stands-requires
 each-stands-requires c κs = search needs

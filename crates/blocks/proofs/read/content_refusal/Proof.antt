@@ -1,9 +1,6 @@
 -- `blocks::read::content_refusal` meets its contract. Assumes nothing.
-use mathlib.Core.Path.{sym, ap, _∙_}
+use mathlib.Core.Path.{sym, _∙_}
 use Rattle.opening.proofs.SettingLaws.{setting-passes}
-use Rattle.polynomial.specs.Opening.{refusalOf}
-use Rattle.monomial.specs.declared.order.Order.{Order}
-use Rattle.blocks.specs.Reading.{firstTerms}
 use Rattle.blocks.proofs.ReadLaws.{stop-setting, stop-terms, stop-room, no-stop}
 use borrow.Author.Needs.{needs}
 use Rattle.blocks.proofs.read.content_refusal.Statement.{statement}
@@ -21,20 +18,17 @@ returns c = let z = c .before .before .before .before in let a = z .args in stop
 total-in-requires : tie.Need-total-in-requires
 total-in-requires c κs = search needs
 
-order-of-requires : tie.Need-order-of-requires
-order-of-requires c κs = search needs
-
 check-terms-requires : tie.Need-check-terms-requires
-check-terms-requires c κs = let z = c .before .before .before .before .before .before in let a = z .args in (setting-passes _ _ _ (sym (c .before .before .before .setting .ensures) ∙ c .before .before .if1 .left) .n-high, rw (c .before .total-in .ensures) (z .pre .lying))
+check-terms-requires c κs = let z = c .before .before .before .before .before in let a = z .args in (setting-passes _ (sym (c .before .before .setting .ensures) ∙ c .before .if1 .left) .n-high, rw (c .total-in .ensures) (z .pre .lying))
 
 returns-2 : tie.Need-returns-2
-returns-2 c = let z = c .before .before .before .before .before .before .before .before in let a = z .args in stop-terms (a .s .now) (a .ow) _ (c .before .before .before .before .before .before .get-setting .ensures) (sym (c .before .before .before .before .before .setting .ensures) ∙ c .before .before .before .before .if1 .left) _ (c .before .before .before .total-in .ensures) _ (c .before .check-terms .ensures ∙ ap (λ (o : Order). refusalOf o (c .before .before .before .before .before .before .get-setting .result .n) (c .before .before .before .before .before .before .get-setting .result .p) (firstTerms (a .s .now) (c .before .before .before .total-in .result))) (c .before .before .order-of .ensures)) (c .if2 .taken)
+returns-2 c = let z = c .before .before .before .before .before .before .before in let a = z .args in stop-terms (a .s .now) (a .ow) _ (c .before .before .before .before .before .get-setting .ensures) (sym (c .before .before .before .before .setting .ensures) ∙ c .before .before .before .if1 .left) _ (c .before .before .total-in .ensures) _ (c .before .check-terms .ensures) (c .if2 .taken)
 
 returns-3 : tie.Need-returns-3
-returns-3 c = let z = c .before .before .before .before .before .before .before .before .before in let a = z .args in stop-room (a .s .now) (a .ow) _ (c .before .before .before .before .before .before .before .get-setting .ensures) (sym (c .before .before .before .before .before .before .setting .ensures) ∙ c .before .before .before .before .before .if1 .left) _ (c .before .before .before .before .total-in .ensures) _ (c .before .before .check-terms .ensures ∙ ap (λ (o : Order). refusalOf o (c .before .before .before .before .before .before .before .get-setting .result .n) (c .before .before .before .before .before .before .before .get-setting .result .p) (firstTerms (a .s .now) (c .before .before .before .before .total-in .result))) (c .before .before .before .order-of .ensures)) (c .before .if2 .left) (c .if3 .taken)
+returns-3 c = let z = c .before .before .before .before .before .before .before .before in let a = z .args in stop-room (a .s .now) (a .ow) _ (c .before .before .before .before .before .before .get-setting .ensures) (sym (c .before .before .before .before .before .setting .ensures) ∙ c .before .before .before .before .if1 .left) _ (c .before .before .before .total-in .ensures) _ (c .before .before .check-terms .ensures) (c .before .if2 .left) (c .if3 .taken)
 
 returns-4 : tie.Need-returns-4
-returns-4 c = let z = c .before .before .before .before .before .before .before .before .before in let a = z .args in no-stop (a .s .now) (a .ow) _ (c .before .before .before .before .before .before .before .get-setting .ensures) (sym (c .before .before .before .before .before .before .setting .ensures) ∙ c .before .before .before .before .before .if1 .left) _ (c .before .before .before .before .total-in .ensures) _ (c .before .before .check-terms .ensures ∙ ap (λ (o : Order). refusalOf o (c .before .before .before .before .before .before .before .get-setting .result .n) (c .before .before .before .before .before .before .before .get-setting .result .p) (firstTerms (a .s .now) (c .before .before .before .before .total-in .result))) (c .before .before .before .order-of .ensures)) (c .before .if2 .left) (c .if3 .left)
+returns-4 c = let z = c .before .before .before .before .before .before .before .before in let a = z .args in no-stop (a .s .now) (a .ow) _ (c .before .before .before .before .before .before .get-setting .ensures) (sym (c .before .before .before .before .before .setting .ensures) ∙ c .before .before .before .before .if1 .left) _ (c .before .before .before .total-in .ensures) _ (c .before .before .check-terms .ensures) (c .before .if2 .left) (c .if3 .left)
 
 pub content-refusal-spec : {M : Type 1} → statement M
 content-refusal-spec =
@@ -44,7 +38,6 @@ content-refusal-spec =
     setting-requires
     returns
     total-in-requires
-    order-of-requires
     check-terms-requires
     returns-2
     returns-3

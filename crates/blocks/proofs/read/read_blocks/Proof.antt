@@ -8,7 +8,8 @@ use Rattle.blocks.specs.Reading.{termsIn, firstTerms}
 use Prim.Native.Nat.{ℕ}
 use lib.Seq.{sets}
 use Rattle.polynomial.specs.Terms.{words, coefs}
-use Rattle.blocks.proofs.ReadLaws.{read-passes, read-refused, read-done}
+use Rattle.opening.proofs.ListedLaws.{is-listed}
+use Rattle.blocks.proofs.ReadLaws.{read-passes, read-numbered, read-refused, read-done}
 use borrow.Author.Needs.{needs}
 use Rattle.blocks.proofs.read.read_blocks.Statement.{statement}
 use Rattle.blocks.proofs.read.read_blocks.Tie as tie
@@ -17,7 +18,7 @@ read-refusal-requires : tie.Need-read-refusal-requires
 read-refusal-requires c κs = search needs
 
 refusal-of-requires : tie.Need-refusal-of-requires
-refusal-of-requires c κs = search needs
+refusal-of-requires c κs = is-listed (c .before .read-refusal .ensures) (read-numbered _ _ _) (c .if1 .taken)
 
 returns : tie.Need-returns
 returns c = let z = c .before .before .before .before .before .before in let a = z .args in rw (c .refusal-of .ensures, ← c .before .before .read-refusal .ensures) (read-refused (c .before .before .read-refusal .result) (settingIn (a .s .now)) (termsIn (a .s .now)) (a .words .now) (a .coefs .now) (c .before .if1 .taken))

@@ -1,39 +1,43 @@
 -- `blocks::terms::check_terms` meets its contract. Assumes nothing.
 use native.Mathlib.Omega.{arith}
 use Prim.Native.Nat.{_-_}
+use borrow.Author.Needs.{needs}
 use Rattle.blocks.proofs.PlaceLaws.{Going, going-start, going-next, going-stop, going-ends, place-fits, place-low}
 use Rattle.blocks.proofs.terms.check_terms.Statement.{statement}
 use Rattle.blocks.proofs.terms.check_terms.Tie as tie
 
 abbrev Inv-loop : tie.InvT-loop
-Inv-loop order n p s total late₀ last₀ at₀ i₀ late last at i = Going order n p s total late last at i
+Inv-loop s total order n p late₀ last₀ at₀ i₀ late last at i = Going order n p s total late last at i
 
 abbrev μ-loop : tie.MeasureT-loop
-μ-loop order n p s total late₀ last₀ at₀ i₀ late last at i = total - i
+μ-loop s total order n p late₀ last₀ at₀ i₀ late last at i = total - i
+
+order-of-requires : tie.Need-order-of-requires Inv-loop μ-loop
+order-of-requires c κs = search needs
 
 loop-holds : tie.Need-loop-holds Inv-loop μ-loop
-loop-holds c = let z = c .before in let a = z .args in going-start (a .order) (a .n) (a .p) (a .s .now) (a .total) 0
+loop-holds c = let a = c .before .before .args in going-start (c .order-of .result) (a .t .n) (a .t .p) (a .s .now) (a .total) 0
 
 get-8-requires : tie.Need-get-8-requires Inv-loop μ-loop
-get-8-requires c κs = let z = c .before .before .before in let a = z .args in omega (arith, place-fits (a .s .now) (a .total) (c .before .loop .i) (z .pre .1) (c .loop-test .taken), c .before .loop .inv .place)
+get-8-requires c κs = let z = c .before .before .before .before in let a = z .args in omega (arith, place-fits (a .s .now) (a .total) (c .before .loop .i) (z .pre .1) (c .loop-test .taken), c .before .loop .inv .place)
 
 add-get-4 : tie.Need-add-get-4 Inv-loop μ-loop
-add-get-4 c = let z = c .before .before .before .before in let a = z .args in omega (arith, place-low (a .s .now) (a .total) (c .before .before .loop .i) (z .pre .1) (c .before .loop-test .taken), c .before .before .loop .inv .place)
+add-get-4 c = let z = c .before .before .before .before .before in let a = z .args in omega (arith, place-low (a .s .now) (a .total) (c .before .before .loop .i) (z .pre .1) (c .before .loop-test .taken), c .before .before .loop .inv .place)
 
 get-4-requires : tie.Need-get-4-requires Inv-loop μ-loop
-get-4-requires c κs = let z = c .before .before .before .before in let a = z .args in omega (arith, place-fits (a .s .now) (a .total) (c .before .before .loop .i) (z .pre .1) (c .before .loop-test .taken), c .before .before .loop .inv .place)
+get-4-requires c κs = let z = c .before .before .before .before .before in let a = z .args in omega (arith, place-fits (a .s .now) (a .total) (c .before .before .loop .i) (z .pre .1) (c .before .loop-test .taken), c .before .before .loop .inv .place)
 
 check-term-requires : tie.Need-check-term-requires Inv-loop μ-loop
 check-term-requires c κs = omega arith
 
 returns : tie.Need-returns Inv-loop μ-loop
-returns c = let h = c .before .before .before .before .before in let a = c .before .before .before .before .before .before .before .args in going-stop (a .order) (a .n) (a .p) (a .s .now) (a .total) (h .loop .late) (h .loop .last) (h .loop .at) (h .loop .i) (h .loop .inv) (c .before .before .before .before .loop-test .taken) _ _ (c .before .before .before .get-8 .ensures) (c .before .before .get-4 .ensures) _ (c .before .check-term .ensures) (c .if1 .taken)
+returns c = let h = c .before .before .before .before .before in let o = h .before .order-of in let a = h .before .before .before .args in rw (← o .ensures) (going-stop (o .result) (a .t .n) (a .t .p) (a .s .now) (a .total) (h .loop .late) (h .loop .last) (h .loop .at) (h .loop .i) (h .loop .inv) (c .before .before .before .before .loop-test .taken) _ _ (c .before .before .before .get-8 .ensures) (c .before .before .get-4 .ensures) _ (c .before .check-term .ensures) (c .if1 .taken))
 
 check-step-requires : tie.Need-check-step-requires Inv-loop μ-loop
 check-step-requires c κs = tt
 
 next-place-requires : tie.Need-next-place-requires Inv-loop μ-loop
-next-place-requires c κs = let z = c .before .before .before .before .before .before .before .before in let a = z .args in omega (arith, place-low (a .s .now) (a .total) (c .before .before .before .before .before .before .loop .i) (z .pre .1) (c .before .before .before .before .before .loop-test .taken), c .before .before .before .before .before .before .loop .inv .place)
+next-place-requires c κs = let z = c .before .before .before .before .before .before .before .before .before in let a = z .args in omega (arith, place-low (a .s .now) (a .total) (c .before .before .before .before .before .before .loop .i) (z .pre .1) (c .before .before .before .before .before .loop-test .taken), c .before .before .before .before .before .before .loop .inv .place)
 
 add-i : tie.Need-add-i Inv-loop μ-loop
 add-i c = omega arith
@@ -42,10 +46,10 @@ loop-less : tie.Need-loop-less Inv-loop μ-loop
 loop-less c = omega arith
 
 loop-again : tie.Need-loop-again Inv-loop μ-loop
-loop-again c = let h = c .before .before .before .before .before .before .before in let a = c .before .before .before .before .before .before .before .before .before .args in going-next (a .order) (a .n) (a .p) (a .s .now) (a .total) (h .loop .late) (h .loop .last) (h .loop .at) (h .loop .i) (h .loop .inv) (c .before .before .before .before .before .before .loop-test .taken) _ _ (c .before .before .before .before .before .get-8 .ensures) (c .before .before .before .before .get-4 .ensures) _ _ _ (c .before .before .before .check-term .ensures) (c .before .before .if1 .left) (c .before .check-step .ensures) (c .next-place .ensures)
+loop-again c = let h = c .before .before .before .before .before .before .before in let a = h .before .before .before .args in going-next (h .before .order-of .result) (a .t .n) (a .t .p) (a .s .now) (a .total) (h .loop .late) (h .loop .last) (h .loop .at) (h .loop .i) (h .loop .inv) (c .before .before .before .before .before .before .loop-test .taken) _ _ (c .before .before .before .before .before .get-8 .ensures) (c .before .before .before .before .get-4 .ensures) _ _ _ (c .before .before .before .check-term .ensures) (c .before .before .if1 .left) (c .before .check-step .ensures) (c .next-place .ensures)
 
 returns-2 : tie.Need-returns-2 Inv-loop μ-loop
-returns-2 c = let h = c .before in let a = c .before .before .before .args in going-ends (a .order) (a .n) (a .p) (a .s .now) (a .total) (h .loop .late) (h .loop .last) (h .loop .at) (h .loop .i) (h .loop .inv) (c .loop-test .left)
+returns-2 c = let h = c .before in let o = h .before .order-of in let a = h .before .before .before .args in rw (← o .ensures) (going-ends (o .result) (a .t .n) (a .t .p) (a .s .now) (a .total) (h .loop .late) (h .loop .last) (h .loop .at) (h .loop .i) (h .loop .inv) (c .loop-test .left))
 
 pub check-terms-spec : {M : Type 1} → statement M
 check-terms-spec =
@@ -53,6 +57,7 @@ check-terms-spec =
     (tie.spec
     Inv-loop
     μ-loop
+    order-of-requires
     loop-holds
     get-8-requires
     add-get-4

@@ -2,9 +2,10 @@
 use native.Mathlib.Omega.{arith}
 use mathlib.Core.Path.{sym, _∙_}
 use lib.ListN.{length}
+use Rattle.polynomial.specs.Settings.{settingOf}
 use Rattle.polynomial.specs.Terms.{terms}
-use Rattle.blocks.specs.Outcome.{settingOf}
-use Rattle.blocks.proofs.WriteLaws.{write-passes, write-refused, write-done}
+use Rattle.opening.proofs.ListedLaws.{is-listed}
+use Rattle.blocks.proofs.WriteLaws.{write-passes, write-numbered, write-refused, write-done}
 use borrow.Author.Needs.{needs}
 use Rattle.blocks.proofs.write.write_blocks.Statement.{statement}
 use Rattle.blocks.proofs.write.write_blocks.Tie as tie
@@ -13,7 +14,7 @@ write-refusal-requires : tie.Need-write-refusal-requires
 write-refusal-requires c κs = search needs
 
 refusal-of-requires : tie.Need-refusal-of-requires
-refusal-of-requires c κs = search needs
+refusal-of-requires c κs = is-listed (c .before .write-refusal .ensures) (write-numbered _ _ _ _) (c .if1 .taken)
 
 returns : tie.Need-returns
 returns c = let z = c .before .before .before .before .before .before in let a = z .args in rw (c .refusal-of .ensures, ← c .before .before .write-refusal .ensures) (write-refused (c .before .before .write-refusal .result) (settingOf (a .p) (a .order) (a .n)) (terms (a .words .now) (a .coefs .now)) (a .s .now) (c .before .if1 .taken))

@@ -1,15 +1,11 @@
 -- `buckets::sum::full_sum` meets its contract. Assumes nothing.
-use mathlib.Core.Path.{_≡_}
-use mathlib.Core.List.{List}
-use Prim.Native.Nat.{ℕ, _+_, _-_, _<_, _≤_}
+use mathlib.Core.Path.{sym, _∙_}
+use Prim.Native.Nat.{_+_, _-_, _<_, _≤_}
 use native.Mathlib.Omega.{arith}
 use borrow.Author.Needs.{needs}
-use denote.Ref.{now}
-use lib.ListN.{length, take, drop}
+use Rattle.limits.specs.Limits.{bucketPlaces}
 use Rattle.monomial.specs.Words.{compareWords}
 use Rattle.monomial.proofs.OrderLaws.{words-order}
-use Rattle.space.specs.Space.{headAt, lenAt, rowAt}
-use Rattle.space.proofs.SpaceLaws.{part-to}
 use Rattle.buckets.proofs.WorkLaws.{to-work}
 use Rattle.buckets.proofs.SumLaws.{Sums, sums-start, sums-end, sum-end, sum-none, within, next-count, sum-next}
 use Rattle.buckets.proofs.sum.full_sum.Statement.{statement}
@@ -26,40 +22,25 @@ abbrev Turn : Type 0
 Turn = tie.Else1 Inv-loop μ-loop
 
 abbrev head : Turn → tie.At-loop Inv-loop μ-loop
-head t = t .before .before .before .before
+head t = t .before .before .before .before .before .before
 
 abbrev entry : Turn → tie.Start Inv-loop μ-loop
-entry t = head t .before .before .before .before .before .before
+entry t = t .before .before .before .before .before .before .before .before .before .before .before .before
 
 abbrev in-six : (t : Turn) → head t .loop .i < 6
-in-six t = t .before .before .before .loop-test .taken
+in-six t = t .before .before .before .before .before .loop-test .taken
 
-end : (t : Turn) → headAt (entry t .args .b .now) (head t .loop .i) + lenAt (entry t .args .b .now) (head t .loop .i) ≤ 5460
-end t = sum-end (head t .loop .inv) (in-six t)
-
-row : (t : Turn) (s : List ℕ)
-    → let h = headAt (entry t .args .b .now) (head t .loop .i) in
-    let n = lenAt (entry t .args .b .now) (head t .loop .i) in
-    take (h + n - h) (drop h s) ≡ rowAt (entry t .args .b .now) s (head t .loop .i)
-row t s = part-to (headAt (entry t .args .b .now) (head t .loop .i)) (lenAt (entry t .args .b .now) (head t .loop .i)) s
+end : (t : Turn) → t .before .before .before .head-of .result + t .before .len-of .result ≤ bucketPlaces
+end t = sum-end (head t .loop .inv) (in-six t) (t .before .before .before .head-of .ensures) (t .before .len-of .ensures)
 
 loop-holds : tie.Need-loop-holds Inv-loop μ-loop
 loop-holds c = sums-start (c .before .before .before .before .before .pre)
 
-mul-h : tie.Need-mul-h Inv-loop μ-loop
-mul-h c = search needs
+head-of-requires : tie.Need-head-of-requires Inv-loop μ-loop
+head-of-requires c κs = (c .before .before .before .before .before .before .before .before .pre .stands .laid .twelve, c .before .loop-test .taken)
 
-slice-read-h : tie.Need-slice-read-h Inv-loop μ-loop
-slice-read-h c = omega (arith, c .before .loop-test .taken, c .before .before .before .before .before .before .before .before .pre .stands .laid .twelve)
-
-add-l : tie.Need-add-l Inv-loop μ-loop
-add-l c = search needs
-
-mul-l : tie.Need-mul-l Inv-loop μ-loop
-mul-l c = search needs
-
-slice-read-l : tie.Need-slice-read-l Inv-loop μ-loop
-slice-read-l c = omega (arith, c .before .before .loop-test .taken, c .before .before .before .before .before .before .before .before .before .pre .stands .laid .twelve)
+len-of-requires : tie.Need-len-of-requires Inv-loop μ-loop
+len-of-requires c κs = (c .before .before .before .before .before .before .before .before .before .before .pre .stands .laid .twelve, c .before .before .before .loop-test .taken)
 
 add-i : tie.Need-add-i Inv-loop μ-loop
 add-i c = search needs
@@ -68,7 +49,7 @@ loop-less : tie.Need-loop-less Inv-loop μ-loop
 loop-less c = search needs
 
 loop-again : tie.Need-loop-again Inv-loop μ-loop
-loop-again c = sum-none (c .before .before .before .before .loop .inv) (c .before .before .before .loop-test .taken) (c .if1 .taken)
+loop-again c = sum-none (c .before .before .before .before .before .before .loop .inv) (c .before .before .before .before .before .loop-test .taken) (sym (c .before .len-of .ensures) ∙ c .if1 .taken)
 
 add-e : tie.Need-add-e Inv-loop μ-loop
 add-e c = omega (arith, end c)
@@ -101,10 +82,10 @@ part-merge-within-end-2 : tie.Need-part-merge-within-end-2 Inv-loop μ-loop
 part-merge-within-end-2 c = omega (arith, end (c .before .before .before), head (c .before .before .before) .loop .inv .stands .coefs-long)
 
 merge-within-requires : tie.Need-merge-within-requires Inv-loop μ-loop
-merge-within-requires c κs = let t = (c .before .before .before .before) in within (head t .loop .inv) (in-six t) (row t (now (entry t .args .sw))) (row t (now (entry t .args .sc)))
+merge-within-requires c κs = let t = c .before .before .before .before in within (head t .loop .inv) (in-six t) (t .before .before .before .head-of .ensures) (t .before .len-of .ensures)
 
 add-n : tie.Need-add-n Inv-loop μ-loop
-add-n c = let t = (c .before .before .before .before .before .before .before .before .before .before) in omega (arith, next-count (head t .loop .inv) (in-six t) (row t (now (entry t .args .sw))) (row t (now (entry t .args .sc))) (c .before .before .before .before .before .merge-within .ensures))
+add-n c = let t = c .before .before .before .before .before .before .before .before .before .before in omega (arith, next-count (head t .loop .inv) (in-six t) (t .before .before .before .head-of .ensures) (t .before .len-of .ensures) (c .before .before .before .before .before .merge-within .ensures))
 
 add-i-2 : tie.Need-add-i-2 Inv-loop μ-loop
 add-i-2 c = search needs
@@ -113,7 +94,7 @@ loop-less-2 : tie.Need-loop-less-2 Inv-loop μ-loop
 loop-less-2 c = search needs
 
 loop-again-2 : tie.Need-loop-again-2 Inv-loop μ-loop
-loop-again-2 c = let t = (c .before .before .before .before .before .before .before .before .before .before) in sum-next (head t .loop .inv) (in-six t) (row t (now (entry t .args .sw))) (row t (now (entry t .args .sc))) (c .before .before .before .before .before .merge-within .ensures) (words-order (entry t .args .order))
+loop-again-2 c = let t = c .before .before .before .before .before .before .before .before .before .before in sum-next (head t .loop .inv) (in-six t) (t .before .before .before .head-of .ensures) (t .before .len-of .ensures) (c .before .before .before .before .before .merge-within .ensures) (words-order (entry t .args .order))
 
 clear-requires : tie.Need-clear-requires Inv-loop μ-loop
 clear-requires c κs = c .before .before .before .before .before .before .before .before .pre .stands .laid .twelve
@@ -137,11 +118,8 @@ full-sum-spec =
     Inv-loop
     μ-loop
     loop-holds
-    mul-h
-    slice-read-h
-    add-l
-    mul-l
-    slice-read-l
+    head-of-requires
+    len-of-requires
     add-i
     loop-less
     loop-again

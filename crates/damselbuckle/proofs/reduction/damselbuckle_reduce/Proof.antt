@@ -41,16 +41,18 @@ use denote.Triple.Clauses.{Lasts, ensured, lasts}
 use denote.Triple.Table.{entered, cited}
 use denote.Triple.Walked.{says, Stays, stay-ref, walkOf, AllGo, goes-ref, Walks, ends-at, walked, walk-meets}
 use Rattle.reductions.specs.Outcome.{reductionOutcome}
-use Rattle.damselbuckle.specs.Reductions.{ReductionResult, resultOf}
-use Rattle.runs.specs.declared.Tally.{Tally}
-use Rattle.damselbuckle.specs.declared.reduction.ReductionNumbers.{ReductionNumbers}
-use Rattle.runs.proofs.Said.{rest-of, all-said, all-go}
-use Rattle.damselbuckle.proofs.reduction.ReductionAnswer as A
-use Rattle.damselbuckle.proofs.reduction.ReductionAnswer.Laws as A′
-use Rattle.runs.proofs.Tally as T
-use Rattle.runs.proofs.Tally.Laws as T′
-use Rattle.damselbuckle.proofs.reduction.ReductionNumbers as R
-use Rattle.damselbuckle.proofs.reduction.ReductionNumbers.Laws as R′
+use Rattle.answers.specs.Course.{reductionStated}
+use Rattle.call.specs.Answers.{Outcome}
+use Rattle.polynomial.specs.Settings.{settingOf}
+use Rattle.call.specs.declared.answer.Tally.{Tally}
+use Rattle.answers.specs.declared.course.ReductionNumbers.{ReductionNumbers}
+use Rattle.call.proofs.Said.{rest-of, all-said, all-go}
+use Rattle.answers.proofs.course.ReductionAnswer as A
+use Rattle.answers.proofs.course.ReductionAnswer.Laws as A′
+use Rattle.call.proofs.answer.Tally as T
+use Rattle.call.proofs.answer.Tally.Laws as T′
+use Rattle.answers.proofs.course.ReductionNumbers as R
+use Rattle.answers.proofs.course.ReductionNumbers.Laws as R′
 use Rattle.damselbuckle.proofs.reduction.reduction_numbers as core
 use Rattle.damselbuckle.proofs.reduction.reduction_numbers.Symbol as core-def
 use Rattle.damselbuckle.proofs.reduction.reduction_numbers.Symbol.{name as #damselbuckle·reduction·reduction-numbers}
@@ -104,7 +106,7 @@ module _ {M : Type 1} (𝓤 : URA M) (H : Heap 𝓤) (𝓐 : Atoms 𝓤) (W : Gi
       owned ! T.the-row (Is T.the-row) (LL.makes T.the-type T′.the-plain 𝓤 H 𝓐) h _ is $ move ! (0 ∷ 2 ∷ []) $ fjoin ! $ move ! (1 ∷ 0 ∷ []) $ join ! $ frame ! $ done !
 
   abbrev Said : ReductionNumbers → Lasts core.ended κs (h, rest) → Type 0
-  Said r ws = _≡_ {A = ReductionResult} (record { answer = r .answer; tally = r .tally; bw = ws .1 .1 .1 .1 .1 .1 .1 .1 .0; bc = ws .1 .1 .1 .1 .1 .1 .1 .1 .1 .0; ww = ws .1 .1 .1 .1 .1 .1 .1 .1 .1 .1 .0; wc = ws .1 .1 .1 .1 .1 .1 .1 .1 .1 .1 .1 .0; ow = ws .1 .1 .1 .1 .1 .1 .1 .1 .1 .1 .1 .1 .0; oc = ws .1 .1 .1 .1 .1 .1 .1 .1 .1 .1 .1 .1 .1 .0 }) (resultOf (reductionOutcome h p order n (words .now) (coefs .now) (starts .now) limit (bw .now) (bc .now) (ww .now) (wc .now) (ow .now) (oc .now)))
+  Said r ws = _≡_ {A = Outcome} (record { answer = reductionStated (r .answer); tally = r .tally; bw = ws .1 .1 .1 .1 .1 .1 .1 .1 .0; bc = ws .1 .1 .1 .1 .1 .1 .1 .1 .1 .0; ww = ws .1 .1 .1 .1 .1 .1 .1 .1 .1 .1 .0; wc = ws .1 .1 .1 .1 .1 .1 .1 .1 .1 .1 .1 .0; ow = ws .1 .1 .1 .1 .1 .1 .1 .1 .1 .1 .1 .1 .0; oc = ws .1 .1 .1 .1 .1 .1 .1 .1 .1 .1 .1 .1 .1 .0 }) (reductionOutcome h (settingOf p order n) (words .now) (coefs .now) (starts .now) limit (bw .now) (bc .now) (ww .now) (wc .now) (ow .now) (oc .now))
 
   -- what the result's two fields are known to be
   parts : (r : ReductionNumbers) (v : Val) → Is R.the-row r (v ∷ []) → Is A.the-row (r .answer) (LL.vals A.the-type A′.the-laws (r .answer)) × Is T.the-row (r .tally) (LL.vals T.the-type T′.the-laws (r .tally))

@@ -7,8 +7,8 @@ use Rattle.damselbuckle.proofs.reduction.reduction_numbers.Tie as tie
 reduce-requires : tie.Need-reduce-requires
 reduce-requires c κs = search needs
 
-numbers-requires : tie.Need-numbers-requires
-numbers-requires c κs = search needs
+of-reduction-requires : tie.Need-of-reduction-requires
+of-reduction-requires c κs = search needs
 
 same-length : tie.Need-same-length
 same-length c = search needs
@@ -29,14 +29,14 @@ same-length-6 : tie.Need-same-length-6
 same-length-6 c = search needs
 
 returns : tie.Need-returns
-returns c = N.reduced (c .before .before .before .before .before .before .before .before .before .before .before .before .before .reduce .ensures) (c .numbers .ensures)
+returns c = N.numbered (c .before .before .before .before .before .before .before .before .before .before .before .before .before .reduce .ensures) (c .of-reduction .ensures)
 
 pub reduction-numbers-spec : {M : Type 1} → statement M
 reduction-numbers-spec =
     tie.close
     (tie.spec
     reduce-requires
-    numbers-requires
+    of-reduction-requires
     same-length
     same-length-2
     same-length-3

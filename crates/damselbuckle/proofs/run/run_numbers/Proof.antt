@@ -7,8 +7,8 @@ use Rattle.damselbuckle.proofs.run.run_numbers.Tie as tie
 run-requires : tie.Need-run-requires
 run-requires c κs = search needs
 
-numbers-requires : tie.Need-numbers-requires
-numbers-requires c κs = search needs
+of-run-requires : tie.Need-of-run-requires
+of-run-requires c κs = search needs
 
 same-length : tie.Need-same-length
 same-length c = search needs
@@ -29,14 +29,14 @@ same-length-6 : tie.Need-same-length-6
 same-length-6 c = search needs
 
 returns : tie.Need-returns
-returns c = N.ran (c .before .before .before .before .before .before .before .before .before .before .before .before .before .run .ensures) (c .numbers .ensures)
+returns c = N.numbered (c .before .before .before .before .before .before .before .before .before .before .before .before .before .run .ensures) (c .of-run .ensures)
 
 pub run-numbers-spec : {M : Type 1} → statement M
 run-numbers-spec =
     tie.close
     (tie.spec
     run-requires
-    numbers-requires
+    of-run-requires
     same-length
     same-length-2
     same-length-3

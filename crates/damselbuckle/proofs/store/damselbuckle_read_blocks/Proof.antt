@@ -1,5 +1,4 @@
 -- `damselbuckle::store::damselbuckle_read_blocks` meets its contract. Assumes nothing.
-use Rattle.damselbuckle.proofs.Numbering as N
 use borrow.Author.Needs.{needs}
 use Rattle.damselbuckle.proofs.store.damselbuckle_read_blocks.Statement.{statement}
 use Rattle.damselbuckle.proofs.store.damselbuckle_read_blocks.Tie as tie
@@ -7,8 +6,8 @@ use Rattle.damselbuckle.proofs.store.damselbuckle_read_blocks.Tie as ti
 read-blocks-requires : tie.Need-read-blocks-requires
 read-blocks-requires c κs = search needs
 
-read-requires : tie.Need-read-requires
-read-requires c κs = search needs
+of-reading-requires : tie.Need-of-reading-requires
+of-reading-requires c κs = search needs
 
 same-length : tie.Need-same-length
 same-length c = search needs
@@ -17,8 +16,8 @@ same-length-2 : tie.Need-same-length-2
 same-length-2 c = search needs
 
 returns : tie.Need-returns
-returns c = N.read (c .before .before .before .before .before .read-blocks .ensures) (c .read .ensures)
+returns c = rw (c .of-reading .ensures) (c .before .before .before .before .before .read-blocks .ensures)
 
 pub damselbuckle-read-blocks-spec : {M : Type 1} → statement M
 damselbuckle-read-blocks-spec =
-    tie.close (tie.spec read-blocks-requires read-requires same-length same-length-2 returns)
+    tie.close (tie.spec read-blocks-requires of-reading-requires same-length same-length-2 returns)

@@ -1,5 +1,4 @@
 -- `damselbuckle::store::damselbuckle_write_blocks` meets its contract. Assumes nothing.
-use Rattle.damselbuckle.proofs.Numbering as N
 use borrow.Author.Needs.{needs}
 use Rattle.damselbuckle.proofs.store.damselbuckle_write_blocks.Statement.{statement}
 use Rattle.damselbuckle.proofs.store.damselbuckle_write_blocks.Tie as tie
@@ -7,15 +6,15 @@ use Rattle.damselbuckle.proofs.store.damselbuckle_write_blocks.Tie as t
 write-blocks-requires : tie.Need-write-blocks-requires
 write-blocks-requires c κs = search needs
 
-written-requires : tie.Need-written-requires
-written-requires c κs = search needs
+of-writing-requires : tie.Need-of-writing-requires
+of-writing-requires c κs = search needs
 
 same-length : tie.Need-same-length
 same-length c = search needs
 
 returns : tie.Need-returns
-returns c = N.written (c .before .before .before .write-blocks .ensures) (c .written .ensures)
+returns c = rw (c .of-writing .ensures) (c .before .before .before .write-blocks .ensures)
 
 pub damselbuckle-write-blocks-spec : {M : Type 1} → statement M
 damselbuckle-write-blocks-spec =
-    tie.close (tie.spec write-blocks-requires written-requires same-length returns)
+    tie.close (tie.spec write-blocks-requires of-writing-requires same-length returns)

@@ -1,13 +1,7 @@
 -- `engine::operations::lead_operation` meets its contract. Assumes nothing.
-use mathlib.Core.Path.{_≡_, sym, ap, ap₂, _∙_}
-use mathlib.Core.List.{List}
-use Prim.Native.Nat.{ℕ, _+_, _-_, _<_, _≤_}
 use native.Mathlib.Omega.{arith}
 use borrow.Author.Needs.{needs}
-use denote.Ref.{now}
-use lib.ListN.{length}
 use Rattle.monomial.proofs.OrderLaws.{words-order}
-use Rattle.space.specs.Space.{heldIn}
 use Rattle.engine.proofs.OperationLaws.{lead-refused, lead-operated}
 use Rattle.engine.proofs.operations.lead_operation.Statement.{statement}
 use Rattle.engine.proofs.operations.lead_operation.Tie as tie
@@ -33,20 +27,17 @@ mul-oc c = search needs
 slice-write-oc : tie.Need-slice-write-oc
 slice-write-oc c = search needs
 
-add-t19 : tie.Need-add-t19
-add-t19 c = search needs
+compare-requires : tie.Need-compare-requires
+compare-requires c κs = search needs
 
 not-zero-requires : tie.Need-not-zero-requires
 not-zero-requires c κs = search needs
 
-add-t21 : tie.Need-add-t21
-add-t21 c = search needs
+give-requires : tie.Need-give-requires
+give-requires c κs = rw (c .before .compare .ensures) (omega (arith, c .before .before .before .before .before .before .before .before .before .before .before .before .before .before .before .pre .0 .some-given, c .before .before .before .before .before .before .before .before .before .before .before .before .before .before .before .pre .2, c .not-zero .ensures .1), omega (arith, c .before .before .before .before .before .before .before .before .before .if1 .left, c .before .before .before .before .before .before .before .before .before .before .before .before .before .before .before .good))
 
-add-t22 : tie.Need-add-t22
-add-t22 c = omega (arith, c .before .before .before .before .before .before .before .before .before .before .before .if1 .left, c .before .before .before .before .before .before .before .before .before .before .before .before .before .before .before .before .before .good)
-
-add-t23 : tie.Need-add-t23
-add-t23 c = search needs
+finish-requires : tie.Need-finish-requires
+finish-requires c κs = rw (c .give .ensures, c .before .before .compare .ensures) (omega (arith, c .before .before .before .before .before .before .before .before .before .before .before .before .before .before .before .before .pre .2))
 
 same-length : tie.Need-same-length
 same-length c = search needs
@@ -61,7 +52,7 @@ same-length-4 : tie.Need-same-length-4
 same-length-4 c = search needs
 
 returns-2 : tie.Need-returns-2
-returns-2 c = lead-operated (c .before .before .before .before .before .before .before .before .before .before .before .before .before .before .before .before .before .before .pre .0) (c .before .before .before .before .before .before .before .before .before .before .before .before .before .before .before .before .before .before .pre .1) (c .before .before .before .before .before .before .before .before .before .before .before .before .if1 .left) (words-order (c .before .before .before .before .before .before .before .before .before .before .before .before .before .before .before .before .before .before .args .order)) (c .before .before .before .before .before .before .before .before .before .take-lead .ensures) (c .before .before .before .before .before .before .before .before .before .before .before .before .before .before .before .before .before .before .pre .2) (c .before .before .not-zero .ensures .0) (c .before .before .not-zero .ensures .1)
+returns-2 c = rw (c .finish .ensures, c .before .give .ensures, c .before .before .before .compare .ensures) (lead-operated (c .before .before .before .before .before .before .before .before .before .before .before .before .before .before .before .before .before .pre .0) (c .before .before .before .before .before .before .before .before .before .before .before .before .before .before .before .before .before .pre .1) (c .before .before .before .before .before .before .before .before .before .before .before .if1 .left) (words-order (c .before .before .before .before .before .before .before .before .before .before .before .before .before .before .before .before .before .args .order)) (c .before .before .before .before .before .before .before .before .take-lead .ensures) (c .before .before .before .before .before .before .before .before .before .before .before .before .before .before .before .before .before .pre .2) (c .before .before .not-zero .ensures .0) (c .before .before .not-zero .ensures .1))
 
 pub lead-operation-spec : {M : Type 1} → statement M
 lead-operation-spec =
@@ -74,11 +65,10 @@ lead-operation-spec =
     slice-write-ow
     mul-oc
     slice-write-oc
-    add-t19
+    compare-requires
     not-zero-requires
-    add-t21
-    add-t22
-    add-t23
+    give-requires
+    finish-requires
     same-length
     same-length-2
     same-length-3

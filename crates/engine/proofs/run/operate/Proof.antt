@@ -1,6 +1,7 @@
 -- `engine::run::operate` meets its contract. Assumes nothing.
 use borrow.Author.Needs.{needs}
-use Rattle.engine.proofs.RunLaws.{words-there, coefs-there, addend, one-operated, two-operated, three-operated}
+use borrow.Author.Tests.{eq-eqb, ne-eqb}
+use Rattle.engine.proofs.RunLaws.{words-there, coefs-there, addend, one-operated}
 use Rattle.engine.proofs.run.operate.Statement.{statement}
 use Rattle.engine.proofs.run.operate.Tie as tie
 
@@ -50,7 +51,7 @@ same-length-10 : tie.Need-same-length-10
 same-length-10 c = search needs
 
 returns-2 : tie.Need-returns-2
-returns-2 c = two-operated (c .before .before .before .before .before .before .before .before .before .before .before .before .before .before .before .before .before .before .before .before .before .before .before .before .before .before .pre) (c .before .before .before .before .before .before .before .before .before .before .before .before .before .before .before .if1 .left) (c .before .before .before .before .before .before .before .before .before .before .before .before .before .before .if2 .taken) (c .before .before .before .before .before .before .before .before .lead-operation .ensures)
+returns-2 c = rw (ne-eqb (c .before .before .before .before .before .before .before .before .before .before .before .before .before .before .before .before .before .before .before .before .before .before .before .before .before .before .args .code) 1 (c .before .before .before .before .before .before .before .before .before .before .before .before .before .before .before .if1 .left), eq-eqb (c .before .before .before .before .before .before .before .before .before .before .before .before .before .before .before .before .before .before .before .before .before .before .before .before .before .before .args .code) 2 (c .before .before .before .before .before .before .before .before .before .before .before .before .before .before .if2 .taken)) (c .before .before .before .before .before .before .before .before .lead-operation .ensures)
 
 sum-operation-requires : tie.Need-sum-operation-requires
 sum-operation-requires c κs = (c .before .before .before .before .before .before .before .before .before .before .before .before .before .before .before .before .before .before .before .pre .counting, c .before .before .before .before .before .before .before .before .before .before .before .before .before .before .before .before .before .before .before .pre .work, c .before .before .before .before .before .before .before .before .before .before .before .before .before .before .before .before .before .before .before .pre .output, c .before .before .before .before .before .before .before .before .before .before .before .before .before .before .before .before .before .before .before .pre .more)
@@ -77,7 +78,7 @@ same-length-17 : tie.Need-same-length-17
 same-length-17 c = search needs
 
 returns-3 : tie.Need-returns-3
-returns-3 c = three-operated (c .before .before .before .before .before .before .before .before .before .before .before .before .before .before .before .before .before .before .before .before .before .before .before .before .before .before .before .before .before .before .pre) (c .before .before .before .before .before .before .before .before .before .before .before .before .before .before .before .before .before .before .before .if1 .left) (c .before .before .before .before .before .before .before .before .before .before .before .before .before .before .before .before .before .before .if2 .left) (c .before .before .before .before .before .before .before .before .before .before .sum-operation .ensures)
+returns-3 c = rw (ne-eqb (c .before .before .before .before .before .before .before .before .before .before .before .before .before .before .before .before .before .before .before .before .before .before .before .before .before .before .before .before .before .before .args .code) 1 (c .before .before .before .before .before .before .before .before .before .before .before .before .before .before .before .before .before .before .before .if1 .left), ne-eqb (c .before .before .before .before .before .before .before .before .before .before .before .before .before .before .before .before .before .before .before .before .before .before .before .before .before .before .before .before .before .before .args .code) 2 (c .before .before .before .before .before .before .before .before .before .before .before .before .before .before .before .before .before .before .if2 .left)) (c .before .before .before .before .before .before .before .before .before .before .sum-operation .ensures)
 
 pub operate-spec : {M : Type 1} → statement M
 operate-spec =

@@ -1,3 +1,4 @@
+use Rattle.limits.specs.Limits.{scriptNumbers, scriptTerms}
 use Rattle.listing.proofs.SizeLaws.{prefix-in}
 use Rattle.listing.proofs.SizeLaws.{bad-listing, good-read, good-listing, prefix-long, prefix-most}
 use native.Mathlib.Omega.{arith}
@@ -47,19 +48,19 @@ mul-m c = omega (arith, (good-read (c .before .before .before .before .before .b
 
 -- src/whole.rt:103:25
 array-share-prefix-words : tie.Need-array-share-prefix-words
-array-share-prefix-words c = prefix-in (c .before .before .before .before .found .given .0 .0 .counts .terms) 4096 (c .before .before .before .before .before .before .before .before .before .before .read-script .last .1 .0) ((good-read (c .before .before .before .before .before .before .before .before .before .before .read-script .ensures) refl refl refl refl (c .before .before .before .before .found .given .0 .0) (c .before .before .before .before .found .given .1)) .terms-in) ((good-read (c .before .before .before .before .before .before .before .before .before .before .read-script .ensures) refl refl refl refl (c .before .before .before .before .found .given .0 .0) (c .before .before .before .before .found .given .1)) .words-long)
+array-share-prefix-words c = prefix-in (c .before .before .before .before .found .given .0 .0 .counts .terms) scriptTerms (c .before .before .before .before .before .before .before .before .before .before .read-script .last .1 .0) ((good-read (c .before .before .before .before .before .before .before .before .before .before .read-script .ensures) refl refl refl refl (c .before .before .before .before .found .given .0 .0) (c .before .before .before .before .found .given .1)) .terms-in) ((good-read (c .before .before .before .before .before .before .before .before .before .before .read-script .ensures) refl refl refl refl (c .before .before .before .before .found .given .0 .0) (c .before .before .before .before .found .given .1)) .words-long)
 
 -- src/whole.rt:103:25
 slice-aggregate-list-run : tie.Need-slice-aggregate-list-run
-slice-aggregate-list-run c = prefix-long (c .before .before .before .before .before .found .given .0 .0 .counts .terms) 4096 (c .before .before .before .before .before .before .before .before .before .before .before .read-script .last .1 .0) ((good-read (c .before .before .before .before .before .before .before .before .before .before .before .read-script .ensures) refl refl refl refl (c .before .before .before .before .before .found .given .0 .0) (c .before .before .before .before .before .found .given .1)) .terms-in) ((good-read (c .before .before .before .before .before .before .before .before .before .before .before .read-script .ensures) refl refl refl refl (c .before .before .before .before .before .found .given .0 .0) (c .before .before .before .before .before .found .given .1)) .words-long)
+slice-aggregate-list-run c = prefix-long (c .before .before .before .before .before .found .given .0 .0 .counts .terms) scriptTerms (c .before .before .before .before .before .before .before .before .before .before .before .read-script .last .1 .0) ((good-read (c .before .before .before .before .before .before .before .before .before .before .before .read-script .ensures) refl refl refl refl (c .before .before .before .before .before .found .given .0 .0) (c .before .before .before .before .before .found .given .1)) .terms-in) ((good-read (c .before .before .before .before .before .before .before .before .before .before .before .read-script .ensures) refl refl refl refl (c .before .before .before .before .before .found .given .0 .0) (c .before .before .before .before .before .found .given .1)) .words-long)
 
 -- src/whole.rt:103:38
 array-share-prefix-coefs : tie.Need-array-share-prefix-coefs
-array-share-prefix-coefs c = prefix-in (c .before .before .before .before .before .found .given .0 .0 .counts .terms) 4096 (c .before .before .before .before .before .before .before .before .before .before .before .read-script .last .1 .1 .0) ((good-read (c .before .before .before .before .before .before .before .before .before .before .before .read-script .ensures) refl refl refl refl (c .before .before .before .before .before .found .given .0 .0) (c .before .before .before .before .before .found .given .1)) .terms-in) ((good-read (c .before .before .before .before .before .before .before .before .before .before .before .read-script .ensures) refl refl refl refl (c .before .before .before .before .before .found .given .0 .0) (c .before .before .before .before .before .found .given .1)) .coefs-long)
+array-share-prefix-coefs c = prefix-in (c .before .before .before .before .before .found .given .0 .0 .counts .terms) scriptTerms (c .before .before .before .before .before .before .before .before .before .before .before .read-script .last .1 .1 .0) ((good-read (c .before .before .before .before .before .before .before .before .before .before .before .read-script .ensures) refl refl refl refl (c .before .before .before .before .before .found .given .0 .0) (c .before .before .before .before .before .found .given .1)) .terms-in) ((good-read (c .before .before .before .before .before .before .before .before .before .before .before .read-script .ensures) refl refl refl refl (c .before .before .before .before .before .found .given .0 .0) (c .before .before .before .before .before .found .given .1)) .coefs-long)
 
 -- src/whole.rt:103:38
 slice-aggregate-list-run-2 : tie.Need-slice-aggregate-list-run-2
-slice-aggregate-list-run-2 c = prefix-long (c .before .before .before .before .before .before .found .given .0 .0 .counts .terms) 4096 (c .before .before .before .before .before .before .before .before .before .before .before .before .read-script .last .1 .1 .0) ((good-read (c .before .before .before .before .before .before .before .before .before .before .before .before .read-script .ensures) refl refl refl refl (c .before .before .before .before .before .before .found .given .0 .0) (c .before .before .before .before .before .before .found .given .1)) .terms-in) ((good-read (c .before .before .before .before .before .before .before .before .before .before .before .before .read-script .ensures) refl refl refl refl (c .before .before .before .before .before .before .found .given .0 .0) (c .before .before .before .before .before .before .found .given .1)) .coefs-long)
+slice-aggregate-list-run-2 c = prefix-long (c .before .before .before .before .before .before .found .given .0 .0 .counts .terms) scriptTerms (c .before .before .before .before .before .before .before .before .before .before .before .before .read-script .last .1 .1 .0) ((good-read (c .before .before .before .before .before .before .before .before .before .before .before .before .read-script .ensures) refl refl refl refl (c .before .before .before .before .before .before .found .given .0 .0) (c .before .before .before .before .before .before .found .given .1)) .terms-in) ((good-read (c .before .before .before .before .before .before .before .before .before .before .before .before .read-script .ensures) refl refl refl refl (c .before .before .before .before .before .before .found .given .0 .0) (c .before .before .before .before .before .before .found .given .1)) .coefs-long)
 
 -- src/whole.rt:103:51
 array-share-prefix-starts : tie.Need-array-share-prefix-starts
@@ -71,15 +72,15 @@ slice-aggregate-list-run-3 c = prefix-long (c .before .before .before .before .b
 
 -- src/whole.rt:103:65
 array-share-prefix-ops : tie.Need-array-share-prefix-ops
-array-share-prefix-ops c = prefix-in (2 * c .before .before .before .before .before .before .before .found .given .0 .0 .counts .operations) 8192 (c .before .before .before .before .before .before .before .before .before .before .before .before .before .read-script .last .1 .1 .1 .1 .0) ((good-read (c .before .before .before .before .before .before .before .before .before .before .before .before .before .read-script .ensures) refl refl refl refl (c .before .before .before .before .before .before .before .found .given .0 .0) (c .before .before .before .before .before .before .before .found .given .1)) .pairs-in) ((good-read (c .before .before .before .before .before .before .before .before .before .before .before .before .before .read-script .ensures) refl refl refl refl (c .before .before .before .before .before .before .before .found .given .0 .0) (c .before .before .before .before .before .before .before .found .given .1)) .ops-long)
+array-share-prefix-ops c = prefix-in (2 * c .before .before .before .before .before .before .before .found .given .0 .0 .counts .operations) scriptNumbers (c .before .before .before .before .before .before .before .before .before .before .before .before .before .read-script .last .1 .1 .1 .1 .0) ((good-read (c .before .before .before .before .before .before .before .before .before .before .before .before .before .read-script .ensures) refl refl refl refl (c .before .before .before .before .before .before .before .found .given .0 .0) (c .before .before .before .before .before .before .before .found .given .1)) .pairs-in) ((good-read (c .before .before .before .before .before .before .before .before .before .before .before .before .before .read-script .ensures) refl refl refl refl (c .before .before .before .before .before .before .before .found .given .0 .0) (c .before .before .before .before .before .before .before .found .given .1)) .ops-long)
 
 -- src/whole.rt:103:65
 slice-aggregate-list-run-4 : tie.Need-slice-aggregate-list-run-4
-slice-aggregate-list-run-4 c = prefix-long (2 * c .before .before .before .before .before .before .before .before .found .given .0 .0 .counts .operations) 8192 (c .before .before .before .before .before .before .before .before .before .before .before .before .before .before .read-script .last .1 .1 .1 .1 .0) ((good-read (c .before .before .before .before .before .before .before .before .before .before .before .before .before .before .read-script .ensures) refl refl refl refl (c .before .before .before .before .before .before .before .before .found .given .0 .0) (c .before .before .before .before .before .before .before .before .found .given .1)) .pairs-in) ((good-read (c .before .before .before .before .before .before .before .before .before .before .before .before .before .before .read-script .ensures) refl refl refl refl (c .before .before .before .before .before .before .before .before .found .given .0 .0) (c .before .before .before .before .before .before .before .before .found .given .1)) .ops-long)
+slice-aggregate-list-run-4 c = prefix-long (2 * c .before .before .before .before .before .before .before .before .found .given .0 .0 .counts .operations) scriptNumbers (c .before .before .before .before .before .before .before .before .before .before .before .before .before .before .read-script .last .1 .1 .1 .1 .0) ((good-read (c .before .before .before .before .before .before .before .before .before .before .before .before .before .before .read-script .ensures) refl refl refl refl (c .before .before .before .before .before .before .before .before .found .given .0 .0) (c .before .before .before .before .before .before .before .before .found .given .1)) .pairs-in) ((good-read (c .before .before .before .before .before .before .before .before .before .before .before .before .before .before .read-script .ensures) refl refl refl refl (c .before .before .before .before .before .before .before .before .found .given .0 .0) (c .before .before .before .before .before .before .before .before .found .given .1)) .ops-long)
 
 -- src/whole.rt:103:13
 list-run-requires : tie.Need-list-run-requires
-list-run-requires c κs = (prefix-most (c .before .before .before .before .before .before .before .before .before .found .given .0 .0 .counts .terms) 4096 (c .before .before .before .before .before .before .before .before .before .before .before .before .before .before .before .read-script .last .1 .0) ((good-read (c .before .before .before .before .before .before .before .before .before .before .before .before .before .before .before .read-script .ensures) refl refl refl refl (c .before .before .before .before .before .before .before .before .before .found .given .0 .0) (c .before .before .before .before .before .before .before .before .before .found .given .1)) .terms-in) ((good-read (c .before .before .before .before .before .before .before .before .before .before .before .before .before .before .before .read-script .ensures) refl refl refl refl (c .before .before .before .before .before .before .before .before .before .found .given .0 .0) (c .before .before .before .before .before .before .before .before .before .found .given .1)) .words-long), prefix-most (2 * c .before .before .before .before .before .before .before .before .before .found .given .0 .0 .counts .operations) 8192 (c .before .before .before .before .before .before .before .before .before .before .before .before .before .before .before .read-script .last .1 .1 .1 .1 .0) ((good-read (c .before .before .before .before .before .before .before .before .before .before .before .before .before .before .before .read-script .ensures) refl refl refl refl (c .before .before .before .before .before .before .before .before .before .found .given .0 .0) (c .before .before .before .before .before .before .before .before .before .found .given .1)) .pairs-in) ((good-read (c .before .before .before .before .before .before .before .before .before .before .before .before .before .before .before .read-script .ensures) refl refl refl refl (c .before .before .before .before .before .before .before .before .before .found .given .0 .0) (c .before .before .before .before .before .before .before .before .before .found .given .1)) .ops-long))
+list-run-requires c κs = (prefix-most (c .before .before .before .before .before .before .before .before .before .found .given .0 .0 .counts .terms) scriptTerms (c .before .before .before .before .before .before .before .before .before .before .before .before .before .before .before .read-script .last .1 .0) ((good-read (c .before .before .before .before .before .before .before .before .before .before .before .before .before .before .before .read-script .ensures) refl refl refl refl (c .before .before .before .before .before .before .before .before .before .found .given .0 .0) (c .before .before .before .before .before .before .before .before .before .found .given .1)) .terms-in) ((good-read (c .before .before .before .before .before .before .before .before .before .before .before .before .before .before .before .read-script .ensures) refl refl refl refl (c .before .before .before .before .before .before .before .before .before .found .given .0 .0) (c .before .before .before .before .before .before .before .before .before .found .given .1)) .words-long), prefix-most (2 * c .before .before .before .before .before .before .before .before .before .found .given .0 .0 .counts .operations) scriptNumbers (c .before .before .before .before .before .before .before .before .before .before .before .before .before .before .before .read-script .last .1 .1 .1 .1 .0) ((good-read (c .before .before .before .before .before .before .before .before .before .before .before .before .before .before .before .read-script .ensures) refl refl refl refl (c .before .before .before .before .before .before .before .before .before .found .given .0 .0) (c .before .before .before .before .before .before .before .before .before .found .given .1)) .pairs-in) ((good-read (c .before .before .before .before .before .before .before .before .before .before .before .before .before .before .before .read-script .ensures) refl refl refl refl (c .before .before .before .before .before .before .before .before .before .found .given .0 .0) (c .before .before .before .before .before .before .before .before .before .found .given .1)) .ops-long))
 
 -- src/whole.rt:105:42
 enum-told : tie.Need-enum-told

@@ -12,7 +12,7 @@ use Rattle.listing.proofs.whole.put_ran.Lts as lts
 use Rattle.listing.proofs.answers.put_answers.Reads as put-answers-reads
 use Rattle.listing.proofs.ending.put_cost.Reads as put-cost-reads
 use Rattle.listing.proofs.ending.put_refused.Reads as put-refused-reads
-use Rattle.opening.proofs.refusal.number_of.Reads as number-of-reads
+use Rattle.refusal.proofs.number_of.Reads as number-of-reads
 
 -- src/whole.rt:28:39
 enum-known-answer : tie.Need-enum-known-answer

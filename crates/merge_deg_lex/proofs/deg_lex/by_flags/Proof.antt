@@ -7,8 +7,8 @@ use borrow.Author.Needs.{needs}
 use borrow.Author.Tests.{ltb-true, ltb-false}
 use lib.ListN.{length, getD}
 use Rattle.monomial.specs.declared.order.Order.the-variants.{DegLex}
-use Rattle.merge.proofs.Lists.{rest-room}
-use Rattle.merge.proofs.Turns.{Going, going-start, Flags, one-of, addends, turn-by-flags, finished}
+use Rattle.merge_common.proofs.Lists.{rest-room}
+use Rattle.merge_common.proofs.Turns.{Going, going-start, Flags, one-of, addends, turn-by-flags, finished}
 use Rattle.merge_deg_lex.proofs.deg_lex.by_flags.Statement.{statement}
 use Rattle.merge_deg_lex.proofs.deg_lex.by_flags.Tie as tie
 

@@ -7,8 +7,8 @@ use borrow.Author.Needs.{needs}
 use borrow.Author.Tests.{ltb-true, ltb-false}
 use lib.ListN.{length, getD, length-drop}
 use Rattle.monomial.specs.declared.order.Order.the-variants.{Lex}
-use Rattle.merge.proofs.Lists.{part-from}
-use Rattle.merge.proofs.Turns.{Flags, one-of}
+use Rattle.merge_common.proofs.Lists.{part-from}
+use Rattle.merge_common.proofs.Turns.{Flags, one-of}
 use Rattle.merge_in.proofs.Ahead.{Ahead, ahead-start, Places, places, addends-ahead, turn-less, turn-ahead, put-rest, gap-closed}
 use Rattle.merge_in.proofs.lex.into.Statement.{statement}
 use Rattle.merge_in.proofs.lex.into.Tie as tie

@@ -7,9 +7,9 @@ use borrow.Author.Needs.{needs}
 use borrow.Author.Tests.{ltb-true, ltb-false}
 use lib.ListN.{length, getD, length-drop}
 use Rattle.monomial.specs.declared.order.Order.the-variants.{Lex}
-use Rattle.merge.proofs.Lists.{part-from}
-use Rattle.merge.proofs.Turns.{Flags, one-of}
-use Rattle.merge.proofs.Places.{Inside, inside-start, Places, places, addends-inside, turn-inside, moved, put}
+use Rattle.merge_common.proofs.Lists.{part-from}
+use Rattle.merge_common.proofs.Turns.{Flags, one-of}
+use Rattle.merge_common.proofs.Places.{Inside, inside-start, Places, places, addends-inside, turn-inside, moved, put}
 use Rattle.merge_lex.proofs.lex.within.Statement.{statement}
 use Rattle.merge_lex.proofs.lex.within.Tie as tie
 

@@ -4,7 +4,7 @@ use mathlib.Core.List.{map}
 use Prim.Native.Nat.{_+_, _-_}
 use native.Mathlib.Omega.{arith}
 use lib.ListN.{length, length-map}
-use Rattle.merge.proofs.Lists.{Begun, begun-none, begun-more, begun-all, getD-each}
+use Rattle.merge_common.proofs.Lists.{Begun, begun-none, begun-more, begun-all, getD-each}
 use Rattle.multiple.proofs.ProductLaws.{packed-at}
 use Rattle.multiple.proofs.multiple.put_products.Statement.{statement}
 use Rattle.multiple.proofs.multiple.put_products.Tie as tie

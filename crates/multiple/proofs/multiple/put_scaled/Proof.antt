@@ -5,7 +5,7 @@ use Prim.Native.Nat.{_-_}
 use native.Mathlib.Omega.{arith}
 use lib.ListN.{length, length-map}
 use Rattle.residue.specs.Modular.{product}
-use Rattle.merge.proofs.Lists.{Begun, begun-none, begun-more, begun-all, getD-each}
+use Rattle.merge_common.proofs.Lists.{Begun, begun-none, begun-more, begun-all, getD-each}
 use Rattle.multiple.proofs.ProductLaws.{below-at}
 use Rattle.multiple.proofs.multiple.put_scaled.Statement.{statement}
 use Rattle.multiple.proofs.multiple.put_scaled.Tie as tie

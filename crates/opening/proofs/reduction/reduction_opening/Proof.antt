@@ -9,7 +9,6 @@ use Rattle.opening.proofs.reduction.reduction_opening.Statement.{statem
 use Rattle.opening.proofs.reduction.reduction_opening.Tie as tie
 use Rattle.opening.proofs.reduction.reduction_opening.Reads as reads
 use Rattle.opening.proofs.reduction.reduction_opening.Lts as lts
-use Rattle.monomial.proofs.order.order_of.Reads as order-of-reads
 use Rattle.opening.proofs.polynomials.polynomials_refusal.Reads as polynomials-refusal-reads
 use Rattle.opening.proofs.reduction.divisors_good.Reads as divisors-good-reads
 use Rattle.opening.proofs.reduction.reduction_shape.Reads as reduction-shape-reads
@@ -19,7 +18,7 @@ setting-requires : tie.Need-setting-requires
 setting-requires c κs = search needs
 
 returns : tie.Need-returns
-returns c = reduction-setting _ _ _ _ _ _ _ _ _ _ _ _ _ _ (c .before .setting .ensures) (c .if1 .taken)
+returns c = reduction-setting _ _ _ _ _ _ _ _ _ _ _ _ (c .before .setting .ensures) (c .if1 .taken)
 
 reduction-shape-requires : tie.Need-reduction-shape-requires
 reduction-shape-requires c κs = search needs
@@ -28,23 +27,20 @@ returns-2 : tie.Need-returns-2
 unfolding reductionRefusal
 returns-2 c = simp (sym (c .before .before .before .setting .ensures) ∙ c .before .before .if1 .left, no (c .before .reduction-shape .ensures) (c .if2 .taken))
 
-order-of-requires : tie.Need-order-of-requires
-order-of-requires c κs = search needs
-
 polynomials-refusal-requires : tie.Need-polynomials-refusal-requires
-polynomials-refusal-requires c κs = let s = reduction-shape-passes (yes (c .before .before .reduction-shape .ensures) (c .before .if2 .left)) in (setting-passes _ _ _ (sym (c .before .before .before .before .setting .ensures) ∙ c .before .before .before .if1 .left) .n-high, s .lent .lent, s .starts)
+polynomials-refusal-requires c κs = let s = reduction-shape-passes (yes (c .before .reduction-shape .ensures) (c .if2 .left)) in (setting-passes _ (sym (c .before .before .before .setting .ensures) ∙ c .before .before .if1 .left) .n-high, s .lent .lent, s .starts)
 
 returns-3 : tie.Need-returns-3
-returns-3 c = reduction-later _ _ _ _ _ _ _ _ _ _ _ _ _ (sym (c .before .before .before .before .before .before .setting .ensures) ∙ c .before .before .before .before .before .if1 .left) (yes (c .before .before .before .before .reduction-shape .ensures) (c .before .before .before .if2 .left)) (c .before .before .order-of .ensures) (c .before .polynomials-refusal .ensures) (c .if3 .taken)
+returns-3 c = reduction-later _ _ _ _ _ _ _ _ _ _ _ (sym (c .before .before .before .before .before .setting .ensures) ∙ c .before .before .before .before .if1 .left) (yes (c .before .before .before .reduction-shape .ensures) (c .before .before .if2 .left)) (c .before .polynomials-refusal .ensures) (c .if3 .taken)
 
 divisors-good-requires : tie.Need-divisors-good-requires
 divisors-good-requires c κs = search needs
 
 returns-4 : tie.Need-returns-4
-returns-4 c = reduction-last _ _ _ _ _ _ _ _ _ _ _ _ _ (sym (c .before .before .before .before .before .before .before .before .setting .ensures) ∙ c .before .before .before .before .before .before .before .if1 .left) (yes (c .before .before .before .before .before .before .reduction-shape .ensures) (c .before .before .before .before .before .if2 .left)) (c .before .before .before .before .order-of .ensures) (c .before .before .before .polynomials-refusal .ensures) (c .before .before .if3 .left) (sym (c .if4 .taken) ∙ c .before .divisors-good .ensures)
+returns-4 c = reduction-last _ _ _ _ _ _ _ _ _ _ _ (sym (c .before .before .before .before .before .before .before .setting .ensures) ∙ c .before .before .before .before .before .before .if1 .left) (yes (c .before .before .before .before .before .reduction-shape .ensures) (c .before .before .before .before .if2 .left)) (c .before .before .before .polynomials-refusal .ensures) (c .before .before .if3 .left) (sym (c .if4 .taken) ∙ c .before .divisors-good .ensures)
 
 returns-5 : tie.Need-returns-5
-returns-5 c = reduction-last _ _ _ _ _ _ _ _ _ _ _ _ _ (sym (c .before .before .before .before .before .before .before .before .setting .ensures) ∙ c .before .before .before .before .before .before .before .if1 .left) (yes (c .before .before .before .before .before .before .reduction-shape .ensures) (c .before .before .before .before .before .if2 .left)) (c .before .before .before .before .order-of .ensures) (c .before .before .before .polynomials-refusal .ensures) (c .before .before .if3 .left) (sym (c .if4 .left) ∙ c .before .divisors-good .ensures)
+returns-5 c = reduction-last _ _ _ _ _ _ _ _ _ _ _ (sym (c .before .before .before .before .before .before .before .setting .ensures) ∙ c .before .before .before .before .before .before .if1 .left) (yes (c .before .before .before .before .before .reduction-shape .ensures) (c .before .before .before .before .if2 .left)) (c .before .before .before .polynomials-refusal .ensures) (c .before .before .if3 .left) (sym (c .if4 .left) ∙ c .before .divisors-good .ensures)
 
 pub reduction-opening-spec : {M : Type 1} → statement M
 reduction-opening-spec =
@@ -54,7 +50,6 @@ reduction-opening-spec =
     returns
     reduction-shape-requires
     returns-2
-    order-of-requires
     polynomials-refusal-requires
     returns-3
     divisors-good-requires

@@ -11,7 +11,6 @@ use Rattle.opening.proofs.run.run_opening.Statement.{statement}
 use Rattle.opening.proofs.run.run_opening.Tie as tie
 use Rattle.opening.proofs.run.run_opening.Reads as reads
 use Rattle.opening.proofs.run.run_opening.Lts as lts
-use Rattle.monomial.proofs.order.order_of.Reads as order-of-reads
 use Rattle.opening.proofs.operations.operations_good.Reads as operations-good-reads
 use Rattle.opening.proofs.polynomials.polynomials_refusal.Reads as polynomials-refusal-reads
 use Rattle.opening.proofs.setting.setting.Reads as setting-reads
@@ -21,7 +20,7 @@ setting-requires : tie.Need-setting-requires
 setting-requires c κs = search needs
 
 returns : tie.Need-returns
-returns c = stop-setting _ _ _ _ _ _ _ _ _ _ _ _ _ _ (c .before .setting .ensures) (c .if1 .taken)
+returns c = stop-setting _ _ _ _ _ _ _ _ _ _ _ _ (c .before .setting .ensures) (c .if1 .taken)
 
 shape-good-requires : tie.Need-shape-good-requires
 shape-good-requires c κs = search needs
@@ -40,15 +39,12 @@ returns-3 : tie.Need-returns-3
 unfolding runRefusal
 returns-3 c = simp (sym (c .before .before .before .before .before .setting .ensures) ∙ c .before .before .before .before .if1 .left, yes (c .before .before .before .shape-good .ensures) (c .before .before .if2 .left), no (c .before .operations-good .ensures) (c .if3 .taken))
 
-order-of-requires : tie.Need-order-of-requires
-order-of-requires c κs = search needs
-
 polynomials-refusal-requires : tie.Need-polynomials-refusal-requires
-polynomials-refusal-requires c κs = let s = shape-passes (yes (c .before .before .before .before .shape-good .ensures) (c .before .before .before .if2 .left)) in (setting-passes _ _ _ (sym (c .before .before .before .before .before .before .setting .ensures) ∙ c .before .before .before .before .before .if1 .left) .n-high, s .lent, s .starts)
+polynomials-refusal-requires c κs = let s = shape-passes (yes (c .before .before .before .shape-good .ensures) (c .before .before .if2 .left)) in (setting-passes _ (sym (c .before .before .before .before .before .setting .ensures) ∙ c .before .before .before .before .if1 .left) .n-high, s .lent, s .starts)
 
 returns-4 : tie.Need-returns-4
 unfolding runRefusal
-returns-4 c = simp (sym (c .before .before .before .before .before .before .before .setting .ensures) ∙ c .before .before .before .before .before .before .if1 .left, yes (c .before .before .before .before .before .shape-good .ensures) (c .before .before .before .before .if2 .left), yes (c .before .before .before .operations-good .ensures) (c .before .before .if3 .left), c .before .order-of .ensures, c .polynomials-refusal .ensures)
+returns-4 c = simp (sym (c .before .before .before .before .before .before .setting .ensures) ∙ c .before .before .before .before .before .if1 .left, yes (c .before .before .before .before .shape-good .ensures) (c .before .before .before .if2 .left), yes (c .before .before .operations-good .ensures) (c .before .if3 .left), c .polynomials-refusal .ensures)
 
 pub run-opening-spec : {M : Type 1} → statement M
 run-opening-spec =
@@ -61,6 +57,5 @@ run-opening-spec =
     sub-operations-good
     operations-good-requires
     returns-3
-    order-of-requires
     polynomials-refusal-requires
     returns-4)

@@ -11,28 +11,28 @@ use Rattle.opening.proofs.setting.is_between.Reads as is-between-reads
 use Rattle.residue.proofs.prime.is_prime.Reads as is-prime-reads
 
 returns : tie.Need-returns
-returns c = over-limit _ _ _ (c .if1 .taken)
+returns c = over-limit _ (c .if1 .taken)
 
 is-prime-requires : tie.Need-is-prime-requires
 is-prime-requires c κs = search needs
 
 returns-2 : tie.Need-returns-2
-returns-2 c = no-prime _ _ _ (no (c .before .is-prime .ensures) (c .if2 .taken))
+returns-2 c = no-prime _ (no (c .before .is-prime .ensures) (c .if2 .taken))
 
 is-between-requires : tie.Need-is-between-requires
 is-between-requires c κs = search needs
 
 returns-3 : tie.Need-returns-3
-returns-3 c = no-order _ _ _ (c .before .before .before .before .if1 .left) (yes (c .before .before .before .is-prime .ensures) (c .before .before .if2 .left)) (no (c .before .is-between .ensures) (c .if3 .taken))
+returns-3 c = no-order _ (c .before .before .before .before .if1 .left) (yes (c .before .before .before .is-prime .ensures) (c .before .before .if2 .left)) (no (c .before .is-between .ensures) (c .if3 .taken))
 
 is-between-requires-2 : tie.Need-is-between-requires-2
 is-between-requires-2 c κs = search needs
 
 returns-4 : tie.Need-returns-4
-returns-4 c = set _ _ _ (c .before .before .before .before .before .before .if1 .left) (yes (c .before .before .before .before .before .is-prime .ensures) (c .before .before .before .before .if2 .left)) (yes (c .before .before .before .is-between .ensures) (c .before .before .if3 .left)) (sym (c .before .is-between2 .ensures) ∙ c .if4 .taken)
+returns-4 c = set _ (c .before .before .before .before .before .before .if1 .left) (yes (c .before .before .before .before .before .is-prime .ensures) (c .before .before .before .before .if2 .left)) (yes (c .before .before .before .is-between .ensures) (c .before .before .if3 .left)) (sym (c .before .is-between2 .ensures) ∙ c .if4 .taken)
 
 returns-5 : tie.Need-returns-5
-returns-5 c = no-variables _ _ _ (c .before .before .before .before .before .before .if1 .left) (yes (c .before .before .before .before .before .is-prime .ensures) (c .before .before .before .before .if2 .left)) (yes (c .before .before .before .is-between .ensures) (c .before .before .if3 .left)) (sym (c .before .is-between2 .ensures) ∙ c .if4 .left)
+returns-5 c = no-variables _ (c .before .before .before .before .before .before .if1 .left) (yes (c .before .before .before .before .before .is-prime .ensures) (c .before .before .before .before .if2 .left)) (yes (c .before .before .before .is-between .ensures) (c .before .before .if3 .left)) (sym (c .before .is-between2 .ensures) ∙ c .if4 .left)
 
 pub setting-spec : {M : Type 1} → statement M
 setting-spec =

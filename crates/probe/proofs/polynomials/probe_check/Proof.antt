@@ -1,6 +1,6 @@
 -- `probe_check` is `check` for at most 6 variables and as many coefficients as words. Assumes nothing.
 use Rattle.probe.proofs.Answering.{held, failed, yes, no}
-use Rattle.probe.proofs.LendingLaws.{checkable-parts, refused-in}
+use Rattle.probe.proofs.LendingLaws.{checkable-parts}
 use borrow.Author.Needs.{needs}
 use Rattle.probe.proofs.polynomials.probe_check.Statement.{statement}
 use Rattle.probe.proofs.polynomials.probe_check.Tie as tie
@@ -11,15 +11,12 @@ is-checkable-requires c κs = search needs
 returns : tie.Need-returns
 returns c = failed _ _ (no (c .before .is-checkable .ensures) (c .if1 .taken))
 
-order-of-requires : tie.Need-order-of-requires
-order-of-requires c κs = search needs
-
 check-requires : tie.Need-check-requires
-check-requires c κs = checkable-parts _ _ _ (yes (c .before .before .is-checkable .ensures) (c .before .if1 .left))
+check-requires c κs = checkable-parts _ _ _ (yes (c .before .is-checkable .ensures) (c .if1 .left))
 
 returns-2 : tie.Need-returns-2
-returns-2 c = held _ (yes (c .before .before .before .is-checkable .ensures) (c .before .before .if1 .left)) (refused-in _ _ _ (c .before .order-of .ensures) (c .check .ensures))
+returns-2 c = held _ (yes (c .before .before .is-checkable .ensures) (c .before .if1 .left)) (c .check .ensures)
 
 pub probe-check-spec : {M : Type 1} → statement M
 probe-check-spec =
-    tie.close (tie.spec is-checkable-requires returns order-of-requires check-requires returns-2)
+    tie.close (tie.spec is-checkable-requires returns check-requires returns-2)

@@ -1,16 +1,13 @@
 -- `reducer::divide::add_tail` meets its contract. Assumes nothing.
-use mathlib.Core.Path.{refl, sym, _∙_}
+use mathlib.Core.Path.{ap}
 use native.Mathlib.Omega.{arith}
 use denote.Ref.{now}
 use lib.ListN.{length}
+use Rattle.call.specs.declared.state.State.{State}
 use Rattle.reducer.proofs.TailLaws.{front, tail-asks, tail-done}
 use borrow.Author.Needs.{needs}
 use Rattle.reducer.proofs.divide.add_tail.Statement.{statement}
 use Rattle.reducer.proofs.divide.add_tail.Tie as tie
-use Rattle.reducer.proofs.divide.add_tail.Reads as reads
-use Rattle.reducer.proofs.divide.add_tail.Lts as lts
-use Rattle.buckets.proofs.add.add.Reads as add-reads
-use Rattle.multiple.proofs.multiple.put_multiple.Reads as put-multiple-reads
 
 put-multiple-requires : tie.Need-put-multiple-requires
 put-multiple-requires c κs = search needs
@@ -36,11 +33,11 @@ part-add-end-2 c = search needs
 add-requires : tie.Need-add-requires
 add-requires c κs = tail-asks (c .before .before .before .before .before .before .before .before .before .before .before .before .before .before .before .before .before .before .before .before .before .before .before .before .before .pre) (c .before .before .before .before .before .before .before .before .before .before .before .before .before .put-multiple .ensures) (front (length (now (c .before .before .before .before .before .before .before .before .before .before .before .before .before .before .before .before .before .before .before .before .before .before .before .before .before .args .tw))) (c .before .before .before .before .before .before .before .before .before .before .before .before .before .put-multiple .last .1 .1 .1 .1 .0)) (front (length (now (c .before .before .before .before .before .before .before .before .before .before .before .before .before .before .before .before .before .before .before .before .before .before .before .before .before .args .tw))) (c .before .before .before .before .before .before .before .before .before .before .before .before .before .put-multiple .last .1 .1 .1 .1 .1 .0))
 
-add-t40 : tie.Need-add-t40
-add-t40 c = omega (arith, c .before .before .before .before .before .before .before .before .before .before .before .before .before .before .before .before .before .before .before .before .before .before .before .before .before .before .before .before .before .before .before .before .before .before .before .before .before .pre .few-comparisons, c .before .before .before .before .before .before .before .before .before .before .before .add .ensures .few)
+compare-requires : tie.Need-compare-requires
+compare-requires c κs = omega (arith, c .before .before .before .before .before .before .before .before .before .before .before .before .before .before .before .before .before .before .before .before .before .before .before .before .before .before .before .before .before .before .before .before .before .before .before .before .pre .few-comparisons, c .before .before .before .before .before .before .before .before .before .before .add .ensures .few)
 
-add-t42 : tie.Need-add-t42
-add-t42 c = omega (arith, c .before .before .before .before .before .before .before .before .before .before .before .before .before .before .before .before .before .before .before .before .before .before .before .before .before .before .before .before .before .before .before .before .before .before .before .before .before .before .pre .few-brought, c .before .before .before .before .before .before .before .before .before .before .before .before .before .before .before .before .before .before .before .before .before .before .before .before .before .before .before .before .before .before .before .before .before .before .before .before .before .before .pre .room)
+bring-requires : tie.Need-bring-requires
+bring-requires c κs = omega (arith, ap (λ (x : State). x .brought) (c .compare .ensures), c .before .before .before .before .before .before .before .before .before .before .before .before .before .before .before .before .before .before .before .before .before .before .before .before .before .before .before .before .before .before .before .before .before .before .before .before .before .pre .few-brought, c .before .before .before .before .before .before .before .before .before .before .before .before .before .before .before .before .before .before .before .before .before .before .before .before .before .before .before .before .before .before .before .before .before .before .before .before .before .pre .room)
 
 same-length : tie.Need-same-length
 same-length c = search needs
@@ -64,7 +61,7 @@ same-length-7 : tie.Need-same-length-7
 same-length-7 c = c .before .before .before .before .before .before .before .before .before .before .before .before .before .before .before .before .before .before .before .before .before .before .before .before .before .before .put-multiple .kept .1 .1 .1 .1 .1 .0
 
 returns : tie.Need-returns
-returns c = tail-done (c .before .before .before .before .before .before .before .before .before .before .before .before .before .before .before .before .before .before .before .before .before .before .before .before .before .before .before .before .before .before .before .before .before .before .before .before .before .before .pre) (c .before .before .before .before .before .before .before .before .before .before .before .before .before .before .before .before .before .before .before .before .before .before .before .before .before .before .put-multiple .ensures) (front (length (now (c .before .before .before .before .before .before .before .before .before .before .before .before .before .before .before .before .before .before .before .before .before .before .before .before .before .before .before .before .before .before .before .before .before .before .before .before .before .before .args .tw))) (c .before .before .before .before .before .before .before .before .before .before .before .before .before .before .before .before .before .before .before .before .before .before .before .before .before .before .put-multiple .last .1 .1 .1 .1 .0)) (front (length (now (c .before .before .before .before .before .before .before .before .before .before .before .before .before .before .before .before .before .before .before .before .before .before .before .before .before .before .before .before .before .before .before .before .before .before .before .before .before .before .args .tw))) (c .before .before .before .before .before .before .before .before .before .before .before .before .before .before .before .before .before .before .before .before .before .before .before .before .before .before .put-multiple .last .1 .1 .1 .1 .1 .0)) (c .before .before .before .before .before .before .before .before .before .before .before .before .add .ensures)
+returns c = tail-done (c .before .before .before .before .before .before .before .before .before .before .before .before .before .before .before .before .before .before .before .before .before .before .before .before .before .before .before .before .before .before .before .before .before .before .before .before .before .before .pre) (c .before .before .before .before .before .before .before .before .before .before .before .before .before .before .before .before .before .before .before .before .before .before .before .before .before .before .put-multiple .ensures) (front (length (now (c .before .before .before .before .before .before .before .before .before .before .before .before .before .before .before .before .before .before .before .before .before .before .before .before .before .before .before .before .before .before .before .before .before .before .before .before .before .before .args .tw))) (c .before .before .before .before .before .before .before .before .before .before .before .before .before .before .before .before .before .before .before .before .before .before .before .before .before .before .put-multiple .last .1 .1 .1 .1 .0)) (front (length (now (c .before .before .before .before .before .before .before .before .before .before .before .before .before .before .before .before .before .before .before .before .before .before .before .before .before .before .before .before .before .before .before .before .before .before .before .before .before .before .args .tw))) (c .before .before .before .before .before .before .before .before .before .before .before .before .before .before .before .before .before .before .before .before .before .before .before .before .before .before .put-multiple .last .1 .1 .1 .1 .1 .0)) (c .before .before .before .before .before .before .before .before .before .before .before .before .add .ensures) (c .before .compare .ensures) (c .bring .ensures)
 
 pub add-tail-spec : {M : Type 1} → statement M
 add-tail-spec =
@@ -78,8 +75,8 @@ add-tail-spec =
     part-add-start-2
     part-add-end-2
     add-requires
-    add-t40
-    add-t42
+    compare-requires
+    bring-requires
     same-length
     same-length-2
     same-length-3

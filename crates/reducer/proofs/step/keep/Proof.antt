@@ -1,15 +1,12 @@
 -- `reducer::step::keep` meets its contract. Assumes nothing.
-use mathlib.Core.Path.{refl, ap}
-use Prim.Native.Nat.{_+_}
-use Rattle.reducer.specs.declared.state.State.{State}
+use mathlib.Core.Path.{refl, ap, _∙_}
+use native.Mathlib.Omega.{arith}
+use Rattle.call.specs.declared.state.State.{State}
+use Rattle.call.specs.States.{gave}
 use Rattle.reducer.specs.Stepping.{full, put}
 use borrow.Author.Needs.{needs}
 use Rattle.reducer.proofs.step.keep.Statement.{statement}
 use Rattle.reducer.proofs.step.keep.Tie as tie
-use Rattle.reducer.proofs.step.keep.Reads as reads
-use Rattle.reducer.proofs.step.keep.Lts as lts
-use Rattle.reducer.proofs.state.State.halt.Reads as halt-reads
-use Rattle.reducer.proofs.state.State.remove.Reads as remove-reads
 
 halt-requires : tie.Need-halt-requires
 halt-requires c κs = search needs
@@ -32,14 +29,14 @@ slice-write-oc c = search needs
 remove-lead-requires : tie.Need-remove-lead-requires
 remove-lead-requires c κs = c .before .before .before .before .before .pre .removal
 
-remove-requires : tie.Need-remove-requires
-remove-requires c κs = c .before .before .before .before .before .before .before .before .pre .few-leads
+finish-requires : tie.Need-finish-requires
+finish-requires c κs = omega (arith, c .before .before .before .before .before .before .before .before .pre .few-leads)
 
-add-t8 : tie.Need-add-t8
-add-t8 c = search needs
+give-requires : tie.Need-give-requires
+give-requires c κs = let e = c .finish .ensures in let k = c .before .before .before .before .before .before .before .before .before .pre in (omega (arith, ap (λ (x : State). x .given) e, k .given-are, k .few-places, k .few-leads), omega (arith, ap (λ (x : State). x .places) e, k .few-places, k .few-leads))
 
 same-length : tie.Need-same-length
-same-length c = c .before .before .before .remove-lead .kept .0
+same-length c = c .before .before .before .before .remove-lead .kept .0
 
 same-length-2 : tie.Need-same-length-2
 same-length-2 c = search needs
@@ -48,7 +45,7 @@ same-length-3 : tie.Need-same-length-3
 same-length-3 c = search needs
 
 returns-2 : tie.Need-returns-2
-returns-2 c = put (c .before .before .before .before .before .if1 .left) (ap (λ (t : State). record { comparisons = t .comparisons; brought = t .brought; leads = t .leads; terms = c .before .before .before .before .before .before .before .before .before .args .s .terms + 1; more = t .more; stop = t .stop }) (c .remove .ensures)) (c .before .before .before .remove-lead .ensures) refl refl
+returns-2 c = put (c .before .before .before .before .before .before .if1 .left) (c .give .ensures ∙ ap (λ (x : State). gave x 1 1) (c .before .finish .ensures)) (c .before .before .before .before .remove-lead .ensures) refl refl
 
 pub keep-spec : {M : Type 1} → statement M
 keep-spec =
@@ -61,8 +58,8 @@ keep-spec =
     mul-oc
     slice-write-oc
     remove-lead-requires
-    remove-requires
-    add-t8
+    finish-requires
+    give-requires
     same-length
     same-length-2
     same-length-3

@@ -1,17 +1,29 @@
 -- `reducer::steps::begin` meets its contract. Assumes nothing.
+use mathlib.Core.Path.{ap}
+use native.Mathlib.Omega.{arith}
+use Rattle.call.specs.declared.state.State.{State}
 use Rattle.reducer.proofs.BeginLaws.{begin-refused, begin-asks, begin-done}
 use borrow.Author.Needs.{needs}
 use Rattle.reducer.proofs.steps.begin.Statement.{statement}
 use Rattle.reducer.proofs.steps.begin.Tie as tie
-use Rattle.reducer.proofs.steps.begin.Reads as reads
-use Rattle.reducer.proofs.steps.begin.Lts as lts
-use Rattle.buckets.proofs.add.add.Reads as add-reads
+
+new-requires : tie.Need-new-requires
+new-requires c κs = search needs
+
+halt-requires : tie.Need-halt-requires
+halt-requires c κs = search needs
 
 returns : tie.Need-returns
-returns c = begin-refused (c .before .before .before .before .before .before .before .before .pre .0) (c .before .before .before .before .before .before .before .before .pre .1 .none) (c .if1 .taken)
+returns c = begin-refused (c .before .before .before .before .before .before .before .before .before .before .pre .0) (c .before .before .before .before .before .before .before .before .before .before .pre .1 .none) (c .before .if1 .taken) (c .before .before .new .ensures) (c .halt .ensures)
 
 add-requires : tie.Need-add-requires
-add-requires c κs = begin-asks (c .before .before .before .before .before .before .before .before .before .before .before .before .before .pre .0) (c .before .before .before .before .before .before .before .before .before .before .before .before .before .pre .1 .none) (c .before .before .before .before .before .if1 .left) (c .before .before .before .before .before .before .before .before .before .before .before .before .before .pre .1)
+add-requires c κs = begin-asks (c .before .before .before .before .before .before .before .before .before .before .before .before .before .before .pre .0) (c .before .before .before .before .before .before .before .before .before .before .before .before .before .before .pre .1 .none) (c .before .before .before .before .before .if1 .left) (c .before .before .before .before .before .before .before .before .before .before .before .before .before .before .pre .1)
+
+compare-requires : tie.Need-compare-requires
+compare-requires c κs = omega (arith, ap (λ (x : State). x .comparisons) (c .before .before .before .before .before .before .before .before .before .before .before .before .before .before .before .before .before .new .ensures), c .before .before .before .before .before .before .before .before .before .before .add .ensures .few)
+
+bring-requires : tie.Need-bring-requires
+bring-requires c κs = omega (arith, ap (λ (x : State). x .brought) (c .before .before .before .before .before .before .before .before .before .before .before .before .before .before .before .before .before .before .new .ensures), ap (λ (x : State). x .brought) (c .compare .ensures), c .before .before .before .before .before .before .before .before .before .before .before .before .before .before .before .before .before .if1 .left)
 
 same-length : tie.Need-same-length
 same-length c = search needs
@@ -29,14 +41,18 @@ same-length-5 : tie.Need-same-length-5
 same-length-5 c = search needs
 
 returns-2 : tie.Need-returns-2
-returns-2 c = begin-done (c .before .before .before .before .before .before .before .before .before .before .before .before .before .before .before .before .before .before .before .before .before .before .before .before .pre .0) (c .before .before .before .before .before .before .before .before .before .before .before .before .before .before .before .before .before .before .before .before .before .before .before .before .pre .1 .none) (c .before .before .before .before .before .before .before .before .before .before .before .before .before .before .before .before .if1 .left) (c .before .before .before .before .before .before .before .before .before .before .add .ensures)
+returns-2 c = begin-done (c .before .before .before .before .before .before .before .before .before .before .before .before .before .before .before .before .before .before .before .before .before .before .before .before .before .before .before .pre .0) (c .before .before .before .before .before .before .before .before .before .before .before .before .before .before .before .before .before .before .before .before .before .before .before .before .before .before .before .pre .1 .none) (c .before .before .before .before .before .before .before .before .before .before .before .before .before .before .before .before .before .before .if1 .left) (c .before .before .before .before .before .before .before .before .before .before .before .before .add .ensures) (c .before .before .before .before .before .before .before .before .before .before .before .before .before .before .before .before .before .before .before .new .ensures) (c .before .compare .ensures) (c .bring .ensures)
 
 pub begin-spec : {M : Type 1} → statement M
 begin-spec =
     tie.close
     (tie.spec
+    new-requires
+    halt-requires
     returns
     add-requires
+    compare-requires
+    bring-requires
     same-length
     same-length-2
     same-length-3

@@ -1,4 +1,5 @@
--- `times` meets what `multiply` requires: both words are of the layout. Assumes nothing.
+-- `times` adds two words below 2^63: both are of the layout. Assumes nothing.
+use native.Mathlib.Omega.{arith}
 use Rattle.samples.proofs.Tested.{tested-packed}
 use borrow.Author.Needs.{needs}
 use Rattle.samples.proofs.monomials.times.Statement.{statement}
@@ -16,18 +17,13 @@ in-layout-requires-2 c κs = search needs
 returns-2 : tie.Need-returns-2
 returns-2 c = search needs
 
-multiply-requires : tie.Need-multiply-requires
-multiply-requires c κs =
-    let s = c .before .before .before .before in
-    let x-is = tested-packed _ _ _ (s .pre) _ (c .before .before .before .in-layout .ensures) (c .before .before .if1 .left) in
-    let y-is = tested-packed _ _ _ (s .pre) _ (c .before .in-layout2 .ensures) (c .if2 .left) in
-    (x-is, y-is)
+add-w : tie.Need-add-w
+add-w c =
+    let h = c .before .before .before .before .pre in
+    omega (arith, tested-packed _ _ _ h _ (c .before .before .before .in-layout .ensures) (c .before .before .if1 .left) .room, tested-packed _ _ _ h _ (c .before .in-layout2 .ensures) (c .if2 .left) .room)
 
-enum-known-w : tie.Need-enum-known-w
-enum-known-w c = search needs
-
-enum-told : tie.Need-enum-told
-enum-told c = search needs
+in-layout-requires-3 : tie.Need-in-layout-requires-3
+in-layout-requires-3 c κs = search needs
 
 returns-3 : tie.Need-returns-3
 returns-3 c = search needs
@@ -43,8 +39,7 @@ times-spec =
     returns
     in-layout-requires-2
     returns-2
-    multiply-requires
-    enum-known-w
-    enum-told
+    add-w
+    in-layout-requires-3
     returns-3
     returns-4)

@@ -1,35 +1,51 @@
--- `back` meets what `exponents_of` requires: the part of n places has at most 6. Assumes nothing.
-use mathlib.Core.Path.{sym}
+-- `back` goes through the n variables, at most 6: the measure is how many are left. Assumes nothing.
+use Prim.Native.Nat.{_≤_, _-_}
 use native.Mathlib.Omega.{arith}
-use Prim.Native.Nat.{ℕ}
-use lib.ListN.{replicate}
-use lib.Seq.{length-take-le}
 use borrow.Author.Needs.{needs}
 use Rattle.samples.proofs.words.back.Statement.{statement}
 use Rattle.samples.proofs.words.back.Tie as tie
 
-array-borrow-prefix-out : tie.Need-array-borrow-prefix-out
-array-borrow-prefix-out c = search needs
+abbrev Inv-loop : tie.InvT-loop
+Inv-loop order n w i₀ i = i ≤ n
 
-slice-aggregate-part : tie.Need-slice-aggregate-part
-slice-aggregate-part c = sym (length-take-le (c .before .args .n) (replicate 6 0) (c .before .pre))
+abbrev μ-loop : tie.MeasureT-loop
+μ-loop order n w i₀ i = n - i
 
-exponents-of-requires : tie.Need-exponents-of-requires
-exponents-of-requires c κs =
-    let s = c .before .before in omega (arith, s .pre, length-take-le {A = ℕ} (s .args .n) (replicate 6 0) (s .pre))
+loop-holds : tie.Need-loop-holds Inv-loop μ-loop
+loop-holds c = search needs
 
-exponents-requires : tie.Need-exponents-requires
-exponents-requires c κs = search needs
+cast-exponent : tie.Need-cast-exponent Inv-loop μ-loop
+cast-exponent c = omega arith
 
-returns : tie.Need-returns
+exponent-requires : tie.Need-exponent-requires Inv-loop μ-loop
+exponent-requires c κs = omega (arith, c .loop-test .taken, c .before .before .pre)
+
+dotted-requires : tie.Need-dotted-requires Inv-loop μ-loop
+dotted-requires c κs = search needs
+
+add-i : tie.Need-add-i Inv-loop μ-loop
+add-i c = search needs
+
+loop-less : tie.Need-loop-less Inv-loop μ-loop
+loop-less c = search needs
+
+loop-again : tie.Need-loop-again Inv-loop μ-loop
+loop-again c = search needs
+
+returns : tie.Need-returns Inv-loop μ-loop
 returns c = search needs
 
 pub back-spec : {M : Type 1} → statement M
 back-spec =
     tie.close
     (tie.spec
-    array-borrow-prefix-out
-    slice-aggregate-part
-    exponents-of-requires
-    exponents-requires
+    Inv-loop
+    μ-loop
+    loop-holds
+    cast-exponent
+    exponent-requires
+    dotted-requires
+    add-i
+    loop-less
+    loop-again
     returns)

@@ -2,7 +2,7 @@ use Prim.Native.Nat.{_+_}
 use Rattle.script.proofs.EntryLaws.{stored-long}
 use Rattle.script.proofs.EntryLaws.{counted-none, counted-all, no-colon, no-coef, no-exps, other-number, is-term}
 use Rattle.text.proofs.NumberLaws.{found-value, found-bad}
-use Rattle.merge.proofs.Lists.{part-from}
+use Rattle.merge_common.proofs.Lists.{part-from}
 use lib.ListN.{length, length-take}
 use lib.Seq.{length-take-le, length-sets}
 use native.Mathlib.Omega.{arith}

@@ -1,6 +1,6 @@
 use Rattle.script.proofs.HeaderLaws.{no-word, begins-long, behind-word}
 use Rattle.text.proofs.NumberLaws.{yes, no}
-use Rattle.merge.proofs.Lists.{part-from}
+use Rattle.merge_common.proofs.Lists.{part-from}
 use lib.ListN.{length}
 use native.Mathlib.Omega.{arith}
 -- `script::header::number_behind` meets its contract. Assumes nothing.

@@ -1,10 +1,7 @@
 -- `search::lead::find_lead` meets its contract. Assumes nothing.
-use mathlib.Core.Path.{_≡_, sym, ap, _∙_}
-use Prim.Native.Nat.{ℕ, _<_, _≤_}
+use mathlib.Core.Path.{sym, _∙_}
 use native.Mathlib.Omega.{arith}
 use borrow.Author.Needs.{needs}
-use denote.Ref.{now}
-use lib.ListN.{length}
 use Rattle.monomial.specs.Words.{compareWords}
 use Rattle.monomial.proofs.OrderLaws.{words-order}
 use Rattle.geobucket.specs.Buckets.{held}
@@ -25,47 +22,44 @@ first-held-requires c κs = c .before .before .before .before .pre .laid .twelve
 loop-holds : tie.Need-loop-holds Inv-loop μ-loop
 loop-holds c = finds-start (c .before .before .before .before .before .pre) (c .first-held .ensures)
 
-mul-at : tie.Need-mul-at Inv-loop μ-loop
-mul-at c = search needs
-
-slice-read-at : tie.Need-slice-read-at Inv-loop μ-loop
-slice-read-at c = omega (arith, c .before .before .loop .inv .laid .twelve)
-
-mul-t14 : tie.Need-mul-t14 Inv-loop μ-loop
-mul-t14 c = omega (arith, first-head (c .before .before .loop .inv) (words-order (c .before .before .before .before .before .before .before .before .args .order)) (c .before .loop-test .taken))
-
-shared-slice-read-t18 : tie.Need-shared-slice-read-t18 Inv-loop μ-loop
-shared-slice-read-t18 c = omega (arith, first-head (c .before .before .before .loop .inv) (words-order (c .before .before .before .before .before .before .before .before .before .args .order)) (c .before .before .loop-test .taken), c .before .before .before .loop .inv .words-long)
+head-of-requires : tie.Need-head-of-requires Inv-loop μ-loop
+head-of-requires c κs = (c .before .before .loop .inv .laid .twelve, c .before .loop-test .taken)
 
 mul-t16 : tie.Need-mul-t16 Inv-loop μ-loop
-mul-t16 c = omega (arith, first-head (c .before .before .before .loop .inv) (words-order (c .before .before .before .before .before .before .before .before .before .args .order)) (c .before .before .loop-test .taken))
+mul-t16 c = omega (arith, first-head (c .before .before .before .loop .inv) (words-order (c .before .before .before .before .before .before .before .before .before .args .order)) (c .before .before .loop-test .taken) (c .head-of .ensures))
 
-slice-read-t20 : tie.Need-slice-read-t20 Inv-loop μ-loop
-slice-read-t20 c = omega (arith, first-head (c .before .before .before .before .loop .inv) (words-order (c .before .before .before .before .before .before .before .before .before .before .args .order)) (c .before .before .before .loop-test .taken), c .before .before .before .before .loop .inv .coefs-long)
+shared-slice-read-t18 : tie.Need-shared-slice-read-t18 Inv-loop μ-loop
+shared-slice-read-t18 c = omega (arith, first-head (c .before .before .before .before .loop .inv) (words-order (c .before .before .before .before .before .before .before .before .before .before .args .order)) (c .before .before .before .loop-test .taken) (c .before .head-of .ensures), c .before .before .before .before .loop .inv .words-long)
+
+mul-t19 : tie.Need-mul-t19 Inv-loop μ-loop
+mul-t19 c = omega (arith, first-head (c .before .before .before .before .loop .inv) (words-order (c .before .before .before .before .before .before .before .before .before .before .args .order)) (c .before .before .before .loop-test .taken) (c .before .head-of .ensures))
+
+slice-read-t21 : tie.Need-slice-read-t21 Inv-loop μ-loop
+slice-read-t21 c = omega (arith, first-head (c .before .before .before .before .before .loop .inv) (words-order (c .before .before .before .before .before .before .before .before .before .before .before .args .order)) (c .before .before .before .before .loop-test .taken) (c .before .before .head-of .ensures), c .before .before .before .before .before .loop .inv .coefs-long)
 
 seek-requires : tie.Need-seek-requires Inv-loop μ-loop
-seek-requires c κs = seek-asks (c .before .before .before .before .before .before .loop .inv) (words-order (c .before .before .before .before .before .before .before .before .before .before .before .before .args .order)) (c .before .before .before .before .before .loop-test .taken)
+seek-requires c κs = seek-asks (c .before .before .before .before .before .before .before .loop .inv) (words-order (c .before .before .before .before .before .before .before .before .before .before .before .before .before .args .order)) (c .before .before .before .before .before .before .loop-test .taken) (c .before .before .before .before .head-of .ensures)
 
 same-length : tie.Need-same-length Inv-loop μ-loop
-same-length c = c .before .before .before .before .before .before .seek .ensures .laid .twelve ∙ sym (c .before .before .before .before .before .before .before .before .before .before .before .before .before .before .before .before .before .before .before .pre .laid .twelve)
+same-length c = c .before .before .before .before .before .before .seek .ensures .laid .twelve ∙ sym (c .before .before .before .before .before .before .before .before .before .before .before .before .before .before .before .before .before .before .before .before .pre .laid .twelve)
 
 same-length-2 : tie.Need-same-length-2 Inv-loop μ-loop
-same-length-2 c = c .before .before .before .before .before .before .seek .ensures .coefs-long ∙ sym (c .before .before .before .before .before .before .before .before .before .before .before .before .before .before .before .before .before .before .before .pre .coefs-long)
+same-length-2 c = c .before .before .before .before .before .before .seek .ensures .coefs-long ∙ sym (c .before .before .before .before .before .before .before .before .before .before .before .before .before .before .before .before .before .before .before .before .pre .coefs-long)
 
 returns : tie.Need-returns Inv-loop μ-loop
-returns c = find-lead (c .before .before .before .before .before .before .before .before .before .before .before .before .before .loop .inv) (words-order (c .before .before .before .before .before .before .before .before .before .before .before .before .before .before .before .before .before .before .before .args .order)) (c .before .before .before .before .before .before .before .before .before .before .before .before .loop-test .taken) (c .before .before .before .before .before .before .seek .ensures) (c .if1 .taken)
+returns c = find-lead (c .before .before .before .before .before .before .before .before .before .before .before .before .before .before .loop .inv) (words-order (c .before .before .before .before .before .before .before .before .before .before .before .before .before .before .before .before .before .before .before .before .args .order)) (c .before .before .before .before .before .before .before .before .before .before .before .before .before .loop-test .taken) (c .before .before .before .before .before .before .before .before .before .before .before .head-of .ensures) (c .before .before .before .before .before .before .seek .ensures) (c .if1 .taken)
 
 remove-lead-requires : tie.Need-remove-lead-requires Inv-loop μ-loop
-remove-lead-requires c κs = removal (c .before .before .before .before .before .before .before .before .before .before .before .before .before .before .loop .inv) (words-order (c .before .before .before .before .before .before .before .before .before .before .before .before .before .before .before .before .before .before .before .before .args .order)) (c .before .before .before .before .before .before .before .before .before .before .before .before .before .loop-test .taken) (c .before .before .before .before .before .before .before .seek .ensures)
+remove-lead-requires c κs = removal (c .before .before .before .before .before .before .before .before .before .before .before .before .before .before .before .loop .inv) (words-order (c .before .before .before .before .before .before .before .before .before .before .before .before .before .before .before .before .before .before .before .before .before .args .order)) (c .before .before .before .before .before .before .before .before .before .before .before .before .before .before .loop-test .taken) (c .before .before .before .before .before .before .before .before .before .before .before .before .head-of .ensures) (c .before .before .before .before .before .before .before .seek .ensures)
 
 first-held-requires-2 : tie.Need-first-held-requires-2 Inv-loop μ-loop
 first-held-requires-2 c κs = omega (arith, c .before .before .before .remove-lead .kept .0, c .before .before .before .before .before .before .before .before .before .before .before .seek .ensures .laid .twelve)
 
 loop-less : tie.Need-loop-less Inv-loop μ-loop
-loop-less c = fewer-held (c .before .before .before .before .before .before .before .before .before .before .before .before .before .before .before .before .before .before .before .loop .inv) (words-order (c .before .before .before .before .before .before .before .before .before .before .before .before .before .before .before .before .before .before .before .before .before .before .before .before .before .args .order)) (c .before .before .before .before .before .before .before .before .before .before .before .before .before .before .before .before .before .before .loop-test .taken) (c .before .before .before .before .before .before .before .before .before .before .before .before .seek .ensures) (c .before .before .before .before .remove-lead .ensures)
+loop-less c = fewer-held (c .before .before .before .before .before .before .before .before .before .before .before .before .before .before .before .before .before .before .before .before .loop .inv) (words-order (c .before .before .before .before .before .before .before .before .before .before .before .before .before .before .before .before .before .before .before .before .before .before .before .before .before .before .args .order)) (c .before .before .before .before .before .before .before .before .before .before .before .before .before .before .before .before .before .before .before .loop-test .taken) (c .before .before .before .before .before .before .before .before .before .before .before .before .before .before .before .before .before .head-of .ensures) (c .before .before .before .before .before .before .before .before .before .before .before .before .seek .ensures) (c .before .before .before .before .remove-lead .ensures)
 
 loop-again : tie.Need-loop-again Inv-loop μ-loop
-loop-again c = find-again (c .before .before .before .before .before .before .before .before .before .before .before .before .before .before .before .before .before .before .before .loop .inv) (words-order (c .before .before .before .before .before .before .before .before .before .before .before .before .before .before .before .before .before .before .before .before .before .before .before .before .before .args .order)) (c .before .before .before .before .before .before .before .before .before .before .before .before .before .before .before .before .before .before .loop-test .taken) (c .before .before .before .before .before .before .before .before .before .before .before .before .seek .ensures) (c .before .before .before .before .remove-lead .ensures) (c .before .before .before .before .before .before .if1 .left) (c .first-held2 .ensures)
+loop-again c = find-again (c .before .before .before .before .before .before .before .before .before .before .before .before .before .before .before .before .before .before .before .before .loop .inv) (words-order (c .before .before .before .before .before .before .before .before .before .before .before .before .before .before .before .before .before .before .before .before .before .before .before .before .before .before .args .order)) (c .before .before .before .before .before .before .before .before .before .before .before .before .before .before .before .before .before .before .before .loop-test .taken) (c .before .before .before .before .before .before .before .before .before .before .before .before .before .before .before .before .before .head-of .ensures) (c .before .before .before .before .before .before .before .before .before .before .before .before .seek .ensures) (c .before .before .before .before .remove-lead .ensures) (c .before .before .before .before .before .before .if1 .left) (c .first-held2 .ensures)
 
 none-requires : tie.Need-none-requires Inv-loop μ-loop
 none-requires c κs = search needs
@@ -87,12 +81,11 @@ find-lead-spec =
     μ-loop
     first-held-requires
     loop-holds
-    mul-at
-    slice-read-at
-    mul-t14
-    shared-slice-read-t18
+    head-of-requires
     mul-t16
-    slice-read-t20
+    shared-slice-read-t18
+    mul-t19
+    slice-read-t21
     seek-requires
     same-length
     same-length-2

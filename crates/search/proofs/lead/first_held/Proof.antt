@@ -1,5 +1,5 @@
 -- `search::lead::first_held` meets its contract. Assumes nothing.
-use mathlib.Core.Path.{_≡_, subst}
+use mathlib.Core.Path.{_≡_, sym, _∙_}
 use Prim.Native.Nat.{ℕ, _-_, _<_, _≤_}
 use native.Mathlib.Omega.{arith}
 use borrow.Author.Needs.{needs}
@@ -18,14 +18,8 @@ abbrev μ-loop : tie.MeasureT-loop
 loop-holds : tie.Need-loop-holds Inv-loop μ-loop
 loop-holds c = (omega arith, λ j h. absurd (let z : ⊥ = omega arith in z))
 
-add-if1 : tie.Need-add-if1 Inv-loop μ-loop
-add-if1 c = search needs
-
-mul-if1 : tie.Need-mul-if1 Inv-loop μ-loop
-mul-if1 c = search needs
-
-shared-slice-read-if1 : tie.Need-shared-slice-read-if1 Inv-loop μ-loop
-shared-slice-read-if1 c = omega (arith, c .before .before .before .pre, c .before .loop-test .taken)
+len-of-requires : tie.Need-len-of-requires Inv-loop μ-loop
+len-of-requires c κs = (c .before .before .before .pre, c .loop-test .taken)
 
 add-i : tie.Need-add-i Inv-loop μ-loop
 add-i c = search needs
@@ -34,10 +28,10 @@ loop-less : tie.Need-loop-less Inv-loop μ-loop
 loop-less c = search needs
 
 loop-again : tie.Need-loop-again Inv-loop μ-loop
-loop-again c = let k = c .before .before .before .loop in (omega (arith, c .before .before .loop-test .taken), one-more (c .before .before .before .before .args .b .now) (k .i) (k .inv .1) (eqb-true _ _ (c .if1 .taken)))
+loop-again c = let k = c .before .before .before .loop in (omega (arith, c .before .before .loop-test .taken), one-more (c .before .before .before .before .before .args .b .now) (k .i) (k .inv .1) (sym (c .before .len-of .ensures) ∙ eqb-true _ _ (c .if1 .taken)))
 
 returns : tie.Need-returns Inv-loop μ-loop
-returns c = let k = c .before .before .before .loop in record { most = k .inv .0; below = k .inv .1; held = λ h. omega (arith, eqb-false (lenAt (c .before .before .before .before .args .b .now) (k .i)) 0 (c .if1 .left)) }
+returns c = let k = c .before .before .before .loop in record { most = k .inv .0; below = k .inv .1; held = λ h. omega (arith, eqb-false (c .before .len-of .result) 0 (c .if1 .left), c .before .len-of .ensures) }
 
 returns-2 : tie.Need-returns-2 Inv-loop μ-loop
 returns-2 c = let k = c .before .loop in record { most = k .inv .0; below = k .inv .1; held = λ h. absurd (let z : ⊥ = omega (arith, c .loop-test .left) in z) }
@@ -49,9 +43,7 @@ first-held-spec =
     Inv-loop
     μ-loop
     loop-holds
-    add-if1
-    mul-if1
-    shared-slice-read-if1
+    len-of-requires
     add-i
     loop-less
     loop-again

@@ -1,68 +1,42 @@
 -- `search::lead::remove_lead` meets its contract. Assumes nothing.
+use mathlib.Core.Path.{ap₂, _∙_}
+use Prim.Native.Nat.{ℕ, _+_, _-_}
 use native.Mathlib.Omega.{arith}
+use Rattle.space.specs.Space.{moved}
 use Rattle.space.proofs.SpaceLaws.{head-in}
-use lib.ListN.{length-set}
 use borrow.Author.Needs.{needs}
 use Rattle.search.proofs.lead.remove_lead.Statement.{statement}
 use Rattle.search.proofs.lead.remove_lead.Tie as tie
 
-mul-head : tie.Need-mul-head
-mul-head c = search needs
+head-of-requires : tie.Need-head-of-requires
+head-of-requires c κs = (c .before .before .pre .laid .twelve, c .before .before .pre .within)
 
-slice-read-head : tie.Need-slice-read-head
-slice-read-head c = omega (arith, c .before .pre .laid .twelve, c .before .pre .within)
+len-of-requires : tie.Need-len-of-requires
+len-of-requires c κs = (c .before .before .before .before .pre .laid .twelve, c .before .before .before .before .pre .within)
 
-add-len : tie.Need-add-len
-add-len c = search needs
+add-place : tie.Need-add-place
+add-place c = let k = c .before .before .before .before .before .before .pre in omega (arith, c .before .before .before .head-of .ensures, head-in _ _ (k .laid) (k .within) (k .some))
 
-mul-len : tie.Need-mul-len
-mul-len c = search needs
+sub-place : tie.Need-sub-place
+sub-place c = omega (arith, c .before .len-of .ensures, c .before .before .before .before .before .before .pre .some)
 
-slice-read-len : tie.Need-slice-read-len
-slice-read-len c = omega (arith, c .before .before .pre .laid .twelve, c .before .before .pre .within)
-
-add-b : tie.Need-add-b
-add-b c = let k = c .before .before .pre in omega (arith, head-in _ _ (k .laid) (k .within) (k .some))
-
-mul-b : tie.Need-mul-b
-mul-b c = search needs
-
-slice-write-b : tie.Need-slice-write-b
-slice-write-b c = omega (arith, c .before .before .pre .laid .twelve, c .before .before .pre .within)
-
-sub-b : tie.Need-sub-b
-sub-b c = search needs
-
-add-b-2 : tie.Need-add-b-2
-add-b-2 c = search needs
-
-mul-b-2 : tie.Need-mul-b-2
-mul-b-2 c = search needs
-
-slice-write-b-2 : tie.Need-slice-write-b-2
-slice-write-b-2 c = simp length-set (omega (arith, c .before .before .pre .laid .twelve, c .before .before .pre .within))
+place-requires : tie.Need-place-requires
+place-requires c κs = (c .before .before .before .before .before .before .pre .laid .twelve, c .before .before .before .before .before .before .pre .within)
 
 same-length : tie.Need-same-length
 same-length c = search needs
 
 returns : tie.Need-returns
-returns c = search needs
+returns c = let x = c .before .before .before .before .before .before .before .before .before .args in c .before .before .place .ensures ∙ ap₂ (λ (h n : ℕ). moved (x .b .now) (x .i) (h + 1) (n - 1)) (c .before .before .before .before .before .before .head-of .ensures) (c .before .before .before .before .len-of .ensures)
 
 pub remove-lead-spec : {M : Type 1} → statement M
 remove-lead-spec =
     tie.close
     (tie.spec
-    mul-head
-    slice-read-head
-    add-len
-    mul-len
-    slice-read-len
-    add-b
-    mul-b
-    slice-write-b
-    sub-b
-    add-b-2
-    mul-b-2
-    slice-write-b-2
+    head-of-requires
+    len-of-requires
+    add-place
+    sub-place
+    place-requires
     same-length
     returns)

@@ -2,7 +2,7 @@
 use Prim.Native.Nat.{_-_}
 use native.Mathlib.Omega.{arith}
 use lib.ListN.{replicate}
-use Rattle.merge.proofs.Lists.{Begun, begun-none}
+use Rattle.merge_common.proofs.Lists.{Begun, begun-none}
 use Rattle.space.proofs.SettleLaws.{cleared-more, cleared-all}
 use Rattle.space.proofs.settle.clear_coefs.Statement.{statement}
 use Rattle.space.proofs.settle.clear_coefs.Tie as tie

@@ -1,8 +1,8 @@
 -- `space::settle::pull_words` meets its contract: after i turns the first i are put. Assumes nothing.
 use Prim.Native.Nat.{_-_}
 use native.Mathlib.Omega.{arith}
-use Rattle.merge.specs.Lent.{part}
-use Rattle.merge.proofs.Lists.{Begun, begun-none}
+use Rattle.merge_common.specs.Lent.{part}
+use Rattle.merge_common.proofs.Lists.{Begun, begun-none}
 use Rattle.space.proofs.SettleLaws.{pulled-more, pulled-all}
 use Rattle.space.proofs.settle.pull_words.Statement.{statement}
 use Rattle.space.proofs.settle.pull_words.Tie as tie

@@ -1,0 +1,4 @@
+pub mod PlaceLaws
+pub mod OutputLaws
+pub mod OutcomeLaws
+pub mod Said

@@ -1,4 +1,0 @@
-pub mod Runs
-pub mod Reductions
-pub mod Blocks
-pub mod Listings

@@ -1,0 +1,46 @@
+-- The limits that document 01 names, each once. They are abbreviations, so that arithmetic sees the numbers. Assumes nothing.
+use Prim.Native.Nat.{ℕ}
+
+-- "p is a prime, 2 to 65,521."
+abbrev pub largestPrime : ℕ
+largestPrime = 65521
+
+-- "n from 1 to 6"
+abbrev pub mostVariables : ℕ
+mostVariables = 6
+
+-- "The bucket space has 5,460 places for words and for coefficients": the six buckets' capacities
+abbrev pub bucketPlaces : ℕ
+bucketPlaces = 5460
+
+-- "The work space, 8,192 places for each": two halves, each for as many terms as can be held
+abbrev pub workPlaces : ℕ
+workPlaces = 8192
+
+-- "11: terms held + terms to add > 4,096", and the most terms that blocks hold
+abbrev pub mostTerms : ℕ
+mostTerms = 4096
+
+-- "operations not whole pairs or over 16,777,216 of them"
+abbrev pub mostOperations : ℕ
+mostOperations = 16777216
+
+-- "a step limit over 8,796,093,022,208"
+abbrev pub mostSteps : ℕ
+mostSteps = 8796093022208
+
+-- "At most 16,384 bytes" of a script
+abbrev pub scriptBytes : ℕ
+scriptBytes = 16384
+
+-- a term, and a line, takes at least four bytes of a script: the most terms, and the most operations
+abbrev pub scriptTerms : ℕ
+scriptTerms = 4096
+
+-- the numbers of as many operations
+abbrev pub scriptNumbers : ℕ
+scriptNumbers = 8192
+
+-- bytes that every listing fits in (theorem `suffices`)
+abbrev pub listingBytes : ℕ
+listingBytes = 65536

@@ -1,0 +1,34 @@
+// The limits that document 01 names, each once.
+
+// "p is a prime, 2 to 65,521."
+pub const LARGEST_PRIME: u32 = 65521;
+
+// "n from 1 to 6"
+pub const MOST_VARIABLES: u32 = 6;
+
+// "The bucket space has 5,460 places for words and for coefficients": the six buckets' capacities.
+pub const BUCKET_PLACES: usize = 5460;
+
+// "The work space, 8,192 places for each": two halves, each for as many terms as can be held.
+pub const WORK_PLACES: usize = 8192;
+
+// "11: terms held + terms to add > 4,096", and the most terms that blocks hold.
+pub const MOST_TERMS: usize = 4096;
+
+// "operations not whole pairs or over 16,777,216 of them"
+pub const MOST_OPERATIONS: usize = 16777216;
+
+// "a step limit over 8,796,093,022,208"
+pub const MOST_STEPS: u64 = 8796093022208;
+
+// "At most 16,384 bytes" of a script.
+pub const SCRIPT_BYTES: usize = 16384;
+
+// A term, and a line, takes at least four bytes of a script: the most terms, and the most operations.
+pub const SCRIPT_TERMS: usize = 4096;
+
+// The numbers of as many operations.
+pub const SCRIPT_NUMBERS: usize = 8192;
+
+// Bytes that every listing fits in.
+pub const LISTING_BYTES: usize = 65536;
