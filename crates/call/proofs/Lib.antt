@@ -2,3 +2,4 @@ pub mod PlaceLaws
 pub mod OutputLaws
 pub mod OutcomeLaws
 pub mod Said
+pub mod AnswerLaws

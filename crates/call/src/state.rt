@@ -2,7 +2,7 @@
 use refusal::Refusal;
 ghost use mathlib.Core.Path.{_≡_};
 ghost use Prim.Native.Nat.{_<_, _≤_};
-ghost use Rattle.call.specs.States.{begun, counted, brought, gave, finishedOne, closed, halted, goesOn, Countable};
+ghost use Rattle.call.specs.States.{begun, counted, brought, gave, finishedOne, turned, closed, halted, goesOn, Countable};
 
 // Whether a call goes on.
 pub enum Course {
@@ -78,19 +78,19 @@ impl State {
     pub fn close(self) -> Self
         ensures { λ r. ⌜ r ≡ closed self ⌝ }
     {
-        State {
-            comparisons: self.comparisons,
-            brought: self.brought,
-            given: self.given,
-            places: self.places,
-            finished: self.finished,
-            course: Course::Finished,
-        }
+        self.turn(Course::Finished)
     }
 
-    // The call is stopped by a refusal: nothing else changes.
+    // The call is stopped by a refusal.
     pub fn halt(self, refusal: Refusal) -> Self
         ensures { λ r. ⌜ r ≡ halted self refusal ⌝ }
+    {
+        self.turn(Course::Refused(refusal))
+    }
+
+    // The course is set, and nothing else changes.
+    fn turn(self, course: Course) -> Self
+        ensures { λ r. ⌜ r ≡ turned self course ⌝ }
     {
         State {
             comparisons: self.comparisons,
@@ -98,7 +98,7 @@ impl State {
             given: self.given,
             places: self.places,
             finished: self.finished,
-            course: Course::Refused(refusal),
+            course,
         }
     }
 

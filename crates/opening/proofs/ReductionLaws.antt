@@ -17,7 +17,7 @@ use Rattle.opening.specs.Run.{unless, setting, lentGood, polynomialsRefu
 use Rattle.opening.specs.Reduction.{reductionShape, noneZero, divisorsGood, reductionRefusal, ReductionOpened}
 use Rattle.opening.specs.ReductionJudgement.{GoodReductionShape}
 use Rattle.polynomial.proofs.OpeningLaws.{first-none}
-use Rattle.opening.proofs.Tests.{first-some, passed}
+use Rattle.opening.proofs.Tests.{first-some, passed, and-off, and-on}
 use Rattle.opening.proofs.SettingLaws.{setting-passes}
 use Rattle.opening.proofs.PolynomialLaws.{polynomials-pass}
 use Rattle.opening.proofs.ShapeLaws.{lent-passes}
@@ -134,3 +134,13 @@ reduction-opened t words coefs starts limit bw bc ww wc ow oc h =
       polynomials = polynomials-pass t words coefs starts (d .0);
       divisors = divisors-rise starts (passed (divisorsGood starts) 7 (omega arith) (d .1));
     }
+
+-- by whether lengths and starts are good
+module _ (words coefs : ℕ) (ss : List ℕ) (limit bw bc ww wc ow oc : ℕ) where
+  pub reduction-off : (lentGood words coefs bw bc ww wc ow oc && startsGood ss words) ≡ false → reductionShape words coefs ss limit bw bc ww wc ow oc ≡ false
+  unfolding reductionShape
+  reduction-off e = and-off (lentGood words coefs bw bc ww wc ow oc) (startsGood ss words) (ltb 1 (length ss) && leb limit mostSteps) e
+
+  pub reduction-on : (lentGood words coefs bw bc ww wc ow oc && startsGood ss words) ≡ true → reductionShape words coefs ss limit bw bc ww wc ow oc ≡ (ltb 1 (length ss) && leb limit mostSteps)
+  unfolding reductionShape
+  reduction-on e = and-on (lentGood words coefs bw bc ww wc ow oc) (startsGood ss words) (ltb 1 (length ss) && leb limit mostSteps) e

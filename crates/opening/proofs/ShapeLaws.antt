@@ -1,6 +1,6 @@
 -- What a good shape is. Assumes nothing.
 use mathlib.Core.Path.{_≡_}
-use mathlib.Core.Bool.{true, _&&_}
+use mathlib.Core.Bool.{true, false, _&&_}
 use mathlib.Core.List.{List}
 use Prim.Native.Nat.{ℕ}
 use borrow.Author.Tests.{eqb-true}
@@ -10,6 +10,7 @@ use Rattle.monomial.proofs.Places.{and-both}
 use Rattle.polynomial.specs.Opening.{startsGood}
 use Rattle.opening.specs.Run.{spaceGood, lentGood, pairsGood, shapeGood}
 use Rattle.opening.specs.Judgement.{GoodLent}
+use Rattle.opening.proofs.Tests.{and-off, and-on}
 
 -- what is lent, by its lengths
 pub lent-passes : {words coefs bw bc ww wc ow oc : ℕ} → lentGood words coefs bw bc ww wc ow oc ≡ true → GoodLent words coefs bw bc ww wc ow oc
@@ -55,3 +56,13 @@ shape-passes {words} {coefs} {ss} {ops} {bw} {bc} {ww} {wc} {ow} {oc} h =
       starts = s .0;
       pairs = s .1;
     }
+
+-- by whether lengths and starts are good
+module _ (words coefs : ℕ) (ss : List ℕ) (ops bw bc ww wc ow oc : ℕ) where
+  pub shape-off : (lentGood words coefs bw bc ww wc ow oc && startsGood ss words) ≡ false → shapeGood words coefs ss ops bw bc ww wc ow oc ≡ false
+  unfolding shapeGood
+  shape-off e = and-off (lentGood words coefs bw bc ww wc ow oc) (startsGood ss words) (pairsGood ops) e
+
+  pub shape-on : (lentGood words coefs bw bc ww wc ow oc && startsGood ss words) ≡ true → shapeGood words coefs ss ops bw bc ww wc ow oc ≡ pairsGood ops
+  unfolding shapeGood
+  shape-on e = and-on (lentGood words coefs bw bc ww wc ow oc) (startsGood ss words) (pairsGood ops) e

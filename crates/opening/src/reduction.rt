@@ -1,10 +1,9 @@
 // All opening checks of a reduction, in their order.
 use crate::polynomials::polynomials_refusal;
 use crate::setting::setting;
-use crate::shape::lent_good;
+use crate::shape::input_good;
 use limits::MOST_STEPS;
 use polynomial::setting::Setting;
-use polynomial::starts::starts_good;
 ghost use mathlib.Core.Path.{_≡_};
 ghost use Rattle.opening.specs.Reduction.{reductionShape, divisorsGood, reductionRefusal};
 
@@ -65,10 +64,7 @@ fn reduction_shape(
 ) -> bool
     ensures { λ r. ⌜ r ≡ reductionShape words coefs (now (starts .entry)) limit bw bc ww wc ow oc ⌝ }
 {
-    if !lent_good(words, coefs, bw, bc, ww, wc, ow, oc) {
-        return false;
-    }
-    if !starts_good(starts, words) {
+    if !input_good(words, coefs, starts, bw, bc, ww, wc, ow, oc) {
         return false;
     }
     if starts.len() <= 1 {

@@ -4,6 +4,8 @@ use limits::MOST_OPERATIONS;
 use limits::WORK_PLACES;
 use polynomial::starts::starts_good;
 ghost use mathlib.Core.Path.{_≡_};
+ghost use mathlib.Core.Bool.{_&&_};
+ghost use Rattle.polynomial.specs.Opening.{startsGood};
 ghost use Rattle.opening.specs.Run.{spaceGood, lentGood, pairsGood, shapeGood};
 
 // Whether lengths and starts are as a run asks, by the lengths of the slices.
@@ -21,18 +23,35 @@ pub fn shape_good(
 ) -> bool
     ensures { λ r. ⌜ r ≡ shapeGood words coefs (now (starts .entry)) ops bw bc ww wc ow oc ⌝ }
 {
-    if !lent_good(words, coefs, bw, bc, ww, wc, ow, oc) {
-        return false;
-    }
-    if !starts_good(starts, words) {
+    if !input_good(words, coefs, starts, bw, bc, ww, wc, ow, oc) {
         return false;
     }
     pairs_good(ops)
 }
 
+// Whether lengths and starts are as runs and reductions ask.
+pub fn input_good(
+    words: usize,
+    coefs: usize,
+    starts: &[usize],
+    bw: usize,
+    bc: usize,
+    ww: usize,
+    wc: usize,
+    ow: usize,
+    oc: usize,
+) -> bool
+    ensures { λ r. ⌜ r ≡ lentGood words coefs bw bc ww wc ow oc && startsGood (now (starts .entry)) words ⌝ }
+{
+    if !lent_good(words, coefs, bw, bc, ww, wc, ow, oc) {
+        return false;
+    }
+    starts_good(starts, words)
+}
+
 // Whether there are as many words as coefficients, in input and output, and the bucket and work space
 // have their sizes.
-pub fn lent_good(
+fn lent_good(
     words: usize,
     coefs: usize,
     bw: usize,
