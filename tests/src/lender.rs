@@ -4,7 +4,7 @@ use crate::generate::places;
 use crate::limits::{BUCKET_PLACES, WORK_PLACES};
 use crate::random::Random;
 
-/// After so many loans the contents of the spaces are made anew.
+/// After so many loans the contents of the spaces are made again.
 const LOANS_PER_CONTENTS: u64 = 64;
 
 /// Lends spaces with any contents: rubbish, or what an earlier call left there.

@@ -25,6 +25,7 @@ pub mod reduction;
 pub mod reduction_damage;
 pub mod reduction_lists;
 pub mod refusals;
+pub mod repository;
 pub mod residue;
 pub mod run;
 pub mod run_damage;

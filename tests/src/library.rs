@@ -24,36 +24,23 @@ pub fn reduce(given: &Given, limit: u64, loan: &mut Loan) -> Answer {
 }
 
 fn polynomials(given: &Given) -> raw::Given<'_> {
-    raw::Given {
-        p: given.p,
-        order: given.order,
-        n: given.n,
-        words: &given.words,
-        coefs: &given.coefs,
-        starts: &given.starts,
-    }
+    let numbers = raw::Numbers::new(given.p, given.order, given.n);
+    raw::Given::new(numbers, &given.words, &given.coefs, &given.starts)
 }
 
 /// Lends all of a loan to a call.
 fn lending<A>(loan: &mut Loan, call: impl FnOnce(raw::Loan) -> A) -> A {
-    let Tally {
-        comparisons,
-        brought,
-        given,
-        held,
-    } = loan.tally;
-    let mut tally = raw::Tally {
-        comparisons,
-        brought,
-        given,
-        held,
-    };
-    let answer = call(raw::Loan {
-        tally: &mut tally,
-        buckets: places(&mut loan.space),
-        work: places(&mut loan.work),
-        output: places(&mut loan.output),
-    });
+    let mut tally = raw::Tally::default();
+    tally.comparisons = loan.tally.comparisons;
+    tally.brought = loan.tally.brought;
+    tally.given = loan.tally.given;
+    tally.held = loan.tally.held;
+    let answer = call(raw::Loan::new(
+        &mut tally,
+        places(&mut loan.space),
+        places(&mut loan.work),
+        places(&mut loan.output),
+    ));
     loan.tally = Tally {
         comparisons: tally.comparisons,
         brought: tally.brought,
@@ -72,7 +59,7 @@ fn places((words, coefs): &mut Space) -> raw::Places<'_> {
 pub fn write(polynomial: &Polynomial, bytes: &mut [u8]) -> Result<u64, u64> {
     let Setting { p, order, n } = polynomial.setting;
     let (words, coefs) = (&polynomial.words, &polynomial.coefs);
-    let answer = raw::write_blocks([p, order, n], words, coefs, bytes);
+    let answer = raw::write_blocks(raw::Numbers::new(p, order, n), words, coefs, bytes);
     assert_eq!(answer.finished, 0);
     match answer.refusal {
         0 => Ok(answer.blocks),

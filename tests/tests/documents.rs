@@ -1,17 +1,11 @@
 //! What the documents name is there: the theorems and must-fail edits of docs/ASSURANCE.md, the crates
-//! of README.md, the entries of library/refusals.txt.
+//! of README.md, the entries of library/refusals.txt; and what scripts make of them is as made.
 use second::refusals::{table, ENTRIES};
+use second::repository::{files, root, text};
 use std::collections::BTreeSet;
 use std::fs;
 use std::path::{Path, PathBuf};
-
-fn root() -> PathBuf {
-    Path::new(env!("CARGO_MANIFEST_DIR")).join("..")
-}
-
-fn text(path: &str) -> String {
-    fs::read_to_string(root().join(path)).unwrap_or_else(|_| panic!("no file {path}"))
-}
+use std::process::{Command, Output};
 
 /// The cells of each row of a document's tables.
 fn rows(document: &str) -> Vec<Vec<&str>> {
@@ -26,19 +20,6 @@ fn quoted(cell: &str) -> Vec<&str> {
     cell.split('`').skip(1).step_by(2).collect()
 }
 
-/// All files below a folder.
-fn files(folder: &Path) -> Vec<PathBuf> {
-    let mut found = Vec::new();
-    for entry in fs::read_dir(folder).expect("a folder") {
-        let path = entry.expect("an entry").path();
-        match path.is_dir() {
-            true => found.extend(files(&path)),
-            false => found.push(path),
-        }
-    }
-    found
-}
-
 /// Whether the text declares a theorem of this name.
 fn declares(text: &str, name: &str) -> bool {
     let declared = format!("{name} :");
@@ -49,83 +30,204 @@ fn declares(text: &str, name: &str) -> bool {
     })
 }
 
-/// Whether each theorem is declared in every file. Where several, none of a demand, share several files, it
-/// is enough that each is in one of them, and that each file has one.
-fn in_their_files(names: &[&str], files: &[String]) -> bool {
-    let in_all = |name: &&str| files.iter().all(|f| declares(f, name));
-    let in_one = |name: &&str| files.iter().any(|f| declares(f, name));
-    let has_one = |file: &String| names.iter().any(|name| declares(file, name));
-    let of_demands = names.iter().any(|name| name.starts_with("demand-"));
-    names.iter().all(in_all) || !of_demands && names.iter().all(in_one) && files.iter().all(has_one)
+/// A row of the table of claims: claim, names, and their file or folder.
+fn claim(cells: Vec<&str>) -> (&str, Vec<&str>, &str) {
+    let [claim, _, names, file] = cells[..] else {
+        panic!("not four cells: {cells:?}");
+    };
+    let [path] = quoted(file)[..] else {
+        panic!("not one file: {cells:?}");
+    };
+    assert!(!quoted(names).is_empty(), "no name: {cells:?}");
+    (claim, quoted(names), path)
 }
 
-/// A row whose last cell names files of proofs names theorems of them in its first.
-#[test]
-fn theorems_are_in_their_files() {
-    let document = text("docs/ASSURANCE.md");
-    let mut checked = 0;
-    for row in rows(&document) {
-        let paths = quoted(row[row.len() - 1]);
-        if !paths.iter().all(|p| p.contains("/proofs/")) || paths.is_empty() {
-            continue;
-        }
-        let files: Vec<String> = paths.iter().map(|p| text(&format!("crates/{p}"))).collect();
-        let names = quoted(row[0].split(": ").next().expect("names"));
-        let there = in_their_files(&names, &files);
-        assert!(there, "{names:?} are not the theorems of {paths:?}");
-        checked += names.len();
+/// The rows of the one table of docs/ASSURANCE.md.
+fn claims(document: &str) -> Vec<(&str, Vec<&str>, &str)> {
+    let head = "| Claim | What holds | Shown by | File in `crates/` |";
+    let parts: Vec<&str> = document.split(head).collect();
+    assert_eq!(parts.len(), 2, "there is one table of claims");
+    let table = parts[1].split("\n\n").next().expect("its rows");
+    rows(table).into_iter().map(claim).collect()
+}
+
+/// The wrong programs of a must-fail edit: those that it names, or one of its own name.
+fn programs(edit: &Path) -> Vec<String> {
+    let text = fs::read_to_string(edit).expect("an edit");
+    let named = text.lines().filter_map(|l| l.strip_prefix("wrong: "));
+    let named: Vec<String> = named.map(str::to_string).collect();
+    match named.is_empty() {
+        true => vec![edit.file_stem().expect("a name").to_string_lossy().into()],
+        false => named,
     }
-    assert!(checked > 100, "only {checked} theorems");
 }
 
-/// A theorem for two files that is missing in one of them is found.
-#[test]
-fn theorems_of_two_files() {
-    let whole = "a : A\npub b : B\npub demand-1 : C\ndemand-2 : D";
-    let without = |name: &str| -> String {
-        let lines = whole.lines().filter(|l| !declares(l, name));
-        lines.map(|l| format!("{l}\n")).collect()
-    };
-    let there = |names: &[&str], files: [String; 2]| in_their_files(names, &files);
-    assert!(there(&["a"], [without("b"), whole.to_string()]));
-    assert!(there(&["a", "b"], [without("a"), without("b")]));
-    assert!(!there(&["a"], [without("a"), whole.to_string()]));
-    assert!(!there(&["a"], [whole.to_string(), without("a")]));
-    assert!(!there(&["a", "b"], [without("a"), without("a")]));
-    let demands = ["demand-1", "demand-2"];
-    assert!(there(&demands, [without("a"), without("b")]));
-    assert!(!there(&demands, demands.map(without)));
+/// Whether an edit of this folder makes the wrong program of this name.
+fn has_edit(folder: &str, name: &str) -> bool {
+    let edits = files(&root().join("crates").join(folder)).into_iter();
+    let mut edits = edits.filter(|p| p.extension().is_some_and(|e| e == "edit"));
+    edits.any(|p| programs(&p).iter().any(|w| w == name))
 }
 
-/// In the table of wrong engines each name is that of a must-fail edit or of a theorem.
+/// Each theorem of the table is declared in the file that its row names, and each edit lies in its folder.
 #[test]
-fn wrong_engines_are_ruled_out() {
+fn claims_are_where_they_say() {
     let document = text("docs/ASSURANCE.md");
-    let all = files(&root().join("crates"));
-    let edit = |name: &str| {
-        let file = format!("{name}.edit");
-        all.iter().any(|p| p.ends_with(&file))
-    };
-    let theorem = |name: &str| {
-        let proofs = all
-            .iter()
-            .filter(|p| p.extension().is_some_and(|e| e == "antt"));
-        let mut texts = proofs.map(|p| fs::read_to_string(p).expect("a proof"));
-        texts.any(|t| declares(&t, name))
-    };
-    let mut checked = 0;
-    for row in rows(&document) {
-        let by = row[row.len() - 1];
-        if !by.starts_with("edit") && !by.starts_with("theorem") {
-            continue;
+    for (claim, names, path) in claims(&document) {
+        let edits = path.ends_with("/must-fail");
+        let file = if edits {
+            String::new()
+        } else {
+            text(&format!("crates/{path}"))
+        };
+        for name in names {
+            let there = if edits {
+                has_edit(path, name)
+            } else {
+                declares(&file, name)
+            };
+            assert!(there, "{claim}: {name} is not in {path}");
         }
-        for name in quoted(by) {
-            let there = name.contains('/') || edit(name) || theorem(name);
-            assert!(there, "neither an edit nor a theorem: {name}");
+    }
+}
+
+/// A theorem or edit stands in the table once; and each kind of claim is there.
+#[test]
+fn claims_are_made_once() {
+    let document = text("docs/ASSURANCE.md");
+    let (mut kinds, mut found) = (BTreeSet::new(), BTreeSet::new());
+    for (claim, names, path) in claims(&document) {
+        kinds.insert(claim);
+        for name in names {
+            assert!(
+                found.insert((path, name)),
+                "{name} of {path} stands there twice"
+            );
+        }
+    }
+    let known = "demand 1, demand 2, demand 3, ground, price, starred, wrong engine";
+    assert_eq!(kinds.into_iter().collect::<Vec<_>>().join(", "), known);
+    assert!(found.len() > 100, "only {} names", found.len());
+}
+
+/// Runs a script of docs/, in a repository, that only looks whether what it makes is there.
+fn looked_at(repository: &Path, script: &str) -> Output {
+    let mut command = Command::new("bash");
+    let command = command.args([script, "--check"]).current_dir(repository);
+    command.output().expect("bash runs")
+}
+
+fn as_made(script: &str) {
+    let looked = looked_at(&root(), script);
+    let differs = String::from_utf8_lossy(&looked.stdout);
+    let said = String::from_utf8_lossy(&looked.stderr);
+    assert!(looked.status.success(), "{differs}{said}");
+}
+
+/// The definitions that a reader must believe are listed as the sources have them.
+#[test]
+fn reading_order_is_as_made() {
+    as_made("docs/reading_order");
+}
+
+/// The crates are drawn and listed as crates.txt has them.
+#[test]
+fn crates_picture_is_as_made() {
+    as_made("docs/crates_picture");
+}
+
+/// A copy of what the scripts of docs/ read.
+fn copied() -> PathBuf {
+    let copy = std::env::temp_dir().join(format!("damselbuckle-{}", std::process::id()));
+    let mut paths = files(&root().join("docs"));
+    paths.extend(files(&root().join("crates")));
+    paths.push(root().join("crates.txt"));
+    for path in paths {
+        let to = copy.join(path.strip_prefix(root()).expect("a file of the repository"));
+        fs::create_dir_all(to.parent().expect("its folder")).expect("a folder");
+        fs::copy(path, to).expect("a copy");
+    }
+    copy
+}
+
+/// The scripts find a definition that is not counted, and a crate that is not drawn.
+#[test]
+fn changes_are_found() {
+    let copy = copied();
+    let append = |path: &str, end: &str| {
+        let path = copy.join(path);
+        let text = fs::read_to_string(&path).expect("a text");
+        fs::write(path, text + end).expect("a longer text");
+    };
+    let made = |script: &str| looked_at(&copy, script).status.success();
+    let scripts = ["docs/reading_order", "docs/crates_picture"];
+    assert_eq!(scripts.map(made), [true, true]);
+    append("crates.txt", "further: monomial\n");
+    assert_eq!(scripts.map(made), [true, false]);
+    append(
+        "crates/limits/specs/Limits.antt",
+        "\nabbrev pub further : ℕ\nfurther = 1\n",
+    );
+    assert_eq!(scripts.map(made), [false, false]);
+    fs::remove_dir_all(&copy).expect("the copy goes");
+}
+
+/// The words of all sources: those that names are made of, with hyphens or without.
+fn words_of_sources() -> BTreeSet<String> {
+    let folders = "crates library/rust/src library/rust/tests tests/src tests/tests bench/src";
+    let folders = folders.split(' ').map(|f| files(&root().join(f)));
+    let mut words = BTreeSet::new();
+    for path in folders.flatten() {
+        let name = path.file_stem().and_then(|n| n.to_str());
+        words.extend(name.map(str::to_string));
+        let Ok(text) = fs::read_to_string(&path) else {
+            continue;
+        };
+        let parts = text.split(|c: char| !(c.is_alphanumeric() || c == '_' || c == '-'));
+        words.extend(parts.map(str::to_string));
+    }
+    words
+}
+
+/// A name in back quotes in what is said of the sources is a word of theirs.
+#[test]
+fn names_are_in_the_sources() {
+    let words = words_of_sources();
+    let name = |c: char| c.is_ascii_alphanumeric() || c == '_' || c == '-';
+    let mut checked = 0;
+    for document in ["DECISIONS", "CONTRIBUTING"] {
+        let document = text(&format!("docs/{document}.md"));
+        let named = quoted(&document).into_iter();
+        for named in named.filter(|n| n.len() > 2 && n.chars().all(name)) {
+            assert!(words.contains(named), "no source has {named}");
             checked += 1;
         }
     }
-    assert!(checked > 30, "only {checked} names");
+    assert!(checked > 100, "only {checked} names");
+}
+
+/// docs/ASSURANCE.md names the toolchain that the gate compares.
+#[test]
+fn toolchain_is_the_pinned_one() {
+    let named = format!("`{}`", text("toolchain.txt").trim());
+    assert!(text("docs/ASSURANCE.md").contains(&named));
+}
+
+/// The documents keep to plain words.
+#[test]
+fn words_are_plain() {
+    let documents =
+        "ASSURANCE BENCHMARKS CONTRIBUTING DECISIONS INTEGRATION changes/README ../README";
+    for name in documents.split(' ') {
+        let document = text(&format!("docs/{name}.md"));
+        let said = document.split(|c: char| !c.is_alphanumeric());
+        let said: Vec<&str> = said.filter(|w| !w.is_empty()).collect();
+        let said = format!(" {} ", said.join(" "));
+        for words in ["anew", "see to", "sees to", "one behind the other"] {
+            let found = said.contains(&format!(" {words} "));
+            assert!(!found, "{name}: {words}");
+        }
+    }
 }
 
 /// README.md has a row for each crate, and no other.

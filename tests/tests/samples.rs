@@ -1,6 +1,6 @@
 //! The table that the program `samples` writes, from the model: its stored output must be the same,
 //! line by line.
-use second::monomial::{divides, product, quotient, Order};
+use second::monomial::{divides, Order};
 use second::residue;
 use std::cmp::Ordering;
 
@@ -108,19 +108,6 @@ fn reading(order: Order, n: usize, word: u64) -> String {
     format!("word {word:016x} exponents {exponents} {not}of the layout")
 }
 
-fn division(order: Order, x: &[u8], y: &[u8]) -> String {
-    let answer = match quotient(x, y) {
-        Some(q) => format!("quotient {}", dotted(&q)),
-        None => "not".to_string(),
-    };
-    format!(
-        "{} {} divides {}: {answer}",
-        order.name(),
-        dotted(y),
-        dotted(x)
-    )
-}
-
 fn pair(order: Order, x: &[u8], y: &[u8], lines: &mut Vec<String>) {
     let name = order.name();
     let sign = match order.compare(x, y) {
@@ -137,17 +124,6 @@ fn pair(order: Order, x: &[u8], y: &[u8], lines: &mut Vec<String>) {
             reading(order, m.len(), word)
         ));
     }
-    lines.push(division(order, x, y));
-    lines.push(division(order, y, x));
-    let answer = match product(x, y) {
-        Some(p) => dotted(&p),
-        None => "over 127".to_string(),
-    };
-    lines.push(format!(
-        "{name} {} times {}: {answer}",
-        dotted(x),
-        dotted(y)
-    ));
 }
 
 fn modulo(p: u32, a: u32, b: u32, lines: &mut Vec<String>) {

@@ -1,5 +1,6 @@
 //! The stack of the library's calls, on the largest inputs: each call is made in a thread that has no more
-//! stack than is named for it. Where that is not enough, the test breaks off.
+//! stack than is named for it. Where that is not enough, the test breaks off. A listing is also tried with
+//! less, in a process of its own, which must break off.
 use damselbuckle::raw;
 use second::block_store::{self, Polynomial};
 use second::call::{Given, Setting};
@@ -14,10 +15,16 @@ use second::polynomial::Term;
 use second::reduction;
 use second::run;
 use second::script;
+use std::os::unix::process::ExitStatusExt;
+use std::process::Command;
 
-/// Bytes of stack, as docs/INTEGRATION.md names them.
+/// Bytes of stack, as the header and docs/INTEGRATION.md name them.
 const OF_A_CALL: usize = 100_000;
 const OF_A_LISTING: usize = 400_000;
+const TOO_FEW_FOR_A_LISTING: usize = 360_000;
+
+/// The variable by which the stack of a listing is set.
+const STACK: &str = "STACK_OF_A_LISTING";
 
 /// Makes a call in a thread of so much stack.
 fn within<A: Send>(bytes: usize, call: impl FnOnce() -> A + Send) -> A {
@@ -118,6 +125,10 @@ fn blocks_need_little_stack() {
 /// A script of the most bytes, with as many terms as fit, and their sum.
 #[test]
 fn a_listing_needs_little_stack() {
+    let stack = match std::env::var(STACK) {
+        Ok(bytes) => bytes.parse().expect("a number"),
+        Err(_) => OF_A_LISTING,
+    };
     for order in Order::ALL {
         let mut text = format!("prime 65521\norder {}\nvars 3\nadd", order.name());
         for (exponents, coef) in falling_terms(order, MOST_TERMS) {
@@ -128,10 +139,39 @@ fn a_listing_needs_little_stack() {
         }
         let text = padded(&(text + "\nlead\nsum\n"), SCRIPT_BYTES);
         let mut out = vec![0; LISTING_BYTES];
-        let answer = within(OF_A_LISTING, || raw::listing(text.as_bytes(), &mut out));
+        let answer = within(stack, || raw::listing(text.as_bytes(), &mut out));
         assert_eq!(answer.refusal, 0, "{order:?}");
         let listing = script::listing(text.as_bytes());
         assert!(listing.starts_with("lead 1:127.127.0\nsum "), "{order:?}");
         assert_eq!(&out[..answer.length as usize], listing.as_bytes());
+    }
+}
+
+#[test]
+fn a_listing_needs_that_stack() {
+    let tests = std::env::current_exe().expect("these tests");
+    let listing = |bytes: usize| {
+        let mut test = Command::new(&tests);
+        let test = test.args(["a_listing_needs_little_stack", "--exact"]);
+        test.env(STACK, bytes.to_string())
+            .output()
+            .expect("it runs")
+    };
+    assert!(listing(OF_A_LISTING).status.success());
+    let broken = listing(TOO_FEW_FOR_A_LISTING).status;
+    assert!(broken.signal().is_some(), "it ended with {broken}");
+}
+
+/// The header and docs/INTEGRATION.md name these numbers.
+#[test]
+fn documents_name_the_stack() {
+    let header = include_str!("../../library/damselbuckle.h").replace("\n * ", " ");
+    let guide = include_str!("../../docs/INTEGRATION.md").replace('\n', " ");
+    let named = |bytes: usize| format!("{},{:03}", bytes / 1_000, bytes % 1_000);
+    let [call, listing, too_few] = [OF_A_CALL, OF_A_LISTING, TOO_FEW_FOR_A_LISTING].map(named);
+    let of_a_call = format!("{call} bytes are enough for a run, a reduction and the block store.");
+    let of_a_listing = format!("For a listing {listing} are enough, and {too_few} are too few.");
+    for document in [header, guide] {
+        assert!(document.contains(&of_a_call) && document.contains(&of_a_listing));
     }
 }

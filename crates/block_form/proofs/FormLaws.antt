@@ -17,8 +17,8 @@ use Rattle.opening.specs.Run.{unless, between}
 use Rattle.polynomial.proofs.OpeningLaws.{first-none}
 use Rattle.opening.proofs.Tests.{passed}
 use Rattle.polynomial.specs.declared.setting.Setting.{Setting}
-use Rattle.block.specs.Block.{header, blockCount, same, zeros, settingIn}
-use Rattle.block_form.specs.Form.{allBelow, wholeBlocks, countIn, totalIn, hereOf, checksStand, blockStands, blocksStand, Counted, Formed, formRefusal}
+use Rattle.block.specs.Block.{header, blockCount, same, settingIn}
+use Rattle.block_form.specs.Form.{allBelow, wholeBlocks, countIn, totalIn, hereOf, checksStand, unusedClear, blockStands, blocksStand, Counted, Formed, formRefusal}
 
 -- ---- a test of each number below another
 module _ (f : ℕ → Bool) where
@@ -56,16 +56,16 @@ module _ (s : List ℕ) (k count total here : ℕ) (t : Setting) (q : Counted s 
       ap₂ (λ (c : ℕ) (u : Setting). same (part (512 * k) 16 s) (header k c here u)) (q .count-is) e
       ∙ ap (λ (m : ℕ). same (part (512 * k) 16 s) (header k (countIn s) m (settingIn s))) (h ∙ ap (λ (n : ℕ). hereOf n k) (q .total-is))
 
-  filler-is : zeros (part (512 * k + 16 + 12 * here) (12 * (41 - here)) s) ≡ zeros (part (512 * k + 16 + 12 * hereOf (totalIn s) k) (12 * (41 - hereOf (totalIn s) k)) s)
-  filler-is = ap (λ (m : ℕ). zeros (part (512 * k + 16 + 12 * m) (12 * (41 - m)) s)) (h ∙ ap (λ (n : ℕ). hereOf n k) (q .total-is))
+  filler-is : unusedClear s k here ≡ unusedClear s k (hereOf (totalIn s) k)
+  filler-is = ap (unusedClear s k) (h ∙ ap (λ (n : ℕ). hereOf n k) (q .total-is))
 
   pub no-header : same (part (512 * k) 16 s) (header k count here t) ≡ false → false ≡ blockStands s k
   unfolding blockStands
-  no-header z = sym (ap (λ (b : Bool). b && zeros (part (512 * k + 16 + 12 * hereOf (totalIn s) k) (12 * (41 - hereOf (totalIn s) k)) s)) (sym header-is ∙ z))
+  no-header z = sym (ap (λ (b : Bool). b && unusedClear s k (hereOf (totalIn s) k)) (sym header-is ∙ z))
 
-  pub by-filler : (r : Bool) → same (part (512 * k) 16 s) (header k count here t) ≡ true → r ≡ zeros (part (512 * k + 16 + 12 * here) (12 * (41 - here)) s) → r ≡ blockStands s k
+  pub by-filler : (r : Bool) → same (part (512 * k) 16 s) (header k count here t) ≡ true → r ≡ unusedClear s k here → r ≡ blockStands s k
   unfolding blockStands
-  by-filler r z w = w ∙ (filler-is ∙ sym (ap (λ (b : Bool). b && zeros (part (512 * k + 16 + 12 * hereOf (totalIn s) k) (12 * (41 - hereOf (totalIn s) k)) s)) (sym header-is ∙ z)))
+  by-filler r z w = w ∙ (filler-is ∙ sym (ap (λ (b : Bool). b && unusedClear s k (hereOf (totalIn s) k)) (sym header-is ∙ z)))
 
 -- ---- whole blocks
 module _ (len : ℕ) where

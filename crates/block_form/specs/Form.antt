@@ -43,11 +43,15 @@ checksStand s = allBelow (countIn s) (checkStands s)
 
 -- ---- "16: a block number, count, number of terms or filler that writing would not put there, p, order or n unlike the first block's, or over 4,096 terms."
 
+-- the places of block k that so many terms leave unused are 0
+abbrev pub unusedClear : List ℕ → (k here : ℕ) → Bool
+unusedClear s k here = zeros (part (512 * k + 16 + 12 * here) (12 * (41 - here)) s)
+
 -- block k has the header that writing would put there, with the first block's p, order and n, and its unused places are 0
 unfoldable pub blockStands : List ℕ → ℕ → Bool
 blockStands s k =
     let here = hereOf (totalIn s) k in
-    same (part (512 * k) 16 s) (header k (countIn s) here (settingIn s)) && zeros (part (512 * k + 16 + 12 * here) (12 * (41 - here)) s)
+    same (part (512 * k) 16 s) (header k (countIn s) here (settingIn s)) && unusedClear s k here
 
 abbrev pub blocksStand : List ℕ → Bool
 blocksStand s = eqb (blockCount (totalIn s)) (countIn s) && (leb (totalIn s) mostTerms && allBelow (countIn s) (blockStands s))

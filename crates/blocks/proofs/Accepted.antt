@@ -2,16 +2,12 @@
 use mathlib.Core.Path.{_≡_, refl, sym, ap, ap₂, _∙_}
 use mathlib.Core.Bool.{true}
 use mathlib.Core.List.{List, [], _∷_, _++_, append-nil}
-use Prim.Native.Nat.{ℕ, zero, suc, _+_, _-_, _*_, _^_, _<_, _≤_}
-use native.Mathlib.Nat.{add-zero, mul-zero}
+use Prim.Native.Nat.{ℕ, zero, suc, _+_, _-_, _*_, _<_, _≤_}
 use native.Mathlib.Omega.{arith}
 use borrow.Author.Tests.{eqb-true}
-use lib.Dec.{eqb}
 use lib.ListN.{length, getD, take, drop, replicate, length-map}
 use lib.Seq.{take-all, take-suc, take-add, take-length, getD-take, getD-drop}
-use Rattle.monomial.specs.Layout.{bytes, ofBytes, Below}
-use Rattle.monomial.proofs.ByteLaws.{bytes-of}
-use Rattle.monomial.proofs.LayoutLaws.{below-take}
+use Rattle.monomial.specs.Layout.{bytes, Below}
 use Rattle.monomial.proofs.Places.{and-both, true-below}
 use Rattle.monomial.proofs.Places as M
 use Rattle.polynomial.specs.Terms.{Term, term, words, coefs}
@@ -23,6 +19,7 @@ use Rattle.polynomial.specs.declared.setting.Setting.{Setting}
 use Rattle.block.specs.Block.{numberAt, header, place, places, unused, checkOf, body, block, termsOf, blockCount, firstBlocks, blocksOf, same, zeros, settingIn}
 use Rattle.block.proofs.ByteLaws.{part-append}
 use Rattle.block.proofs.BlockLaws.{places-append}
+use Rattle.block.proofs.FieldLaws.{same-true, number-bytes}
 use Rattle.block_form.specs.Form.{countIn, totalIn, hereOf, checkStands, blockStands}
 use Rattle.blocks.specs.Reading.{placeAt, termsIn, readRefusal}
 use Rattle.block_form.proofs.FormLaws.{all-each, Form}
@@ -31,29 +28,9 @@ use Rattle.blocks.proofs.PlaceLaws.{length-first, first-at}
 use Rattle.blocks.proofs.WriteLaws.{no-stop, length-termsOf, termsOf-few}
 use Rattle.blocks.proofs.ReadLaws.{read-passes}
 
--- ---- what the tests say
-same-true : (xs ys : List ℕ) → same xs ys ≡ true → xs ≡ ys
-unfolding same
-same-true [] [] h = refl
-same-true [] (y ∷ ys) h = let z : _≡_ {A = ℕ} 0 1 = cc in absurd (let q : ⊥ = omega arith in q)
-same-true (x ∷ xs) [] h = let z : _≡_ {A = ℕ} 0 1 = cc in absurd (let q : ⊥ = omega arith in q)
-same-true (x ∷ xs) (y ∷ ys) h = let a = and-both (eqb x y) (same xs ys) h in ap₂ _∷_ (eqb-true x y (a .0)) (same-true xs ys (a .1))
-
-below-drop : (k n : ℕ) (l : List ℕ) → Below k l → Below k (drop n l)
-below-drop k zero l u = u
-below-drop k (suc n) [] u = tt
-below-drop k (suc n) (a ∷ l) u = below-drop k n l (u .1)
-
 module _ (s : List ℕ) (u : Below 256 s) where
-  -- the bytes of a number that is read are those that it was read from
-  number-bytes : (k at : ℕ) → at + k ≤ length s → bytes k (numberAt k at s) ≡ part at k s
-  number-bytes k at h =
-      let b = part at k s in
-      ap (bytes k) (sym (add-zero (ofBytes b)) ∙ ap (λ (n : ℕ). ofBytes b + n) (sym (mul-zero (256 ^ k))))
-      ∙ bytes-of k b 0 (length-part at k s h) (below-take 256 k (drop at s) (below-drop 256 at s u))
-
   place-bytes : (at : ℕ) → at + 12 ≤ length s → place (term (numberAt 8 at s) (numberAt 4 (at + 8) s)) ≡ part at 12 s
-  place-bytes at h = ap₂ _++_ (number-bytes 8 at (omega arith)) (number-bytes 4 (at + 8) (omega arith)) ∙ sym (part-append at 8 4 s)
+  place-bytes at h = ap₂ _++_ (number-bytes s u 8 at (omega arith)) (number-bytes s u 4 (at + 8) (omega arith)) ∙ sym (part-append at 8 4 s)
 
   module _ (ow oc : ℕ) (f : Form s ow oc) where
     abbrev t : Setting
@@ -133,7 +110,7 @@ module _ (s : List ℕ) (u : Below 256 s) where
 
       check-is : part (512 * k + 508) 4 s ≡ bytes 4 (checkOf (body k count t us))
       check-is =
-          sym (number-bytes 4 (512 * k + 508) (omega (arith, inside k h)))
+          sym (number-bytes s u 4 (512 * k + 508) (omega (arith, inside k h)))
           ∙ ap (bytes 4) (eqb-true (numberAt 4 (512 * k + 508) s) (checkOf (part (512 * k) 508 s)) (all-each (checkStands s) count (f .checks) k h) ∙ ap checkOf body-is)
 
       pub block-is : part (512 * k) 512 s ≡ block k count t us

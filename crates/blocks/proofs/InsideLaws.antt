@@ -1,18 +1,17 @@
 -- What lies where in the blocks of a polynomial. Assumes nothing.
 use mathlib.Core.Path.{_≡_, refl, sym, ap, _∙_}
 use mathlib.Core.List.{List, [], _∷_, _++_}
-use Prim.Native.Nat.{ℕ, zero, suc, _+_, _-_, _*_, _^_, _<_, _≤_}
+use Prim.Native.Nat.{ℕ, zero, suc, _+_, _-_, _*_, _<_, _≤_}
 use native.Mathlib.Decide.{decLe}
-use native.Mathlib.Nat.{mod-eq-of-lt}
 use native.Mathlib.Omega.{arith}
 use lib.ListN.{length, getD, take, drop, length-replicate, length-drop}
 use lib.Seq.{take-all, take-append-le, drop-append-le, drop-append-add}
-use Rattle.monomial.specs.Layout.{bytes, ofBytes}
-use Rattle.monomial.proofs.ByteLaws.{length-bytes, ofBytes-bytes}
+use Rattle.monomial.specs.Layout.{bytes}
+use Rattle.monomial.proofs.ByteLaws.{length-bytes}
 use Rattle.polynomial.specs.Terms.{Term, term}
 use Rattle.merge_common.specs.Lent.{part}
 use Rattle.polynomial.specs.declared.setting.Setting.{Setting}
-use Rattle.block.specs.Block.{settingBytes, header, place, places, unused, checkOf, body, block, termsOf, firstBlocks}
+use Rattle.block.specs.Block.{header, place, places, unused, checkOf, body, block, termsOf, firstBlocks}
 use Rattle.block.proofs.BlockLaws.{length-header, length-places, length-body, length-block}
 use Rattle.blocks.proofs.WriteLaws.{length-blocks, termsOf-few}
 
@@ -25,10 +24,6 @@ part-right xs ys k at n e = ap (λ (m : ℕ). part (m + at) n (xs ++ ys)) (sym e
 
 pub part-all : (xs : List ℕ) (n : ℕ) → length xs ≡ n → part 0 n xs ≡ xs
 part-all xs n e = take-all n xs (omega arith)
-
--- a number that fits is got back
-pub got-back : (k x : ℕ) → x < 256 ^ k → ofBytes (bytes k x) ≡ x
-got-back k x h = ofBytes-bytes k x ∙ mod-eq-of-lt h
 
 -- ---- inside one block
 module _ (number count : ℕ) (t : Setting) (ts : List (Term ℕ)) (few : length ts ≤ 41) where
@@ -63,24 +58,6 @@ module _ (number count : ℕ) (t : Setting) (ts : List (Term ℕ)) (few : length
   check-in =
       part-right (body number count t ts) (bytes 4 (checkOf (body number count t ts))) 508 0 4 long-body
       ∙ part-all (bytes 4 (checkOf (body number count t ts))) 4 (length-bytes 4 (checkOf (body number count t ts)))
-
--- ---- inside a header
-module _ (number count here : ℕ) (t : Setting) where
-  pub here-in : part 4 2 (header number count here t) ≡ bytes 2 here
-  unfolding header settingBytes bytes
-  here-in = refl
-
-  pub p-in : part 6 2 (header number count here t) ≡ bytes 2 (t .p)
-  unfolding header settingBytes bytes
-  p-in = refl
-
-  pub order-in : part 8 1 (header number count here t) ≡ bytes 1 (t .order)
-  unfolding header settingBytes bytes
-  order-in = refl
-
-  pub n-in : part 9 1 (header number count here t) ≡ bytes 1 (t .n)
-  unfolding header settingBytes bytes
-  n-in = refl
 
 -- ---- inside the places
 pub word-in : (ts : List (Term ℕ)) (i : ℕ) → i < length ts → part (12 * i) 8 (places ts) ≡ bytes 8 (getD ts i (term 0 0) .mono)

@@ -6,3 +6,5 @@ pub mod RoundTrip
 pub mod Accepted
 pub mod Counts
 mod Outcomes
+pub mod Judgements
+pub mod Demands

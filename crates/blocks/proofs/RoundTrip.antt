@@ -1,5 +1,5 @@
 -- Reading what was written gives the same setting and polynomial. Assumes nothing.
-use mathlib.Core.Path.{_≡_, refl, sym, ap, ap₂, _∙_}
+use mathlib.Core.Path.{_≡_, sym, ap, ap₂, _∙_}
 use mathlib.Core.Bool.{true, _&&_}
 use mathlib.Core.List.{List, [], _∷_, _++_}
 use Prim.Native.Nat.{ℕ, zero, suc, _+_, _-_, _*_, _/_, _%_, _^_, _<_, _≤_}
@@ -24,6 +24,7 @@ use Rattle.polynomial.specs.declared.setting.Setting.{Setting}
 use Rattle.block.specs.Block.{numberAt, header, unused, sumWords, checkOf, body, block, termsOf, blockCount, blocksOf, same, zeros, settingIn}
 use Rattle.block.proofs.ByteLaws.{part-part}
 use Rattle.block.proofs.BlockLaws.{length-header, length-body}
+use Rattle.block.proofs.FieldLaws.{same-self, got-back, here-in, p-in, order-in, n-in}
 use Rattle.blocks.specs.declared.read.Reading.the-variants as R
 use Rattle.block_form.specs.Form.{allBelow, wholeBlocks, countIn, totalIn, hereOf, checkStands, checksStand, blockStands, blocksStand, formRefusal}
 use Rattle.blocks.specs.Reading.{placeAt, termAt, firstTerms, termsIn, contentRefusal, readRefusal}
@@ -31,18 +32,13 @@ use Rattle.blocks.specs.Outcome.{writeRefusal, ReadOutcome, readStated, 
 use Rattle.block_form.proofs.FormLaws.{all-of}
 use Rattle.blocks.proofs.PlaceLaws.{length-first, first-at}
 use Rattle.blocks.proofs.WriteLaws.{Writable, write-passes, length-blocks, termsOf-few, length-termsOf}
-use Rattle.blocks.proofs.InsideLaws.{part-all, got-back, body-in, header-in, places-in, filler-in, check-in, here-in, p-in, order-in, n-in, word-in, coef-in, block-in}
+use Rattle.blocks.proofs.InsideLaws.{part-all, body-in, header-in, places-in, filler-in, check-in, word-in, coef-in, block-in}
 
 -- ---- the words and coefficients of a polynomial that is not refused fit their bytes
 fitting : (t : Setting) (ts : List (Term ℕ)) → t .n ≤ 6 → t .p ≤ largestPrime → All (λ u. Layout (orderOf (t .order)) (t .n) (u .mono)) ts → All (λ u. (0 < u .coef) × (u .coef < t .p)) ts → (i : ℕ) → i < length ts → (getD ts i (term 0 0) .mono < 256 ^ 8) × (getD ts i (term 0 0) .coef < 256 ^ 4)
 fitting t [] hn hp l r i h = absurd (let z : ⊥ = omega arith in z)
 fitting t (u ∷ ts) hn hp l r zero h = let q = layout-packed (orderOf (t .order)) (t .n) (u .mono) hn (l .0) in (omega (arith, q .room), omega (arith, r .0 .1))
 fitting t (u ∷ ts) hn hp l r (suc i) h = fitting t ts hn hp (l .1) (r .1) i (omega arith)
-
-same-self : (l : List ℕ) → same l l ≡ true
-unfolding same
-same-self [] = refl
-same-self (x ∷ l) = ap₂ _&&_ (eq-eqb x x refl) (same-self l)
 
 module _ (t : Setting) (ws cs : List ℕ) (room : ℕ) (w : Writable t ws cs room) where
   abbrev ts : List (Term ℕ)

@@ -21,7 +21,7 @@ use Rattle.space.proofs.SpaceLaws.{row-of, row-end, moved-head, moved-len, laid
 use Rattle.buckets.specs.declared.level.Level.{Level}
 use Rattle.buckets.specs.Adding.{MergeIn, Stored}
 
--- a list that differs from another within a run of places is the other with that run put anew
+-- a list that differs from another within a run of places is the other with that run put again
 as-sets : (l o : List ℕ) (low e : ℕ) → length o ≡ length l → low ≤ e → e ≤ length l → ((t : ℕ) → (t < low) ⊎ (e ≤ t) → getD o t 0 ≡ getD l t 0) → o ≡ sets l low (part low (e - low) o)
 as-sets l o low e long h r stay = ext-getD 0 o (sets l low (part low (e - low) o)) (long ∙ sym (length-sets l low (part low (e - low) o))) (λ t b. at t (decLe (suc t) low) (decLe e t))
   where

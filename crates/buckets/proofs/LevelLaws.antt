@@ -1,13 +1,13 @@
 -- The levels of the buckets, one after the other. Assumes nothing.
-use mathlib.Core.Path.{_≡_, refl, sym, ap, ap₂, _∙_, subst}
-use Prim.Native.Nat.{ℕ, zero, suc, _+_, _-_, _*_, _<_, _≤_}
+use mathlib.Core.Path.{_≡_, refl, sym, ap, _∙_, subst}
+use Prim.Native.Nat.{ℕ, suc, _+_, _-_, _*_, _<_, _≤_}
 use native.Mathlib.Decide.{decLe}
 use native.Mathlib.Omega.{arith}
 use Rattle.limits.specs.Limits.{bucketPlaces, mostTerms}
 use Rattle.space.specs.Space.{capacity, start}
 use Rattle.buckets.specs.declared.level.Level.{Level}
 use Rattle.buckets.specs.Levels.{levelAt, LevelFor}
-use Rattle.space.proofs.Starts.{next-capacity, cap-small, cap-last, cap-zero, next-start, start-end, start-up}
+use Rattle.space.proofs.Starts.{next-capacity, cap-small, cap-last, next-start, start-end}
 
 pub start-is : (l : Level) → l ≡ levelAt (l .bucket) → l .start ≡ start (l .bucket)
 start-is l e = ap (λ (k : Level). k .start) e

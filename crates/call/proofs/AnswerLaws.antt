@@ -1,7 +1,6 @@
 -- What is stated of an answer determines it: a contract over number and values leaves no choice. Assumes nothing.
 use mathlib.Core.Path.{_≡_, sym, ap, ap₂}
 use Prim.Native.Nat.{ℕ}
-use Rattle.refusal.specs.declared.Refusal.{Refusal}
 use Rattle.refusal.proofs.TableLaws.{number-once, number-some}
 use Rattle.call.specs.declared.answer.Answer.{Answer}
 use Rattle.call.specs.declared.answer.Answer.the-variants.{Done, Refused}

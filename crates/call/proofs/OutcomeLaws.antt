@@ -1,15 +1,18 @@
 -- What a call leaves, at each of its returns. Assumes nothing.
 use mathlib.Core.Path.{_≡_, refl, sym, ap, ap₂, _∙_}
-use mathlib.Core.List.{List, _++_}
-use Prim.Native.Nat.{ℕ, zero, suc}
+use mathlib.Core.List.{List, [], _∷_, _++_, map}
+use Prim.Native.Nat.{ℕ, zero, suc, _*_, _≤_, Ordering}
 use native.Mathlib.Omega.{arith}
-use lib.ListN.{length, take, drop, take-append-drop}
+use lib.ListN.{length, take, drop, take-append-drop, length-map}
 use lib.Seq.{length-take-le}
 use Rattle.polynomial.specs.Terms.{Term}
 use Rattle.polynomial.specs.Terms as T
 use Rattle.polynomial.proofs.TermLists.{words-terms, coefs-terms}
 use Rattle.merge_common.specs.Lent.{part}
-use Rattle.space.specs.Space.{AtReturn}
+use Rattle.geobucket.specs.Buckets.{Good, Fit}
+use Rattle.geobucket.proofs.EventLaws.{good-fit}
+use Rattle.space.specs.Space.{laidOut, LiesIn, AtReturn}
+use Rattle.space.proofs.LaidLaws.{laid-out}
 use Rattle.call.specs.declared.answer.Tally.{Tally}
 use Rattle.call.specs.Answers.{Stated, openingRefused, Outcome, returned, decidedBy}
 use Rattle.call.specs.Lending.{Output}
@@ -50,3 +53,17 @@ module _ {at : ℕ} {ow oc : List ℕ} (o : Output at ow oc) where
       let eow = words-whole ow₀ pw in
       let eoc = coefs-whole oc₀ pc in
       cc
+
+-- ---- the bucket space that a call leaves
+fit-map : (g : List (Term ℕ) → List ℕ) → ((b : List (Term ℕ)) → length (g b) ≡ length b) → (cap : ℕ) (bs : List (List (Term ℕ))) → Fit cap bs → Fit cap (map g bs)
+unfolding Fit
+fit-map g e cap [] f = tt
+fit-map g e cap (b ∷ bs) f = (let h : length (g b) ≤ cap = omega (arith, e b, f .0) in h, fit-map g e (4 * cap) bs (f .1))
+
+-- each bucket held lies in it from document 01's start of that bucket on, and 0 past it
+pub returned-lies : (cmp : ℕ → ℕ → Ordering) (p : ℕ) (answer : Stated) (tally : Tally) (held : List (List (Term ℕ))) (written : List (Term ℕ)) (ow oc : List ℕ) → length held ≡ 6 → Good cmp p 4 held
+    → let o = returned answer tally held written ow oc in LiesIn (map T.words held) (o .bw) × LiesIn (map T.coefs held) (o .bc)
+returned-lies cmp p answer tally held written ow oc count g = (lies T.words (λ b. length-map b _), lies T.coefs (λ b. length-map b _))
+  where
+    lies : (f : List (Term ℕ) → List ℕ) → ((b : List (Term ℕ)) → length (f b) ≡ length b) → LiesIn (map f held) (laidOut 4 (map f held))
+    lies f e = laid-out (map f held) (length-map held f ∙ count) (fit-map f e 4 held (good-fit cmp p 4 held g))

@@ -1,14 +1,13 @@
 -- The terms that lie in an output and in the bucket space at return are those that were put there. Assumes nothing.
-use mathlib.Core.Path.{_≡_, refl, sym, ap, ap₂, _∙_}
+use mathlib.Core.Path.{_≡_, refl, ap, ap₂, _∙_}
 use mathlib.Core.List.{List, [], _∷_, _++_, map}
 use Prim.Native.Nat.{ℕ, zero, suc, _+_, _-_, _*_, _<_, Ordering}
 use native.Mathlib.Omega.{arith}
-use lib.ListN.{length, take, replicate, length-append}
+use lib.ListN.{length, take, drop, replicate, length-append}
 use Rattle.polynomial.specs.Terms.{Term, terms, total, Reduced}
 use Rattle.polynomial.specs.Terms as T
-use Rattle.geobucket.specs.Buckets.{held, totalIn}
+use Rattle.geobucket.specs.Buckets.{held, totalIn, Canon}
 use Rattle.geobucket.proofs.EventLaws.{total-append}
-use Rattle.geobucket.proofs.SearchLaws.{Canon}
 use Rattle.space.specs.Space.{laidOut}
 use Rattle.call.specs.Places.{unlessZero, nonZero, writtenIn, heldAt}
 
@@ -81,5 +80,16 @@ terms-whole : (b : List (Term ℕ)) → terms (T.words b) (T.coefs b) ≡ b
 terms-whole [] = refl
 terms-whole (t ∷ b) = ap (λ (l : List (Term ℕ)). t ∷ l) (terms-whole b)
 
+pub terms-back : (out : List (Term ℕ)) (rw rc : List ℕ) → terms (take (length out) (T.words out ++ rw)) (take (length out) (T.coefs out ++ rc)) ≡ out
+terms-back out rw rc = ap₂ terms (take-words out rw) (take-coefs out rc) ∙ terms-whole out
+
 pub written-back : (out : List (Term ℕ)) (rw rc : List ℕ) → writtenIn (length out) (T.words out ++ rw) (T.coefs out ++ rc) ≡ nonZero out
-written-back out rw rc = ap₂ (λ (x y : List ℕ). nonZero (terms x y)) (take-words out rw) (take-coefs out rc) ∙ ap nonZero (terms-whole out)
+written-back out rw rc = ap nonZero (terms-back out rw rc)
+
+pub words-past : (b : List (Term ℕ)) (r : List ℕ) → drop (length b) (T.words b ++ r) ≡ r
+words-past [] r = refl
+words-past (t ∷ b) r = words-past b r
+
+pub coefs-past : (b : List (Term ℕ)) (r : List ℕ) → drop (length b) (T.coefs b ++ r) ≡ r
+coefs-past [] r = refl
+coefs-past (t ∷ b) r = coefs-past b r

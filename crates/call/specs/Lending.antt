@@ -1,16 +1,20 @@
 -- What is lent to a call: polynomials, spaces and output. Assumes nothing.
-use Prim.Native.Nat.{ℕ, _≤_, Ordering}
+use Prim.Native.Nat.{ℕ, _-_, _≤_, Ordering}
 use mathlib.Core.Path.{_≡_}
 use mathlib.Core.List.{List}
 use lib.ListN.{length}
 use Rattle.limits.specs.Limits.{bucketPlaces, workPlaces}
 use Rattle.polynomial.specs.Terms.{Term, terms, Canonical}
 use Rattle.polynomial.specs.Opening.{partOf}
-use Rattle.space.specs.Space.{Buckets, noBuckets}
+use Rattle.space.specs.Space.{Buckets, listFrom, noBuckets}
 
 -- "Polynomial k is handed on as that part of the slices"
 abbrev pub polynomial : (words coefs starts : List ℕ) → ℕ → List (Term ℕ)
 polynomial words coefs starts k = terms (partOf starts k words) (partOf starts k coefs)
+
+-- "Polynomial 0 is added first; the others are divisors."
+abbrev pub divisorsOf : (words coefs starts : List ℕ) → List (List (Term ℕ))
+divisorsOf words coefs starts = listFrom (polynomial words coefs starts) 1 (length starts - 2)
 
 -- a polynomial to add
 pub record Addend (cmp : ℕ → ℕ → Ordering) (p : ℕ) (fw fc : List ℕ) : Type 0 where

@@ -1,5 +1,5 @@
 -- A call's outcome with its answer as numbers. Assumes nothing.
-use mathlib.Core.Path.{_≡_, refl, sym, _∙_}
+use mathlib.Core.Path.{_≡_}
 use mathlib.Core.List.{List}
 use Prim.Native.Nat.{ℕ}
 use Rattle.call.specs.declared.answer.Tally.{Tally}

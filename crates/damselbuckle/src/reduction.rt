@@ -8,7 +8,7 @@ ghost use mathlib.Core.Path.{_≡_};
 ghost use Rattle.polynomial.specs.Settings.{settingOf};
 ghost use Rattle.call.specs.Answers.{Outcome};
 ghost use Rattle.answers.specs.Course.{reductionStated};
-ghost use Rattle.reductions.specs.Outcome.{reductionOutcome};
+ghost use Rattle.reduction_outcome.specs.Outcome.{reductionOutcome};
 
 // The reduction `reductions::reduce`, with the answer as numbers and the counts set in place. An opening refusal
 // changes nothing.

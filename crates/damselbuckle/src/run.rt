@@ -8,7 +8,7 @@ ghost use mathlib.Core.Path.{_≡_};
 ghost use Rattle.polynomial.specs.Settings.{settingOf};
 ghost use Rattle.call.specs.Answers.{Outcome};
 ghost use Rattle.answers.specs.Course.{runStated};
-ghost use Rattle.runs.specs.Outcome.{runOutcome};
+ghost use Rattle.run_outcome.specs.Outcome.{runOutcome};
 
 // The run `runs::run`, with the answer as numbers and the counts set in place. An opening refusal
 // changes nothing.

@@ -21,6 +21,11 @@ use Rattle.division.proofs.TailLaws.{Added, DividedStep, tail-added}
 use Rattle.division.proofs.FitLaws.{choice-sound}
 use Rattle.division.proofs.Combining.{combination-none, combination-kept, combination-divided}
 
+pub none-large : {A : Type 0} (q : A) (f : List (Term A)) → anyTooLarge (λ a b. false) q f ≡ false
+unfolding anyTooLarge
+none-large q [] = refl
+none-large q (t ∷ ts) = none-large q ts
+
 module _ {A : Type 0} (cmp : A → A → Ordering) (choose : A → Fit A) (quotient _·_ : A → A → A) (p : ℕ) where
   abbrev Div : ℕ → (f r : List (Term A)) → Type 0
   Div n f r = Division cmp choose quotient _·_ p n f r
@@ -73,11 +78,6 @@ module _ {A : Type 0} (cmp : A → A → Ordering) (choose : A → Fit A) (quoti
     pos : 0 < p
     pos = omega (arith, prime .above)
 
-    none-large : (q : A) (f : List (Term A)) → anyTooLarge (λ a b. false) q f ≡ false
-    unfolding anyTooLarge
-    none-large q [] = refl
-    none-large q (t ∷ ts) = none-large q ts
-
     valid-tail : (t : Term A) (ts : List (Term A)) → Valid cmp p Is (t ∷ ts) → Valid cmp p Is ts
     valid-tail t ts v = record { canonical = canonical-tail cmp O p t ts (v .canonical); are = v .are .1 }
 
@@ -101,15 +101,15 @@ module _ {A : Type 0} (cmp : A → A → Ordering) (choose : A → Fit A) (quoti
       next-under = subst (Under cmp (t .mono)) (sym merged) (merge-under cmp p (t .mono) ts (tailMultiple quotient _·_ p t g tail) (v .canonical .falling .0) (adds .under))
 
     -- the polynomial is the remainder and a sum of multiples of divisors
-    pub division-combines : (n : ℕ) (f r : List (Term A)) → Valid cmp p Is f → Division cmp choose quotient _·_ p n f r → Combination cmp _·_ p gs f r
+    pub division-combines : (n : ℕ) (f r : List (Term A)) → Valid cmp p Is f → Division cmp choose quotient _·_ p n f r → Combination cmp _·_ Is p gs f r
     unfolding Division
-    division-combines zero f r v d = subst (Combination cmp _·_ p gs f) (d .0 ∙ sym (d .1)) (combination-none cmp _·_ p gs f)
+    division-combines zero f r v d = subst (Combination cmp _·_ Is p gs f) (d .0 ∙ sym (d .1)) (combination-none cmp _·_ Is p gs f)
     division-combines (suc n) [] r v d = absurd d
     division-combines (suc n) (t ∷ ts) r v d = by (choose (t .mono)) refl d (λ f s w e. division-combines n f s w e)
       where
-        by : (x : Fit A) → choose (t .mono) ≡ x → StepBy cmp quotient _·_ p (λ f u. Division cmp choose quotient _·_ p n f u) x t ts r → ((f s : List (Term A)) → Valid cmp p Is f → Division cmp choose quotient _·_ p n f s → Combination cmp _·_ p gs f s) → Combination cmp _·_ p gs (t ∷ ts) r
-        by unfit e (s, a, b) rest = subst (Combination cmp _·_ p gs (t ∷ ts)) (sym a) (combination-kept cmp _·_ p gs t ts s (rest ts s (valid-tail t ts v) b))
-        by (fits j g tail) e (h, a, b) rest = combination-divided cmp _·_ p gs divides quotient (λ x y. false) Is ops prime divisors choose choice t ts g tail h (step-of t ts v j g tail h e a) r (rest h r (next-valid t ts v j g tail h e a) b)
+        by : (x : Fit A) → choose (t .mono) ≡ x → StepBy cmp quotient _·_ p (λ f u. Division cmp choose quotient _·_ p n f u) x t ts r → ((f s : List (Term A)) → Valid cmp p Is f → Division cmp choose quotient _·_ p n f s → Combination cmp _·_ Is p gs f s) → Combination cmp _·_ Is p gs (t ∷ ts) r
+        by unfit e (s, a, b) rest = subst (Combination cmp _·_ Is p gs (t ∷ ts)) (sym a) (combination-kept cmp _·_ Is p gs t ts s (rest ts s (valid-tail t ts v) b))
+        by (fits j g tail) e (h, a, b) rest = combination-divided cmp _·_ Is p gs divides quotient (λ x y. false) ops prime divisors choose choice t ts g tail h (step-of t ts v j g tail h e a) r (rest h r (next-valid t ts v j g tail h e a) b)
 
     -- all leads that a division removes are below what the polynomial is below, and fall strictly
     leads-below : (n : ℕ) (f ls : List (Term A)) → Valid cmp p Is f → LeadsOf cmp choose quotient _·_ p n f ls → Falling cmp ls × ((m : A) → Under cmp m f → Under cmp m ls)

@@ -10,7 +10,7 @@ use Rattle.residue.specs.Modular.{product, negative, inverseOf}
 use Rattle.residue.proofs.Remainder.{mod-mul, mul-same, add-same, add-both}
 use Rattle.residue.proofs.Modular.{add-negative}
 use Rattle.residue.proofs.Inverses.{inverse-product}
-use Rattle.polynomial.specs.Terms.{Term, term, here, total, coefAt}
+use Rattle.polynomial.specs.Terms.{Term, term, here, total, coefAt, Same}
 use Rattle.polynomial.specs.Multiple.{multiple}
 use Rattle.polynomial.proofs.CoefLaws.{total-nil, total-cons}
 use Rattle.geobucket.proofs.EventLaws.{total-append}
@@ -70,14 +70,17 @@ shares p a T C D H h k =
     ∙ (ap (λ (n : ℕ). n % p) (let e : T + C + (a + D) ≡ a + T + (C + D) = omega arith in e)
     ∙ (add-both p (a + T) (a + T) (C + D) 0 refl (k ∙ sym (zero-mod p)) ∙ ap (λ (n : ℕ). n % p) (let e : a + T + 0 ≡ a + T = omega arith in e))))
 
-module _ {A : Type 0} (cmp : A → A → Ordering) (_·_ : A → A → A) (p : ℕ) (gs : List (List (Term A))) where
-  -- a polynomial is itself
-  pub combination-none : (f : List (Term A)) → Combination cmp _·_ p gs f f
+module _ {A : Type 0} (cmp : A → A → Ordering) (_·_ : A → A → A) (Is : A → Type 0) (p : ℕ) (gs : List (List (Term A))) where
+  -- a polynomial is itself, however its terms stand
+  pub combination-same : (f r : List (Term A)) → Same cmp p f r → Combination cmp _·_ Is p gs f r
   unfolding AllByDivisors combined
-  combination-none f = record { multipliers = []; by-divisors = tt; same = λ m. ap (coefAt cmp p m) (sym (append-nil f)) }
+  combination-same f r e = record { multipliers = []; by-divisors = tt; same = λ m. e m ∙ ap (coefAt cmp p m) (sym (append-nil r)) }
+
+  pub combination-none : (f : List (Term A)) → Combination cmp _·_ Is p gs f f
+  combination-none f = combination-same f f (λ m. refl)
 
   -- a term on both sides
-  pub combination-kept : (t : Term A) (f r : List (Term A)) → Combination cmp _·_ p gs f r → Combination cmp _·_ p gs (t ∷ f) (t ∷ r)
+  pub combination-kept : (t : Term A) (f r : List (Term A)) → Combination cmp _·_ Is p gs f r → Combination cmp _·_ Is p gs (t ∷ f) (t ∷ r)
   combination-kept t f r c = record {
     multipliers = c .multipliers;
     by-divisors = c .by-divisors;
@@ -87,7 +90,7 @@ module _ {A : Type 0} (cmp : A → A → Ordering) (_·_ : A → A → A) (p : �
         ap (λ (n : ℕ). n % p) (total-cons cmp m t f) ∙ (add-both p s s (total cmp m f) (total cmp m (r ++ ms)) refl (c .same m) ∙ ap (λ (n : ℕ). n % p) (sym (total-cons cmp m t (r ++ ms))));
   }
 
-  module _ (divides : A → A → Bool) (quotient : A → A → A) (tooLarge : A → A → Bool) (Is : A → Type 0) (ops : Operations A cmp divides quotient _·_ tooLarge Is) (prime : Prime p) (divisors : AllOf (Valid cmp p Is) gs) (choose : A → Fit A) (choice : Choice divides gs choose) where
+  module _ (divides : A → A → Bool) (quotient : A → A → A) (tooLarge : A → A → Bool) (ops : Operations A cmp divides quotient _·_ tooLarge Is) (prime : Prime p) (divisors : AllOf (Valid cmp p Is) gs) (choose : A → Fit A) (choice : Choice divides gs choose) where
     module _ (t : Term A) (ts : List (Term A)) (g : Term A) (tail h : List (Term A)) (s : DividedStep cmp choose quotient _·_ tooLarge Is p t ts g tail h) where
       q : A
       q = quotient (t .mono) (g .mono)
@@ -115,11 +118,11 @@ module _ {A : Type 0} (cmp : A → A → Ordering) (_·_ : A → A → A) (p : �
           ∙ (shares p a (total cmp m ts) (total cmp m (multiple _·_ p c q tail)) (total cmp m (multiple _·_ p d q tail)) (total cmp m h) (s .sum .coefficients m) (total-opposite p cmp _·_ m q c d (factors p prime (t .coef) (g .coef) (s .small) (said .0 .canonical .reduced .0 .0) (said .0 .canonical .reduced .0 .1)) tail)
           ∙ ap (λ (n : ℕ). (total cmp m h + n) % p) (let e : a + total cmp m (multiple _·_ p d q tail) ≡ total cmp m (multiple _·_ p d q (g ∷ tail)) = omega (arith, total-cons cmp m (term (_·_ q (g .mono)) (d * g .coef % p)) (multiple _·_ p d q tail), lead-share m) in e))
 
-      pub combination-divided : (r : List (Term A)) → Combination cmp _·_ p gs h r → Combination cmp _·_ p gs (t ∷ ts) r
-      unfolding AllByDivisors combined
+      pub combination-divided : (r : List (Term A)) → Combination cmp _·_ Is p gs h r → Combination cmp _·_ Is p gs (t ∷ ts) r
+      unfolding AllByDivisors combined q
       combination-divided r k = record {
         multipliers = record { by = term q d; of = g ∷ tail } ∷ k .multipliers;
-        by-divisors = (numbered-among (s .number) (g ∷ tail) 1 gs (choice .taken (t .mono) (s .number) g tail (s .fit) .0), k .by-divisors);
+        by-divisors = ((ops .quotient-is (t .mono) (g .mono) (s .is) (said .0 .are .0) (said .1), numbered-among (s .number) (g ∷ tail) 1 gs (choice .taken (t .mono) (s .number) g tail (s .fit) .0)), k .by-divisors);
         same = λ m.
             let M = multiple _·_ p d q (g ∷ tail) in
             let ms = combined _·_ p (k .multipliers) in

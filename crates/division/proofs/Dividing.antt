@@ -3,7 +3,6 @@ use mathlib.Core.Path.{_≡_, refl, sym, ap, _∙_, subst}
 use mathlib.Core.Bool.{Bool}
 use mathlib.Core.List.{List, [], _∷_, _++_, append-nil, append-assoc}
 use Prim.Native.Nat.{ℕ, suc, _+_, _%_, _<_, _≤_, Ordering}
-use native.Mathlib.Nat.{lt-of-not-le}
 use native.Mathlib.Omega.{arith}
 use lib.ListN.{length}
 use Rattle.limits.specs.Limits.{mostTerms}
@@ -11,10 +10,9 @@ use Rattle.residue.specs.Prime.{Prime}
 use Rattle.monomial.specs.TotalOrder.{TotalOrder}
 use Rattle.polynomial.specs.Terms.{Term, total}
 use Rattle.polynomial.proofs.CoefLaws.{total-nil, canonical-unique}
-use Rattle.geobucket.specs.Buckets.{empty, held, totalIn, add, fullSum}
+use Rattle.geobucket.specs.Buckets.{empty, held, totalIn, add, fullSum, Canon}
 use Rattle.geobucket.specs.Events.{Work, start, added, removed, left}
 use Rattle.geobucket.proofs.AddLaws.{adds}
-use Rattle.geobucket.proofs.SearchLaws.{Canon}
 use Rattle.geobucket.proofs.EventLaws.{room-six, good-canon, start-holds, removed-holds}
 use Rattle.geobucket.proofs.LeadLaws.{sum-right}
 use Rattle.division.specs.Choice.{Fit, unfit}
@@ -28,7 +26,7 @@ use Rattle.division.proofs.HeldTerms.{sum-each}
 use Rattle.division.proofs.StateLaws.{State, start-state, found, removed-are, removed-given, step-adds, step-length}
 use Rattle.division.proofs.StepsAlong.{steps-along}
 use Rattle.division.proofs.WholeLaws.{whole-left, whole-none, whole-lead, whole-added}
-use Rattle.division.proofs.Endings.{begins, begins-not}
+use Rattle.division.proofs.Endings.{begins, by-first}
 
 module _ {A : Type 0} (cmp : A → A → Ordering) (O : TotalOrder A cmp) (divides : A → A → Bool) (quotient _·_ : A → A → A) (tooLarge : A → A → Bool) (Is : A → Type 0) (ops : Operations A cmp divides quotient _·_ tooLarge Is) (p : ℕ) (prime : Prime p) (choose : A → Fit A) (sound : Sound cmp p Is divides choose) (places : ℕ) where
   pos : 0 < p
@@ -62,6 +60,13 @@ module _ {A : Type 0} (cmp : A → A → Ordering) (O : TotalOrder A cmp) (divid
 
     pub begun : length f ≤ mostTerms → State cmp p Is choose places 0 [] (added cmp p f start)
     begun h = start-state cmp O divides quotient _·_ tooLarge Is ops p prime choose sound places f (v .canonical) (v .are) h
+
+  -- a finished reduction began with polynomial 0, and leaves nothing
+  pub nothing-left : (limit : ℕ) (f : List (Term A)) → Valid cmp p Is f → reduction cmp choose quotient _·_ tooLarge p places limit f .stop ≡ 0 → (length f ≤ mostTerms) × (fullSum cmp p (reduction cmp choose quotient _·_ tooLarge p places limit f .work .buckets) ≡ [])
+  nothing-left limit f v =
+      by-first cmp choose quotient _·_ tooLarge p places limit f (λ y. y .stop ≡ 0 → (length f ≤ mostTerms) × (fullSum cmp p (y .work .buckets) ≡ []))
+      (λ h z. absurd (let q : ⊥ = omega arith in q))
+      (λ h z. (h, finished-none limit 0 [] (added cmp p f start) (begun f v h) z))
 
   -- R n f r ls: n steps divide f, leave r and remove the leads ls
   module _
@@ -159,17 +164,10 @@ module _ {A : Type 0} (cmp : A → A → Ordering) (O : TotalOrder A cmp) (divid
           (subst (λ (r : List (Term A)). R (q .steps) f (q .terms ++ s) (r ++ ks)) (sym (q .gone-are))
           (subst (λ (g : List (Term A)). R (q .steps) g (q .terms ++ s) (q .gone ++ ks)) (whole-first f v h) (q .related)))))
 
-      finished-few : reduced .stop ≡ 0 → length f ≤ mostTerms
-      finished-few z =
-          let few : length f < 4097 = lt-of-not-le (λ k. let e : _≡_ {A = ℕ} 11 0 = sym (ap (λ (y : Reduction A). y .stop) (begins-not cmp choose quotient _·_ tooLarge p places limit f (omega arith))) ∙ z in let q : ⊥ = omega arith in q) in
-          omega arith
-
       -- a finished reduction has the remainder, the steps and the leads
       pub finished-follows : R 0 [] [] [] → reduced .stop ≡ 0 → R (reduced .leads) f (reduced .remainder) (reduced .work .given)
       finished-follows nothing z =
-          let h = finished-few z in
-          let b = begins cmp choose quotient _·_ tooLarge p places limit f h in
-          let e : fullSum cmp p (reduced .work .buckets) ≡ [] = subst (λ (y : Reduction A). fullSum cmp p (y .work .buckets) ≡ []) (sym b) (finished-none limit 0 [] (added cmp p f start) (begun f v h) (sym (ap (λ (y : Reduction A). y .stop) b) ∙ z)) in
+          let (h, e) = nothing-left limit f v z in
           let d = reduction-follows h 0 [] [] (subst (λ (g : List (Term A)). R 0 g [] []) (sym e) nothing) in
           subst (λ (n : ℕ). R n f (reduced .remainder) (reduced .work .given)) (let i : reduced .leads + 0 ≡ reduced .leads = omega arith in i)
           (subst (λ (l : List (Term A)). R (reduced .leads + 0) f (reduced .remainder) l) (append-nil (reduced .work .given))

@@ -1,4 +1,4 @@
--- The division algorithm has at most one result. Assumes nothing.
+-- The division algorithm has at most one result, and removes its leads in one way. Assumes nothing.
 use mathlib.Core.Path.{_≡_, refl, sym, ap, _∙_, subst}
 use mathlib.Core.List.{List, [], _∷_}
 use Prim.Native.Nat.{ℕ, zero, suc, _<_, Ordering}
@@ -11,8 +11,9 @@ use Rattle.polynomial.proofs.MergeLaws.{merge-canonical}
 use Rattle.polynomial.proofs.CoefLaws.{total-merge, canonical-unique}
 use Rattle.division.specs.Choice.{Fit, unfit, fits}
 use Rattle.division.specs.Division.{StepBy, SumOf, Division}
+use Rattle.division.specs.Combination.{AfterBy, LeadsOf}
 
-not-empty : {A : Type 0} (t : Term A) (ts : List (Term A)) → _≡_ {A = List (Term A)} (t ∷ ts) [] → ⊥
+pub not-empty : {A : Type 0} (t : Term A) (ts : List (Term A)) → _≡_ {A = List (Term A)} (t ∷ ts) [] → ⊥
 not-empty t ts e = let z : suc (length ts) ≡ 0 = ap length e in omega (arith, z)
 
 module _ {A : Type 0} (cmp : A → A → Ordering) (O : TotalOrder A cmp) (p : ℕ) (pos : 0 < p) where
@@ -43,3 +44,13 @@ module _ {A : Type 0} (cmp : A → A → Ordering) (O : TotalOrder A cmp) (choos
       step (fits j g tail) rest (h, a, d) (i, b, e) =
           let q = rest h r s d (subst (λ (x : List (Term A)). Division cmp choose quotient _·_ p k x s) (sum-unique cmp O p pos b a) e) in
           (ap suc (q .0), q .1)
+
+  pub leads-unique : (n : ℕ) (f ls ks : List (Term A)) → LeadsOf cmp choose quotient _·_ p n f ls → LeadsOf cmp choose quotient _·_ p n f ks → ls ≡ ks
+  unfolding LeadsOf
+  leads-unique zero f ls ks d e = d ∙ sym e
+  leads-unique (suc n) [] ls ks d e = absurd d
+  leads-unique (suc n) (t ∷ ts) ls ks (us, a, d) (vs, b, e) = a ∙ (ap (λ (x : List (Term A)). t ∷ x) (after (choose (t .mono)) (λ f x y. leads-unique n f us vs x y) d e) ∙ sym b)
+    where
+      after : (x : Fit A) → ((f : List (Term A)) → LeadsOf cmp choose quotient _·_ p n f us → LeadsOf cmp choose quotient _·_ p n f vs → us ≡ vs) → AfterBy cmp quotient _·_ p (λ f. LeadsOf cmp choose quotient _·_ p n f us) x t ts → AfterBy cmp quotient _·_ p (λ f. LeadsOf cmp choose quotient _·_ p n f vs) x t ts → us ≡ vs
+      after unfit rest d e = rest ts d e
+      after (fits j g tail) rest (h, a, d) (i, b, e) = rest h d (subst (λ (x : List (Term A)). LeadsOf cmp choose quotient _·_ p n x vs) (sum-unique cmp O p pos b a) e)

@@ -12,11 +12,12 @@ use Rattle.residue.specs.Prime.{Prime}
 use Rattle.monomial.specs.TotalOrder.{TotalOrder}
 use Rattle.polynomial.specs.Terms.{Term, term}
 use Rattle.polynomial.proofs.MergeLaws.{Stands, less, same, more, stands, turned-gt}
+use Rattle.geobucket.specs.Buckets.{held}
 use Rattle.geobucket.specs.Events.{Work, start, added}
-use Rattle.geobucket.specs.TrueSum.{sumAt, IsZero, IsLead}
-use Rattle.geobucket.proofs.SearchLaws.{Canon}
+use Rattle.geobucket.specs.TrueSum.{sumAt, IsZero, IsLead, Right}
+use Rattle.geobucket.specs.Buckets.{Canon}
 use Rattle.geobucket.proofs.EventLaws.{good-canon}
-use Rattle.geobucket.proofs.LeadLaws.{Right, lead-right}
+use Rattle.geobucket.proofs.LeadLaws.{lead-right}
 use Rattle.division.specs.Choice.{Fit, unfit, fits}
 use Rattle.division.specs.Steps.{Reduction, anyTooLarge, stepsFrom, reduction}
 use Rattle.division.specs.Operations.{Operations}
@@ -55,11 +56,10 @@ module _ {A : Type 0} (cmp : A → A → Ordering) (O : TotalOrder A cmp) (divid
   canon-of {w = w} s = good-canon cmp p 4 (w .buckets) (s .holds .good)
 
   abbrev Stops : Reduction A → Type 0
-  Stops x = Stopping cmp choose quotient tooLarge p places limit (x .stop) x
+  Stops x = Stopping cmp choose quotient tooLarge p places limit (x .stop) (x .leads) (x .remainder) (x .work .buckets)
 
   -- the steps end as the definition says
-  pub steps-stop : (more leads : ℕ) (r : List (Term A)) (w : Work A) → State cmp p Is choose places leads r w → leads + more ≡ limit
-      → Stopping cmp choose quotient tooLarge p places limit (stepsFrom cmp choose quotient _·_ tooLarge p places more leads r w .stop) (stepsFrom cmp choose quotient _·_ tooLarge p places more leads r w)
+  steps-stop : (more leads : ℕ) (r : List (Term A)) (w : Work A) → State cmp p Is choose places leads r w → leads + more ≡ limit → Stops (stepsFrom cmp choose quotient _·_ tooLarge p places more leads r w)
   steps-stop =
       steps-along cmp O divides quotient _·_ tooLarge Is ops p prime choose sound places (λ more leads r w x. leads + more ≡ limit → Stops x)
       (λ more leads r w s e l.
@@ -73,13 +73,15 @@ module _ {A : Type 0} (cmp : A → A → Ordering) (O : TotalOrder A cmp) (divid
       (λ more leads r w at t j g tail x s e u b h k l. k (omega arith))
 
   -- every reduction ends with the refusal whose condition holds
-  pub ending : (f : List (Term A)) → Valid cmp p Is f → Ending cmp choose quotient tooLarge p places limit (reduction cmp choose quotient _·_ tooLarge p places limit f .stop) f (reduction cmp choose quotient _·_ tooLarge p places limit f)
+  pub ending : (f : List (Term A)) → Valid cmp p Is f → let x = reduction cmp choose quotient _·_ tooLarge p places limit f in Ending cmp choose quotient tooLarge p places limit (x .stop) (x .leads) f (x .remainder) (x .work .buckets)
+  unfolding held
   ending f v =
-      by-first cmp choose quotient _·_ tooLarge p places limit f (λ x. Ending cmp choose quotient tooLarge p places limit (x .stop) f x)
+      by-first cmp choose quotient _·_ tooLarge p places limit f (λ x. Ending cmp choose quotient tooLarge p places limit (x .stop) (x .leads) f (x .remainder) (x .work .buckets))
       (λ h. first-too-many refl h refl refl refl)
       (λ h. by-steps h (steps-stop limit 0 [] (added cmp p f start) (start-state cmp O divides quotient _·_ tooLarge Is ops p prime choose sound places f (v .canonical) (v .are) h) (omega arith)))
 
-  -- ---- and no other condition holds
+-- ---- and no other condition holds
+module _ {A : Type 0} (cmp : A → A → Ordering) (O : TotalOrder A cmp) (choose : A → Fit A) (quotient : A → A → A) (tooLarge : A → A → Bool) (p places limit : ℕ) where
   lead-once : (bs : List (List (Term A))) (t u : Term A) → IsLead cmp p bs t → IsLead cmp p bs u → t ≡ u
   lead-once bs t u a b = go (stands cmp (t .mono) (u .mono))
     where
@@ -97,36 +99,33 @@ module _ {A : Type 0} (cmp : A → A → Ordering) (O : TotalOrder A cmp) (divid
   refusalAt t (fits j g tail) = elim (anyTooLarge tooLarge (quotient (t .mono) (g .mono)) tail) [ true ↦ 12 | false ↦ 11 ]
 
   -- the three kinds of ending
-  data Kind (k : ℕ) (x : Reduction A) : Type 0 where
-    none-left : k ≡ 0 → IsZero cmp p (x .work .buckets) → Kind k x
-    none-more : (t : Term A) → k ≡ 13 → x .leads ≡ limit → IsLead cmp p (x .work .buckets) t → Kind k x
-    in-step : (t : Term A) → k ≡ refusalAt t (choose (t .mono)) → x .leads < limit → IsLead cmp p (x .work .buckets) t → Kind k x
+  data Kind (k leads : ℕ) (bs : List (List (Term A))) : Type 0 where
+    none-left : k ≡ 0 → IsZero cmp p bs → Kind k leads bs
+    none-more : (t : Term A) → k ≡ 13 → leads ≡ limit → IsLead cmp p bs t → Kind k leads bs
+    in-step : (t : Term A) → k ≡ refusalAt t (choose (t .mono)) → leads < limit → IsLead cmp p bs t → Kind k leads bs
 
-  kind : (k : ℕ) (x : Reduction A) → Stopping cmp choose quotient tooLarge p places limit k x → Kind k x
+  kind : (k leads : ℕ) (r : List (Term A)) (bs : List (List (Term A))) → Stopping cmp choose quotient tooLarge p places limit k leads r bs → Kind k leads bs
   unfolding refusalAt
-  kind k x (finished e l z h) = none-left e z
-  kind k x (at-limit t e l a) = none-more t e l a
-  kind k x (over t j g tail e l a u b) = in-step t (e ∙ sym (ap (refusalAt t) u ∙ ap (λ (c : Bool). elim c [ true ↦ 12 | false ↦ 11 ]) b)) l a
-  kind k x (too-many t j g tail e l a u b h) = in-step t (e ∙ sym (ap (refusalAt t) u ∙ ap (λ (c : Bool). elim c [ true ↦ 12 | false ↦ 11 ]) b)) l a
-  kind k x (no-place t e l a u h) = in-step t (e ∙ sym (ap (refusalAt t) u)) l a
+  kind k leads r bs (finished e l z h) = none-left e z
+  kind k leads r bs (at-limit t e l a) = none-more t e l a
+  kind k leads r bs (over t j g tail e l a u b) = in-step t (e ∙ sym (ap (refusalAt t) u ∙ ap (λ (c : Bool). elim c [ true ↦ 12 | false ↦ 11 ]) b)) l a
+  kind k leads r bs (too-many t j g tail e l a u b h) = in-step t (e ∙ sym (ap (refusalAt t) u ∙ ap (λ (c : Bool). elim c [ true ↦ 12 | false ↦ 11 ]) b)) l a
+  kind k leads r bs (no-place t e l a u h) = in-step t (e ∙ sym (ap (refusalAt t) u)) l a
 
-  one-kind : (k j : ℕ) (x : Reduction A) → Kind k x → Kind j x → k ≡ j
-  one-kind k j x (none-left e z) (none-left d y) = e ∙ sym d
-  one-kind k j x (none-left e z) (none-more u d m b) = absurd (zero-no-lead (x .work .buckets) u z b)
-  one-kind k j x (none-left e z) (in-step u d m b) = absurd (zero-no-lead (x .work .buckets) u z b)
-  one-kind k j x (none-more t e l a) (none-left d y) = absurd (zero-no-lead (x .work .buckets) t y a)
-  one-kind k j x (none-more t e l a) (none-more u d m b) = e ∙ sym d
-  one-kind k j x (none-more t e l a) (in-step u d m b) = absurd (let z : ⊥ = omega arith in z)
-  one-kind k j x (in-step t e l a) (none-left d y) = absurd (zero-no-lead (x .work .buckets) t y a)
-  one-kind k j x (in-step t e l a) (none-more u d m b) = absurd (let z : ⊥ = omega arith in z)
-  one-kind k j x (in-step t e l a) (in-step u d m b) = e ∙ (ap (λ (v : Term A). refusalAt v (choose (v .mono))) (lead-once (x .work .buckets) t u a b) ∙ sym d)
+  one-kind : (k j leads : ℕ) (bs : List (List (Term A))) → Kind k leads bs → Kind j leads bs → k ≡ j
+  one-kind k j leads bs (none-left e z) (none-left d y) = e ∙ sym d
+  one-kind k j leads bs (none-left e z) (none-more u d m b) = absurd (zero-no-lead bs u z b)
+  one-kind k j leads bs (none-left e z) (in-step u d m b) = absurd (zero-no-lead bs u z b)
+  one-kind k j leads bs (none-more t e l a) (none-left d y) = absurd (zero-no-lead bs t y a)
+  one-kind k j leads bs (none-more t e l a) (none-more u d m b) = e ∙ sym d
+  one-kind k j leads bs (none-more t e l a) (in-step u d m b) = absurd (let z : ⊥ = omega arith in z)
+  one-kind k j leads bs (in-step t e l a) (none-left d y) = absurd (zero-no-lead bs t y a)
+  one-kind k j leads bs (in-step t e l a) (none-more u d m b) = absurd (let z : ⊥ = omega arith in z)
+  one-kind k j leads bs (in-step t e l a) (in-step u d m b) = e ∙ (ap (λ (v : Term A). refusalAt v (choose (v .mono))) (lead-once bs t u a b) ∙ sym d)
 
   -- no two refusals have their conditions met at once, so each is given exactly under its own
-  pub ending-once : (k j : ℕ) (f : List (Term A)) (x : Reduction A) → Ending cmp choose quotient tooLarge p places limit k f x → Ending cmp choose quotient tooLarge p places limit j f x → k ≡ j
-  ending-once k j f x (first-too-many e h l r w) (first-too-many d i m s v) = e ∙ sym d
-  ending-once k j f x (first-too-many e h l r w) (by-steps i b) = absurd (let z : ⊥ = omega arith in z)
-  ending-once k j f x (by-steps h a) (first-too-many d i m s v) = absurd (let z : ⊥ = omega arith in z)
-  ending-once k j f x (by-steps h a) (by-steps i b) = one-kind k j x (kind k x a) (kind j x b)
-
-  pub ending-only : (f : List (Term A)) → Valid cmp p Is f → (k : ℕ) → Ending cmp choose quotient tooLarge p places limit k f (reduction cmp choose quotient _·_ tooLarge p places limit f) → reduction cmp choose quotient _·_ tooLarge p places limit f .stop ≡ k
-  ending-only f v k e = ending-once _ k f _ (ending f v) e
+  pub ending-once : (k j leads : ℕ) (f r : List (Term A)) (bs : List (List (Term A))) → Ending cmp choose quotient tooLarge p places limit k leads f r bs → Ending cmp choose quotient tooLarge p places limit j leads f r bs → k ≡ j
+  ending-once k j leads f r bs (first-too-many e h l q w) (first-too-many d i m s v) = e ∙ sym d
+  ending-once k j leads f r bs (first-too-many e h l q w) (by-steps i b) = absurd (let z : ⊥ = omega arith in z)
+  ending-once k j leads f r bs (by-steps h a) (first-too-many d i m s v) = absurd (let z : ⊥ = omega arith in z)
+  ending-once k j leads f r bs (by-steps h a) (by-steps i b) = one-kind k j leads bs (kind k leads r bs a) (kind j leads r bs b)

@@ -79,7 +79,7 @@ module _ {A : Type 0} (P : A → Type 0) where
     pub search-every : (bs : List (List (Term A))) → Every bs → OfLead (search cmp p bs .answer) × Every (search cmp p bs .buckets)
     search-every bs v = search-along cmp p (λ bs s. Every bs → OfLead (s .answer) × Every (s .buckets)) (λ bs v. (tt, v)) pass-every (λ bs s r v. r (pass-every bs v .1)) (suc (held bs)) bs v
 
--- ---- "m is larger than every term" is of this kind
+-- ---- that m is larger than every term is of this kind
 module _ {A : Type 0} (cmp : A → A → Ordering) (p : ℕ) (m : A) where
   pub above-every : (bs : List (List (Term A))) → Above cmp p m bs → Every (λ a. cmp m a ≡ Ordering·gt) bs
   unfolding Above Every

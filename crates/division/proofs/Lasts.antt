@@ -1,5 +1,5 @@
 -- The last state of a reduction, finished or stopped: its counts, the leads that it removed, and its remainder so far. Assumes nothing.
-use mathlib.Core.Path.{_≡_, refl}
+use mathlib.Core.Path.{_≡_, refl, _∙_}
 use mathlib.Core.Bool.{Bool}
 use mathlib.Core.List.{List, [], _∷_}
 use Prim.Native.Nat.{ℕ, zero, suc, _+_, _*_, _<_, _≤_, Ordering, Ordering·gt}
@@ -10,11 +10,12 @@ use Rattle.residue.specs.Prime.{Prime}
 use Rattle.monomial.specs.TotalOrder.{TotalOrder}
 use Rattle.polynomial.specs.Terms.{Term, All}
 use Rattle.polynomial.proofs.MergeLaws.{all-map}
-use Rattle.geobucket.specs.Buckets.{empty, held, emptied}
+use Rattle.geobucket.specs.Buckets.{empty, held, emptied, Good}
 use Rattle.geobucket.specs.Search.{Lead, none, lead, search, putBack, withLead}
 use Rattle.geobucket.specs.Events.{Work, start, added, left}
-use Rattle.geobucket.proofs.SearchLaws.{Canon, Above, Fewer, finds, Within, search-within}
-use Rattle.geobucket.proofs.EventLaws.{good-canon, emptied-good, left-ends}
+use Rattle.geobucket.proofs.SearchLaws.{Above, Fewer, finds, Within, search-within}
+use Rattle.geobucket.proofs.LeftLaws.{search-left}
+use Rattle.geobucket.proofs.EventLaws.{good-canon, shrunk-good, shrunk-count, emptied-good, left-ends}
 use Rattle.division.specs.Choice.{Fit, unfit}
 use Rattle.division.specs.Steps.{Reduction, stepsFrom, reduction}
 use Rattle.division.specs.Operations.{Operations}
@@ -60,7 +61,9 @@ module _ {A : Type 0} (cmp : A → A → Ordering) (p : ℕ) where
     pub record Last (x : Reduction A) : Type 0 where
       pub leads-few : x .leads ≤ limit
       pub held-few : held (x .work .buckets) ≤ mostTerms
-      pub held-canon : Canon cmp p (x .work .buckets)
+      pub held-good : Good cmp p 4 (x .work .buckets)
+      pub held-six : length (x .work .buckets) ≡ 6
+      pub held-are : Every Is (x .work .buckets)
       pub brought-few : length (x .work .brought) ≤ mostTerms * suc (x .leads)
       pub pairs-few : length (x .work .pairs) ≤ 35 * length (x .work .brought)
       -- the leads removed are what the geobucket gave out: they fall strictly, and each is larger than all that is held
@@ -84,7 +87,9 @@ module _ {A : Type 0} (cmp : A → A → Ordering) (O : TotalOrder A cmp) (divid
         record {
           leads-few = l;
           held-few = omega (arith, with-held cmp p (search cmp p (w .buckets) .answer) (search cmp p (w .buckets) .buckets) (w .buckets) (search-within cmp p (w .buckets)) (a .fewer), s .held-few);
-          held-canon = left-canon cmp p O pos (w .buckets) (good-canon cmp p 4 (w .buckets) (s .holds .good));
+          held-good = shrunk-good cmp p 4 (left cmp p w .buckets) (w .buckets) (search-left cmp p (w .buckets)) (left-canon cmp p O pos (w .buckets) (good-canon cmp p 4 (w .buckets) (s .holds .good))) (s .holds .good);
+          held-six = shrunk-count (left cmp p w .buckets) (w .buckets) (search-left cmp p (w .buckets)) ∙ s .holds .six;
+          held-are = let e = search-every Is cmp p (w .buckets) (s .are) in with-every Is (search cmp p (w .buckets) .answer) (search cmp p (w .buckets) .buckets) (e .0) (e .1);
           brought-few = s .brought-few;
           pairs-few = left-ends cmp p O pos 6 (omega arith) w (s .holds) .paid;
           given-count = s .given-count;
@@ -107,13 +112,15 @@ module _ {A : Type 0} (cmp : A → A → Ordering) (O : TotalOrder A cmp) (divid
       (λ more leads r w at t j g tail x s e u b h k l. k (omega arith))
 
   pub last : (limit : ℕ) (f : List (Term A)) → Valid cmp p Is f → Last cmp p Is choose places limit (reduction cmp choose quotient _·_ tooLarge p places limit f)
-  unfolding held emptied
+  unfolding held emptied Every
   last limit f v =
       by-first cmp choose quotient _·_ tooLarge p places limit f (Last cmp p Is choose places limit)
       (λ h. record {
         leads-few = omega arith;
         held-few = omega arith;
-        held-canon = good-canon cmp p 4 empty (emptied-good cmp p 4 empty);
+        held-good = emptied-good cmp p 4 empty;
+        held-six = refl;
+        held-are = (tt, (tt, (tt, (tt, (tt, (tt, tt))))));
         brought-few = omega arith;
         pairs-few = omega arith;
         given-count = refl;

@@ -17,4 +17,7 @@ pub mod ExponentOperations
 pub mod Remaining
 pub mod Reductions
 pub mod Renaming
+pub mod RenamedEndings
+pub mod ByExponents
+pub mod Absurd
 pub mod Outcomes

@@ -1,4 +1,4 @@
--- A division with the monomials named anew is a division, where the names agree with comparison, divisibility, quotient and product. Assumes nothing.
+-- A step of a division is one with the monomials named again, where the names agree with comparison, divisibility, quotient and product. Assumes nothing.
 use mathlib.Core.Path.{_≡_, refl, sym, ap, ap₂, _∙_, subst}
 use mathlib.Core.Bool.{Bool, true, false}
 use mathlib.Core.List.{List, [], _∷_, map}
@@ -13,14 +13,14 @@ use Rattle.polynomial.specs.Multiple.{multiple}
 use Rattle.polynomial.proofs.MergeLaws.{along, merge-less, merge-same, merge-more, merge-nil, merge-all}
 use Rattle.polynomial.proofs.CoefLaws.{total-merge}
 use Rattle.division.specs.Choice.{Fit, unfit, fits, firstFrom, chosen}
-use Rattle.division.specs.Division.{tailMultiple, Division}
+use Rattle.division.specs.Division.{tailMultiple}
 use Rattle.division.specs.Operations.{Operations}
 use Rattle.division.specs.Divisors.{Valid, AllOf}
 use Rattle.division.specs.InExponents.{renamed}
 use Rattle.division.proofs.DivisionLaws.{sum-merge}
 use Rattle.division.proofs.TailLaws.{DividedStep, tail-added}
 use Rattle.division.proofs.FitLaws.{Sound}
-use Rattle.division.proofs.AnyDivision.{division-kept, division-divided}
+use Rattle.division.proofs.AnyDivision.{none-large}
 
 module _ {A B : Type 0} (name : A → B) (Is : A → Type 0) where
   -- the names agree with the operations, on the monomials that are meant
@@ -85,7 +85,7 @@ module _ {A B : Type 0} (name : A → B) (Is : A → Type 0) where
         let c = product p (negative p (t .coef)) (inverseOf p (g .coef)) in
         ap (λ (m : B). multiple _·'_ p c m (renamed name tail)) (agrees .quotients (t .mono) (g .mono) i j d) ∙ multiple-renamed p c (quotient (t .mono) (g .mono)) k tail a
 
-    -- document 01's rule, by names anew
+    -- document 01's rule, by the new names
     first-renamed : (p j : ℕ) (α : A) → Is α → (gs : List (List (Term A))) → AllOf (Valid cmp p Is) gs → firstFrom divides' j (name α) (map (renamed name) gs) ≡ fitRenamed (firstFrom divides j α gs)
     unfolding firstFrom AllOf
     first-renamed p j α i [] u = refl
@@ -102,21 +102,32 @@ module _ {A B : Type 0} (name : A → B) (Is : A → Type 0) where
 
     -- ---- a step of a division, where the choices agree
     module _ (O : TotalOrder A cmp) (O' : TotalOrder B cmp') (tooLarge : A → A → Bool) (ops : Operations A cmp divides quotient _·_ tooLarge Is) (p : ℕ) (prime : Prime p) (choose : A → Fit A) (sound : Sound cmp p Is divides choose) (choose' : B → Fit B) (same : (α : A) → Is α → choose' (name α) ≡ fitRenamed (choose α)) where
-      pub renamed-kept : (n : ℕ) (t : Term A) (ts s : List (Term A)) → Is (t .mono) → choose (t .mono) ≡ unfit → Division cmp' choose' quotient' _·'_ p n (renamed name ts) (renamed name s) → Division cmp' choose' quotient' _·'_ p (suc n) (renamed name (t ∷ ts)) (renamed name (t ∷ s))
-      renamed-kept n t ts s i e d = division-kept cmp' choose' quotient' _·'_ p n (one t) (renamed name ts) (renamed name s) (same (t .mono) i ∙ ap fitRenamed e) d
+      -- a step that divides is one by the new names; no product need be too large there
+      module _ (Is' : B → Type 0) (named : (a : A) → Is a → Is' (name a)) where
+        are-renamed : (ts : List (Term A)) → Are ts → All (λ t. Is' (t .mono)) (renamed name ts)
+        are-renamed [] a = tt
+        are-renamed (t ∷ ts) a = (named (t .mono) (a .0), are-renamed ts (a .1))
 
-      pub renamed-divided : (n : ℕ) (t : Term A) (ts s : List (Term A)) (g : Term A) (tail h : List (Term A)) → DividedStep cmp choose quotient _·_ tooLarge Is p t ts g tail h → Division cmp' choose' quotient' _·'_ p n (renamed name h) (renamed name s) → Division cmp' choose' quotient' _·'_ p (suc n) (renamed name (t ∷ ts)) (renamed name s)
-      renamed-divided n t ts s g tail h a d =
-          let u = tailMultiple quotient _·_ p t g tail in
-          let (v, b) = sound (t .mono) (a .number) g tail (a .fit) in
-          let c = tail-added cmp divides quotient _·_ tooLarge Is ops p prime t g tail (a .is) (a .not-zero) (a .small) v b (a .none-large) in
-          let m = sum-merge cmp O p (omega (arith, prime .above)) ts u h (a .rest .canonical) (c .canonical) (a .sum) in
-          let are : Are h = subst Are (sym m) (merge-all cmp p (λ x. Is (x .mono)) (λ x y q i j k. i) ts u (a .rest .are) (c .are)) in
-          let tail-is = tail-renamed p t g tail (a .is) (v .are .0) b (ops .quotient-is (t .mono) (g .mono) (a .is) (v .are .0) b) (v .are .1) in
-          let is : renamed name h ≡ merge cmp' p (renamed name ts) (renamed name u) = ap (renamed name) m ∙ sym (merge-renamed cmp cmp' (agrees .compares) p ts u (a .rest .are) (c .are)) in
-          division-divided cmp' choose' quotient' _·'_ p n (one t) (renamed name ts) (renamed name s) (a .number) (one g) (renamed name tail) (renamed name h) (same (t .mono) (a .is) ∙ ap fitRenamed (a .fit))
-          (record {
-            canonical = canonical-renamed cmp cmp' (agrees .compares) p h are (a .sum .canonical);
-            coefficients = λ k. ap (coefAt cmp' p k) is ∙ (total-merge cmp' O' p k (renamed name ts) (renamed name u) ∙ ap (λ (l : List (Term B)). (total cmp' k (renamed name ts) + total cmp' k l) % p) (sym tail-is));
-          })
-          d
+        pub renamed-step : (t : Term A) (ts : List (Term A)) (g : Term A) (tail h : List (Term A)) → DividedStep cmp choose quotient _·_ tooLarge Is p t ts g tail h
+            → DividedStep cmp' choose' quotient' _·'_ (λ a b. false) Is' p (term (name (t .mono)) (t .coef)) (renamed name ts) (term (name (g .mono)) (g .coef)) (renamed name tail) (renamed name h)
+        renamed-step t ts g tail h a =
+            let u = tailMultiple quotient _·_ p t g tail in
+            let (v, b) = sound (t .mono) (a .number) g tail (a .fit) in
+            let c = tail-added cmp divides quotient _·_ tooLarge Is ops p prime t g tail (a .is) (a .not-zero) (a .small) v b (a .none-large) in
+            let m = sum-merge cmp O p (omega (arith, prime .above)) ts u h (a .rest .canonical) (c .canonical) (a .sum) in
+            let are : Are h = subst Are (sym m) (merge-all cmp p (λ x. Is (x .mono)) (λ x y q i j k. i) ts u (a .rest .are) (c .are)) in
+            let tail-is = tail-renamed p t g tail (a .is) (v .are .0) b (ops .quotient-is (t .mono) (g .mono) (a .is) (v .are .0) b) (v .are .1) in
+            let is : renamed name h ≡ merge cmp' p (renamed name ts) (renamed name u) = ap (renamed name) m ∙ sym (merge-renamed cmp cmp' (agrees .compares) p ts u (a .rest .are) (c .are)) in
+            record {
+              is = named (t .mono) (a .is);
+              not-zero = a .not-zero;
+              small = a .small;
+              rest = record { canonical = canonical-renamed cmp cmp' (agrees .compares) p ts (a .rest .are) (a .rest .canonical); are = are-renamed ts (a .rest .are) };
+              number = a .number;
+              fit = same (t .mono) (a .is) ∙ ap fitRenamed (a .fit);
+              none-large = none-large (quotient' (name (t .mono)) (name (g .mono))) (renamed name tail);
+              sum = record {
+                canonical = canonical-renamed cmp cmp' (agrees .compares) p h are (a .sum .canonical);
+                coefficients = λ k. ap (coefAt cmp' p k) is ∙ (total-merge cmp' O' p k (renamed name ts) (renamed name u) ∙ ap (λ (l : List (Term B)). (total cmp' k (renamed name ts) + total cmp' k l) % p) (sym tail-is));
+              };
+            }

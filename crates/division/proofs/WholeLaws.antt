@@ -9,13 +9,13 @@ use Rattle.residue.proofs.Remainder.{add-both}
 use Rattle.monomial.specs.TotalOrder.{TotalOrder}
 use Rattle.polynomial.specs.Terms.{Term, here, total, Under, Canonical}
 use Rattle.polynomial.proofs.CoefLaws.{total-nil, total-cons, canonical-unique}
-use Rattle.geobucket.specs.Buckets.{held, Good, totalIn, add, fullSum}
+use Rattle.geobucket.specs.Buckets.{held, Good, totalIn, add, fullSum, room, Canon}
 use Rattle.geobucket.specs.Search.{Lead, none, lead, search, putBack, withLead}
-use Rattle.geobucket.specs.TrueSum.{sumAt, IsZero, IsLead}
-use Rattle.geobucket.proofs.AddLaws.{room, adds}
-use Rattle.geobucket.proofs.SearchLaws.{Canon, Above, leadTotal, Leads, Within, finds, search-within}
+use Rattle.geobucket.specs.TrueSum.{sumAt, IsZero, IsLead, Right}
+use Rattle.geobucket.proofs.AddLaws.{adds}
+use Rattle.geobucket.proofs.SearchLaws.{Above, leadTotal, Leads, Within, finds, search-within}
 use Rattle.geobucket.proofs.EventLaws.{good-canon, with-total}
-use Rattle.geobucket.proofs.LeadLaws.{Right, lead-right, sum-right}
+use Rattle.geobucket.proofs.LeadLaws.{lead-right, sum-right}
 use Rattle.division.specs.Division.{SumOf}
 use Rattle.division.proofs.HeldTerms.{sum-each, above-every}
 

@@ -1,4 +1,4 @@
--- Words of the layout meet what division asks of monomials: the quotient is the difference, the product the sum, and "too large" an exponent over 127; and these are the operations on exponents. Assumes nothing.
+-- Words of the layout meet what division asks of monomials: the quotient is the difference, the product the sum, and what is too large has an exponent over 127; and these are the operations on exponents. Assumes nothing.
 use mathlib.Core.Path.{_≡_, refl, sym, ap, _∙_}
 use mathlib.Core.Bool.{Bool, true, false, not}
 use mathlib.Core.List.{List, [], _∷_, map}

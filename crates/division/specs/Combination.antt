@@ -1,4 +1,4 @@
--- What a division means, apart from how it is done: the polynomial is the remainder and a sum of multiples of divisors, and the leads that it removes, one by one. Assumes nothing.
+-- What a division means, apart from how it is done: the polynomial is the remainder and a sum of multiples of divisors, and the leads that it removes, one by one. `Is` says which monomials are meant. Assumes nothing.
 use Prim.Native.Nat.{ℕ, zero, suc, Ordering}
 use mathlib.Core.Path.{_≡_}
 use mathlib.Core.List.{List, [], _∷_, _++_}
@@ -13,10 +13,10 @@ pub record Multiplier (A : Type 0) : Type 0 where
   pub by : Term A
   pub of : List (Term A)
 
--- each is a multiple of one of the divisors
-unfoldable pub AllByDivisors : {A : Type 0} → List (List (Term A)) → List (Multiplier A) → Type 0
-AllByDivisors gs [] = Unit {0}
-AllByDivisors gs (m ∷ ms) = Among (m .of) gs × AllByDivisors gs ms
+-- each is a multiple of one of the divisors, by a monomial that is meant
+unfoldable pub AllByDivisors : {A : Type 0} → (Is : A → Type 0) → List (List (Term A)) → List (Multiplier A) → Type 0
+AllByDivisors Is gs [] = Unit {0}
+AllByDivisors Is gs (m ∷ ms) = (Is (m .by .mono) × Among (m .of) gs) × AllByDivisors Is gs ms
 
 -- the terms of all multiples
 unfoldable pub combined : {A : Type 0} → (_·_ : A → A → A) → (p : ℕ) → List (Multiplier A) → List (Term A)
@@ -24,9 +24,9 @@ combined _·_ p [] = []
 combined _·_ p (m ∷ ms) = multiple _·_ p (m .by .coef) (m .by .mono) (m .of) ++ combined _·_ p ms
 
 -- f is r and a sum of multiples of the divisors gs, as polynomials modulo p
-pub record Combination {A : Type 0} (cmp : A → A → Ordering) (_·_ : A → A → A) (p : ℕ) (gs : List (List (Term A))) (f r : List (Term A)) : Type 0 where
+pub record Combination {A : Type 0} (cmp : A → A → Ordering) (_·_ : A → A → A) (Is : A → Type 0) (p : ℕ) (gs : List (List (Term A))) (f r : List (Term A)) : Type 0 where
   pub multipliers : List (Multiplier A)
-  pub by-divisors : AllByDivisors gs multipliers
+  pub by-divisors : AllByDivisors Is gs multipliers
   pub same : Same cmp p f (r ++ combined _·_ p multipliers)
 
 module _ {A : Type 0} (cmp : A → A → Ordering) (quotient _·_ : A → A → A) (p : ℕ) where

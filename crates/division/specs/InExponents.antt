@@ -5,7 +5,7 @@ use Rattle.monomial.specs.declared.order.Order.{Order}
 use Rattle.monomial.specs.Layout.{exponents}
 use Rattle.polynomial.specs.Terms.{Term, term}
 
--- each monomial named anew, with the same coefficients
+-- each monomial named again, with the same coefficients
 abbrev pub renamed : {A B : Type 0} → (A → B) → List (Term A) → List (Term B)
 renamed name ts = map (λ t. term (name (t .mono)) (t .coef)) ts
 

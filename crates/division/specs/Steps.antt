@@ -11,7 +11,7 @@ use Rattle.monomial.specs.Layout.{bytes, below}
 use Rattle.monomial.specs.Words.{compareWords, dividesWord}
 use Rattle.polynomial.specs.Terms.{Term}
 use Rattle.geobucket.specs.Buckets.{held}
-use Rattle.geobucket.specs.Search.{Lead, none, lead, search}
+use Rattle.geobucket.specs.Search.{none, lead, search}
 use Rattle.geobucket.specs.Events.{Work, start, added, removed, left}
 use Rattle.division.specs.Choice.{Fit, unfit, fits, chosen}
 use Rattle.division.specs.Division.{tailMultiple}

@@ -1,14 +1,13 @@
 -- The inverses of the divisors' lead coefficients, each in one number with its share, and the factors that they make. Assumes nothing.
-use mathlib.Core.Path.{_≡_, refl, sym, ap, ap₂, _∙_, subst}
+use mathlib.Core.Path.{_≡_, refl, sym, ap, _∙_, subst}
 use mathlib.Core.List.{List}
 use mathlib.Core.Logic.{_⊎_, inl, inr, ⊎-elim}
-use Prim.Native.Nat.{ℕ, _+_, _-_, _*_, _/_, _%_, _^_, _<_, _≤_}
+use Prim.Native.Nat.{ℕ, _+_, _-_, _*_, _/_, _%_, _<_, _≤_}
 use native.Mathlib.Nat.{add-mul, mul-comm, mul-right-comm, mul-le-mul-right, mul-le-mul-left, mul-one, div-lt-iff-lt-mul, add-mul-div-right, div-add-mod', mod-lt}
 use native.Mathlib.Omega.{arith}
 use lib.Arith.{digits-mod, digits-div}
 use lib.ListN.{length, getD, set, length-set, replicate, length-replicate, getD-replicate}
 use lib.Seq.{getD-set-same, getD-set-other}
-use Rattle.residue.specs.declared.factor.Factor.{Factor}
 use Rattle.residue.specs.Modular.{Modulus, product, inverseOf}
 use Rattle.residue.specs.Share.{shareOf, FactorOf}
 use Rattle.residue.proofs.Inverses.{inverse-below}

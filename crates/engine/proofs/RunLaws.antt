@@ -20,8 +20,9 @@ use Rattle.call.specs.declared.state.State.{State}
 use Rattle.call.specs.States as C
 use Rattle.call.specs.States.{goesOn}
 use Rattle.call.specs.Lending.{polynomial, Output, WorkSpace, Addend, Lent}
-use Rattle.engine.specs.Runs.{Operation, adds, Running, begun, operate, operateAll, operationBy, operationOf, operationsOf}
-use Rattle.engine.specs.States.{StandsFor, Counting, Operated, AddOperated, Operable, Loaded, RanAll}
+use Rattle.run_outcome.specs.Runs.{Operation, adds, Running, begun, operate, operateAll, operationBy, operationOf, operationsOf}
+use Rattle.operations.specs.States.{StandsFor, Counting, Operated, AddOperated}
+use Rattle.engine.specs.States.{Operable, Loaded, RanAll}
 
 -- ---- the part that is polynomial k
 module _ {cmp : ℕ → ℕ → Ordering} {p : ℕ} {words coefs starts : List ℕ} {code k : ℕ} {s : State} {b : Buckets} {bw bc ww wc ow oc : List ℕ} (a : Operable cmp p words coefs starts code k s b bw bc ww wc ow oc) where

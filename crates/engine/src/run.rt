@@ -1,15 +1,16 @@
 // The operations of a run in turn.
-use crate::operations::add_operation;
-use crate::operations::lead_operation;
-use crate::operations::sum_operation;
 use call::state::State;
 use monomial::order::Order;
+use operations::add_operation;
+use operations::lead_operation;
+use operations::sum_operation;
 use polynomial::part::coefs_of;
 use polynomial::part::words_of;
 ghost use Rattle.monomial.specs.Words.{compareWords};
 ghost use Rattle.call.specs.Lending.{Lent};
-ghost use Rattle.engine.specs.Runs.{operationOf};
-ghost use Rattle.engine.specs.States.{Operable, Operated, Loaded, RanAll};
+ghost use Rattle.run_outcome.specs.Runs.{operationOf};
+ghost use Rattle.operations.specs.States.{Operated};
+ghost use Rattle.engine.specs.States.{Operable, Loaded, RanAll};
 
 // One operation of a list that passed the opening checks.
 pub fn operate<'a>(

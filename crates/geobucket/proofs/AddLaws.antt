@@ -1,26 +1,19 @@
 -- An addition to a geobucket: it adds the polynomials, keeps the buckets good, and holds no more terms than both. Assumes nothing.
-use mathlib.Core.Path.{_≡_, refl, sym, ap, ap₂, _∙_, subst}
-use mathlib.Core.Bool.{Bool, true, false}
+use mathlib.Core.Path.{_≡_, refl, ap, _∙_}
 use mathlib.Core.List.{List, [], _∷_, _++_, append-nil}
-use Prim.Native.Nat.{ℕ, zero, suc, _+_, _*_, _%_, _<_, _≤_, max, Ordering}
-use native.Mathlib.Nat.{mod-add-mod}
+use Prim.Native.Nat.{ℕ, suc, _+_, _*_, _%_, _<_, _≤_, Ordering}
 use native.Mathlib.Decide.{decLe}
 use native.Mathlib.Omega.{arith}
 use borrow.Author.Tests.{le-leb, lt-leb}
-use lib.Dec.{leb}
 use lib.ListN.{length}
 use Rattle.residue.proofs.Remainder.{add-same, add-both}
 use Rattle.monomial.specs.TotalOrder.{TotalOrder}
-use Rattle.polynomial.specs.Terms.{Term, total, coefAt, Canonical}
+use Rattle.polynomial.specs.Terms.{Term, total, Canonical}
 use Rattle.polynomial.specs.Merge.{merge, compared}
 use Rattle.polynomial.proofs.MergeLaws.{merge-size, merge-canonical}
 use Rattle.polynomial.proofs.CoefLaws.{total-nil, total-merge}
-use Rattle.geobucket.specs.Buckets.{held, Good, totalIn, carry, carryCompared, place, placeCompared, add, addCompared}
-
--- the largest capacity
-unfoldable pub room : {A : Type 0} → ℕ → List (List (Term A)) → ℕ
-room cap [] = 0
-room cap (b ∷ bs) = max cap (room (4 * cap) bs)
+use Rattle.geobucket.specs.Buckets.{held, Good, room, totalIn, carry, carryCompared, place, placeCompared, add}
+use Rattle.geobucket.specs.TrueSum.{Adds}
 
 module _ {A : Type 0} (cmp : A → A → Ordering) (p : ℕ) where
   abbrev Buckets : Type 0
@@ -61,23 +54,17 @@ module _ {A : Type 0} (cmp : A → A → Ordering) (p : ℕ) where
             rw (lt-leb (length f) cap k, place, placeCompared) (on cap f b bs _ _ k r)
 
   -- ---- what an addition makes of good buckets, if there is room
-  pub record Adds (cap : ℕ) (f : List (Term A)) (bs cs : List (List (Term A))) : Type 0 where
-    pub sums : (m : A) → totalIn cmp m cs % p ≡ (total cmp m f + totalIn cmp m bs) % p
-    pub good : Good cmp p cap cs
-    pub size : held cs ≤ length f + held bs
-    pub count : length cs ≡ length bs
-
   module _ (O : TotalOrder A cmp) (pos : 0 < p) where
     -- no bucket is left: then there is nothing to add
-    nowhere : (cap : ℕ) (f : List (Term A)) → length f + held {A = A} [] ≤ room {A = A} cap [] → Adds cap f [] []
+    nowhere : (cap : ℕ) (f : List (Term A)) → length f + held {A = A} [] ≤ room {A = A} cap [] → Adds cmp p cap f [] []
     unfolding held room totalIn Good
     nowhere cap [] h = record { sums = λ m. ap (λ (n : ℕ). n % p) (let e : 0 ≡ total cmp m [] + 0 = omega (arith, total-nil cmp m) in e); good = tt; size = omega arith; count = refl }
     nowhere cap (t ∷ ts) h = absurd (let z : ⊥ = omega arith in z)
 
-    carried : (cap : ℕ) (f : List (Term A)) (bs : List (List (Term A))) → length f + held bs ≤ room cap bs → Canonical cmp p f → Good cmp p cap bs → Adds cap f bs (carry cmp p cap f bs)
+    carried : (cap : ℕ) (f : List (Term A)) (bs : List (List (Term A))) → length f + held bs ≤ room cap bs → Canonical cmp p f → Good cmp p cap bs → Adds cmp p cap f bs (carry cmp p cap f bs)
     unfolding held room totalIn Good
     carried =
-        carry-along (λ cap f bs cs qs. length f + held bs ≤ room cap bs → Canonical cmp p f → Good cmp p cap bs → Adds cap f bs cs)
+        carry-along (λ cap f bs cs qs. length f + held bs ≤ room cap bs → Canonical cmp p f → Good cmp p cap bs → Adds cmp p cap f bs cs)
         (λ cap f h c g. nowhere cap f h)
         (λ cap f b bs l h c g. record {
           sums = λ m. add-same p (total cmp m (merge cmp p f b)) (total cmp m f + total cmp m b) (totalIn cmp m bs) (total-merge cmp O p m f b) ∙ ap (λ (n : ℕ). n % p) (let e : total cmp m f + total cmp m b + totalIn cmp m bs ≡ total cmp m f + (total cmp m b + totalIn cmp m bs) = omega arith in e);
@@ -96,10 +83,10 @@ module _ {A : Type 0} (cmp : A → A → Ordering) (p : ℕ) where
           count = ap suc (a .count);
         })
 
-    placed : (cap : ℕ) (f : List (Term A)) (bs : List (List (Term A))) → length f + held bs ≤ room cap bs → Canonical cmp p f → Good cmp p cap bs → Adds cap f bs (place cmp p cap f bs)
+    placed : (cap : ℕ) (f : List (Term A)) (bs : List (List (Term A))) → length f + held bs ≤ room cap bs → Canonical cmp p f → Good cmp p cap bs → Adds cmp p cap f bs (place cmp p cap f bs)
     unfolding held room totalIn Good
     placed =
-        place-along (λ cap f bs cs qs. length f + held bs ≤ room cap bs → Canonical cmp p f → Good cmp p cap bs → Adds cap f bs cs)
+        place-along (λ cap f bs cs qs. length f + held bs ≤ room cap bs → Canonical cmp p f → Good cmp p cap bs → Adds cmp p cap f bs cs)
         (λ cap f h c g. nowhere cap f h)
         (λ cap f b bs l h c g. carried cap f (b ∷ bs) h c g)
         (λ cap f b bs cs qs l r h c g.
@@ -114,7 +101,7 @@ module _ {A : Type 0} (cmp : A → A → Ordering) (p : ℕ) where
         })
 
     -- an addition adds the polynomials, and keeps the buckets good
-    pub adds : (f : List (Term A)) (bs : List (List (Term A))) → length f + held bs ≤ room 4 bs → Canonical cmp p f → Good cmp p 4 bs → Adds 4 f bs (add cmp p f bs)
+    pub adds : (f : List (Term A)) (bs : List (List (Term A))) → length f + held bs ≤ room 4 bs → Canonical cmp p f → Good cmp p 4 bs → Adds cmp p 4 f bs (add cmp p f bs)
     unfolding add
     adds [] bs h c g = record { sums = λ m. ap (λ (n : ℕ). n % p) (let e : totalIn cmp m bs ≡ total cmp m [] + totalIn cmp m bs = omega (arith, total-nil cmp m) in e); good = g; size = omega arith; count = refl }
     adds (t ∷ ts) bs h c g = placed 4 (t ∷ ts) bs h c g

@@ -1,7 +1,7 @@
 -- The bound, by credits: a term in bucket i has 6M - 1 - 5i, and each comparison is paid by the credit that terms give up. Assumes nothing.
-use mathlib.Core.Path.{_≡_, refl, sym, ap, ap₂, _∙_, subst}
-use mathlib.Core.List.{List, [], _∷_, _++_}
-use Prim.Native.Nat.{ℕ, zero, suc, _+_, _-_, _*_, _^_, _<_, _≤_, Ordering}
+use mathlib.Core.Path.{_≡_, refl, sym, ap, _∙_, subst}
+use mathlib.Core.List.{List, [], _∷_}
+use Prim.Native.Nat.{ℕ, suc, _+_, _-_, _*_, _^_, _<_, _≤_, Ordering}
 use native.Mathlib.Nat.{mul-comm, mul-le-mul-right, pow-le-pow-right, pow-suc, lt-of-not-le}
 use native.Mathlib.Omega.{arith}
 use lib.Dec.{lit<}
@@ -9,23 +9,9 @@ use lib.ListN.{length, length-append}
 use Rattle.polynomial.specs.Terms.{Term}
 use Rattle.polynomial.specs.Merge.{merge, compared, mergeCount}
 use Rattle.polynomial.proofs.MergeLaws.{merge-size, count-size}
-use Rattle.geobucket.specs.Buckets.{held, carry, carryCompared, place, placeCompared, add, addCompared}
+use Rattle.geobucket.specs.Buckets.{held, Fit, carry, carryCompared, place, placeCompared, add, addCompared}
+use Rattle.geobucket.specs.Credit.{credit, Low}
 use Rattle.geobucket.proofs.AddLaws.{carry-along, place-along}
-
--- the credit of the buckets from level i on
-unfoldable pub credit : {A : Type 0} → (M i : ℕ) → List (List (Term A)) → ℕ
-credit M i [] = 0
-credit M i (b ∷ bs) = length b * (6 * M - 1 - 5 * i) + credit M (suc i) bs
-
--- each bucket that is not empty has a level up to M
-unfoldable pub Low : {A : Type 0} → (M i : ℕ) → List (List (Term A)) → Type 0
-Low M i [] = Unit {0}
-Low M i (b ∷ bs) = (0 < length b → i ≤ M) × Low M (suc i) bs
-
--- each bucket is within its capacity, the first of capacity cap
-unfoldable pub Fit : {A : Type 0} → ℕ → List (List (Term A)) → Type 0
-Fit cap [] = Unit {0}
-Fit cap (b ∷ bs) = (length b ≤ cap) × Fit (4 * cap) bs
 
 -- a level above M would need more terms than there are
 pub climbs : (i M n : ℕ) → 4 ^ i < n → n ≤ 4 ^ M → i < M

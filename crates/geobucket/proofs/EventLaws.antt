@@ -1,5 +1,5 @@
 -- Every list of events from the empty geobucket, finished or refused: the comparisons are within the bound, and nothing is lost. Assumes nothing.
-use mathlib.Core.Path.{_≡_, refl, sym, ap, ap₂, _∙_, subst}
+use mathlib.Core.Path.{_≡_, refl, sym, ap, _∙_}
 use mathlib.Core.List.{List, [], _∷_, _++_}
 use Prim.Native.Nat.{ℕ, zero, suc, _+_, _-_, _*_, _%_, _^_, _<_, _≤_, Ordering}
 use native.Mathlib.Nat.{mul-comm, mul-le-mul-right}
@@ -12,13 +12,14 @@ use Rattle.residue.proofs.Remainder.{add-same, add-both}
 use Rattle.monomial.specs.TotalOrder.{TotalOrder}
 use Rattle.polynomial.specs.Terms.{Term, here, total, Canonical}
 use Rattle.polynomial.proofs.CoefLaws.{total-nil, total-cons}
-use Rattle.geobucket.specs.Buckets.{empty, held, Good, totalIn, add, addCompared, fullSum, sumFrom, sumCompared, emptied}
+use Rattle.geobucket.specs.Buckets.{empty, held, Good, Canon, Fit, room, totalIn, add, addCompared, fullSum, sumCompared, emptied}
 use Rattle.geobucket.specs.Search.{Lead, none, lead, Searched, search, putBack, withLead}
 use Rattle.geobucket.specs.Events.{Event, addition, removal, summation, finding, Work, start, leadTerms, added, removed, summed, left, perform, Polynomials, levels, bound}
-use Rattle.geobucket.proofs.AddLaws.{room, adds}
-use Rattle.geobucket.proofs.Credit.{credit, Low, Fit, add-paid}
-use Rattle.geobucket.proofs.Levels.{Level, levels-are}
-use Rattle.geobucket.proofs.SearchLaws.{Shrunk, Canon, leadTotal, Fewer, finds, Within, search-within, shrunk-low}
+use Rattle.geobucket.specs.Credit.{credit, Low}
+use Rattle.geobucket.proofs.AddLaws.{adds}
+use Rattle.geobucket.proofs.Credit.{add-paid}
+use Rattle.geobucket.proofs.Levels.{levels-are, levels-enough}
+use Rattle.geobucket.proofs.SearchLaws.{Shrunk, leadTotal, Fewer, finds, Within, search-within, shrunk-low}
 use Rattle.geobucket.proofs.SearchCost.{search-paid}
 use Rattle.geobucket.proofs.SumLaws.{sum-totals, sum-paid, emptied-credit, emptied-held}
 
@@ -34,7 +35,7 @@ room-six (a ∷ (b ∷ (c ∷ (d ∷ (e ∷ []))))) h = absurd (let z : ⊥ = om
 room-six (a ∷ (b ∷ (c ∷ (d ∷ (e ∷ (f ∷ [])))))) h = omega arith
 room-six (a ∷ (b ∷ (c ∷ (d ∷ (e ∷ (f ∷ (g ∷ bs))))))) h = absurd (let z : ⊥ = omega arith in z)
 
-shrunk-count : {A : Type 0} (cs bs : List (List (Term A))) → Shrunk cs bs → length cs ≡ length bs
+pub shrunk-count : {A : Type 0} (cs bs : List (List (Term A))) → Shrunk cs bs → length cs ≡ length bs
 unfolding Shrunk
 shrunk-count [] [] h = refl
 shrunk-count [] (b ∷ bs) h = absurd h
@@ -73,7 +74,7 @@ module _ {A : Type 0} (cmp : A → A → Ordering) (p : ℕ) where
   good-canon cap [] g = tt
   good-canon cap (b ∷ bs) g = (g .0 .0, good-canon (4 * cap) bs (g .1))
 
-  good-fit : (cap : ℕ) (bs : List (List (Term A))) → Good cmp p cap bs → Fit cap bs
+  pub good-fit : (cap : ℕ) (bs : List (List (Term A))) → Good cmp p cap bs → Fit cap bs
   unfolding Good Fit
   good-fit cap [] g = tt
   good-fit cap (b ∷ bs) g = (g .0 .1, good-fit (4 * cap) bs (g .1))
@@ -249,15 +250,15 @@ module _ {A : Type 0} (cmp : A → A → Ordering) (p : ℕ) where
     at-end es f =
         let n = length (perform cmp p es start .brought) in
         let l = levels-are n in
-        performs (levels n) (l .one) n (l .enough) es start .1 f (start-holds (levels n)) (omega arith)
+        performs (levels n) (l .one) n (levels-enough n (levels n) l) es start .1 f (start-holds (levels n)) (omega arith)
 
-    -- demand 3: "the comparisons are at most 6 N M", for every list of events, to its end or up to a refused addition
+    -- demand 3: "They are at most 6·N·M", for every list of events, to its end or up to a refused addition
     pub events-bound : (es : List (Event A)) → Polynomials cmp p es → length (perform cmp p es start .pairs) ≤ bound (length (perform cmp p es start .brought))
     events-bound es f = within (length (perform cmp p es start .brought)) (levels (length (perform cmp p es start .brought))) (length (perform cmp p es start .pairs)) (at-end es f .paid)
       where
         within : (n M q : ℕ) → q ≤ (6 * M - 1) * n → q ≤ 6 * n * M
         within n M q h = let e : (6 * M - 1) * n ≤ 6 * M * n = mul-le-mul-right n (omega arith) in omega (arith, mul-comm M n)
 
-    -- demand 3: "terms given out + terms held = terms brought in, as polynomials modulo p"
+    -- demand 3: "And as polynomials modulo p, terms given out + terms still held = terms brought in."
     pub events-kept : (es : List (Event A)) → Polynomials cmp p es → (m : A) → (total cmp m (perform cmp p es start .given) + totalIn cmp m (perform cmp p es start .buckets)) % p ≡ total cmp m (perform cmp p es start .brought) % p
     events-kept es f m = at-end es f .kept m

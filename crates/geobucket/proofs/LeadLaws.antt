@@ -1,26 +1,20 @@
 -- The search gives the lead of the true sum, and zero exactly where that is zero; the full sum is the canonical list of the true sum. Assumes nothing.
-use mathlib.Core.Path.{_≡_, refl, sym, ap, _∙_, subst}
+use mathlib.Core.Path.{_≡_, refl, sym, ap, _∙_}
 use mathlib.Core.List.{List, [], _∷_}
-use Prim.Native.Nat.{ℕ, zero, suc, _+_, _%_, _<_, _≤_, Ordering, Ordering·lt, Ordering·eq, Ordering·gt}
+use Prim.Native.Nat.{ℕ, _+_, _%_, _<_, Ordering, Ordering·gt}
 use native.Mathlib.Nat.{mod-eq-of-lt}
 use native.Mathlib.Omega.{arith}
-use lib.ListN.{length}
 use Rattle.monomial.specs.TotalOrder.{TotalOrder}
-use Rattle.polynomial.specs.Terms.{Term, here, total, coefAt, Under, Canonical}
+use Rattle.polynomial.specs.Terms.{Term, here, total, coefAt, Canonical}
 use Rattle.polynomial.proofs.MergeLaws.{turned-lt, under-more}
 use Rattle.polynomial.proofs.CoefLaws.{total-nil, total-under}
-use Rattle.geobucket.specs.Buckets.{held, totalIn, fullSum}
-use Rattle.geobucket.specs.Search.{Lead, none, lead, Searched, search}
-use Rattle.geobucket.specs.TrueSum.{sumAt, IsZero, IsLead}
-use Rattle.geobucket.proofs.SearchLaws.{Canon, Above, leadTotal, Leads, finds}
+use Rattle.geobucket.specs.Buckets.{held, Canon, totalIn, fullSum}
+use Rattle.geobucket.specs.Search.{Lead, none, lead, search}
+use Rattle.geobucket.specs.TrueSum.{sumAt, IsZero, Right}
+use Rattle.geobucket.proofs.SearchLaws.{Above, leadTotal, Leads, finds}
 use Rattle.geobucket.proofs.SumLaws.{sum-totals, sum-canonical}
 
 module _ {A : Type 0} (cmp : A → A → Ordering) (p : ℕ) where
-  -- what the answer of a search says of the true sum
-  abbrev pub Right : List (List (Term A)) → Lead A → Type 0
-  Right bs none = IsZero cmp p bs
-  Right bs (lead at t) = IsLead cmp p bs t
-
   none-total : (m : A) (bs : List (List (Term A))) → held bs ≡ 0 → totalIn cmp m bs ≡ 0
   unfolding held totalIn
   none-total m [] h = refl
@@ -38,7 +32,7 @@ module _ {A : Type 0} (cmp : A → A → Ordering) (p : ℕ) where
     above-more m k h [] a = tt
     above-more m k h (b ∷ bs) a = (under-more cmp O m k h b (a .0), above-more m k h bs (a .1))
 
-    right : (bs cs : List (List (Term A))) (a : Lead A) → ((m : A) → (leadTotal cmp p m a + totalIn cmp m cs) % p ≡ totalIn cmp m bs % p) → Leads cmp p a cs → Right bs a
+    right : (bs cs : List (List (Term A))) (a : Lead A) → ((m : A) → (leadTotal cmp p m a + totalIn cmp m cs) % p ≡ totalIn cmp m bs % p) → Leads cmp p a cs → Right cmp p bs a
     right bs cs none s l = record { zero-at = λ m. sym (s m) ∙ (ap (λ (n : ℕ). n % p) (let e : 0 + totalIn cmp m cs ≡ 0 = omega (arith, none-total m cs l) in e) ∙ mod-eq-of-lt pos) }
     right bs cs (lead at t) s l = record {
       coef-is =
@@ -53,14 +47,14 @@ module _ {A : Type 0} (cmp : A → A → Ordering) (p : ℕ) where
     }
 
     -- the term given is the lead of the true sum, and zero is given only where that is zero
-    pub lead-right : (bs : List (List (Term A))) → Canon cmp p bs → Right bs (search cmp p bs .answer)
+    pub lead-right : (bs : List (List (Term A))) → Canon cmp p bs → Right cmp p bs (search cmp p bs .answer)
     lead-right bs g = let a = finds cmp p O pos bs g in right bs (search cmp p bs .buckets) (search cmp p bs .answer) (a .sums) (a .leads)
 
     -- and there it is given
     pub zero-found : (bs : List (List (Term A))) → Canon cmp p bs → IsZero cmp p bs → search cmp p bs .answer ≡ none
     zero-found bs g z = go (search cmp p bs .answer) (lead-right bs g)
       where
-        go : (a : Lead A) → Right bs a → a ≡ none
+        go : (a : Lead A) → Right cmp p bs a → a ≡ none
         go none r = refl
         go (lead at t) r = absurd (let q : ⊥ = omega (arith, r .coef-is, r .not-zero, z .zero-at (t .mono)) in q)
 

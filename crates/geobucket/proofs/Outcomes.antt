@@ -6,7 +6,7 @@ use lib.ListN.{length}
 use Rattle.polynomial.specs.Terms.{Term, term}
 use Rattle.polynomial.specs.Merge.{keep, into, merge, comparedInto, compared}
 use Rattle.geobucket.specs.Buckets.{empty, held, carry, carryCompared, place, placeCompared, add, addCompared}
-use Rattle.geobucket.specs.Search.{Lead, lead, seek, pass, onward, ended, searchIn, search}
+use Rattle.geobucket.specs.Search.{lead, seek, pass, onward, ended, searchIn, search}
 
 abbrev one-term : ℕ → ℕ → List (Term ℕ)
 one-term m c = term m c ∷ []

@@ -1,6 +1,6 @@
 -- The search is paid by the terms that it removes: a pass makes fewer comparisons than there are levels, and the candidate that it ends with has as much credit. Assumes nothing.
-use mathlib.Core.List.{List, [], _∷_, _++_}
-use Prim.Native.Nat.{ℕ, zero, suc, _+_, _-_, _*_, _<_, _≤_, Ordering}
+use mathlib.Core.List.{List, [], _∷_}
+use Prim.Native.Nat.{ℕ, suc, _+_, _-_, _*_, _<_, _≤_, Ordering}
 use native.Mathlib.Nat.{mul-le-mul-right}
 use native.Mathlib.Omega.{arith}
 use lib.ListN.{length, length-append}
@@ -8,10 +8,10 @@ use Rattle.monomial.specs.TotalOrder.{TotalOrder}
 use Rattle.polynomial.specs.Terms.{Term}
 use Rattle.polynomial.specs.Merge.{keep}
 use Rattle.polynomial.proofs.MergeLaws.{length-keep}
-use Rattle.geobucket.specs.Buckets.{held}
+use Rattle.geobucket.specs.Buckets.{held, Canon}
 use Rattle.geobucket.specs.Search.{Pass, seek, pass, search}
-use Rattle.geobucket.proofs.Credit.{credit, Low}
-use Rattle.geobucket.proofs.SearchLaws.{Canon, shrunk-low, seek-along, search-along, passes}
+use Rattle.geobucket.specs.Credit.{credit, Low}
+use Rattle.geobucket.proofs.SearchLaws.{shrunk-low, seek-along, search-along, passes}
 
 -- ---- the sums of one bucket, on plain numbers: a term of the candidate's bucket has w, one of the bucket that is looked at v
 ends-pays : (n w d : ℕ) → d ≤ w → n * w + 0 + d ≤ suc n * w + 0

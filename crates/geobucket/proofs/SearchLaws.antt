@@ -1,20 +1,20 @@
 -- The search: it ends with a term above all that the buckets still hold, or with zero and empty buckets, and keeps the sum. Assumes nothing.
-use mathlib.Core.Path.{_≡_, refl, sym, ap, ap₂, _∙_, subst}
-use mathlib.Core.List.{List, [], _∷_, _++_}
+use mathlib.Core.Path.{_≡_, refl, sym, ap, _∙_, subst}
+use mathlib.Core.List.{List, [], _∷_}
 use mathlib.Core.Logic.{_⊎_, inl, inr, ⊎-elim}
-use Prim.Native.Nat.{ℕ, zero, suc, _+_, _-_, _*_, _%_, _<_, _≤_, Ordering, Ordering·lt, Ordering·eq, Ordering·gt}
-use native.Mathlib.Nat.{mod-lt, mod-mod, mod-add-mod, mul-le-mul-right}
+use Prim.Native.Nat.{ℕ, zero, suc, _+_, _-_, _%_, _<_, _≤_, Ordering, Ordering·lt, Ordering·eq, Ordering·gt}
+use native.Mathlib.Nat.{mod-lt}
 use native.Mathlib.Omega.{arith}
-use lib.ListN.{length, length-append}
-use Rattle.residue.proofs.Remainder.{add-both, add-same}
+use lib.ListN.{length}
+use Rattle.residue.proofs.Remainder.{add-same}
 use Rattle.monomial.specs.TotalOrder.{TotalOrder}
-use Rattle.polynomial.specs.Terms.{Term, term, here, total, Under, Falling, Reduced, Canonical}
+use Rattle.polynomial.specs.Terms.{Term, term, here, total, Under, Canonical}
 use Rattle.polynomial.specs.Merge.{keep}
 use Rattle.polynomial.proofs.MergeLaws.{Stands, less, same, more, stands, all-keep, falling-keep, length-keep, turned-gt, under-more}
 use Rattle.polynomial.proofs.CoefLaws.{here-zero, here-sum, total-nil, total-cons, total-keep}
-use Rattle.geobucket.specs.Buckets.{held, totalIn}
+use Rattle.geobucket.specs.Buckets.{held, Canon, totalIn}
 use Rattle.geobucket.specs.Search.{Pass, replaced, passed, passing, seek, Lead, none, lead, Searched, higher, pass, after, onward, ended, searchIn, search}
-use Rattle.geobucket.proofs.Credit.{credit, Low}
+use Rattle.geobucket.specs.Credit.{Low}
 
 -- each bucket is no longer than before
 unfoldable pub Shrunk : {A : Type 0} → List (List (Term A)) → List (List (Term A)) → Type 0
@@ -45,11 +45,6 @@ shrunk-low M i (c ∷ cs) [] h l = absurd h
 shrunk-low M i (c ∷ cs) (b ∷ bs) h l = (λ k. l .0 (let e : 0 < length b = omega arith in e), shrunk-low M (suc i) cs bs (h .1) (l .1))
 
 module _ {A : Type 0} (cmp : A → A → Ordering) (p : ℕ) where
-  -- each bucket is canonical
-  unfoldable pub Canon : List (List (Term A)) → Type 0
-  Canon [] = Unit {0}
-  Canon (b ∷ bs) = Canonical cmp p b × Canon bs
-
   -- m is larger than every term
   unfoldable pub Above : A → List (List (Term A)) → Type 0
   Above m [] = Unit {0}
@@ -93,7 +88,7 @@ module _ {A : Type 0} (cmp : A → A → Ordering) (p : ℕ) where
     -- the polynomial is unchanged
     pub sums : (m : A) → (here (cmp (s .lead .mono) m) (s .lead .coef) + (total cmp m (s .own) + totalIn cmp m (s .above))) % p ≡ (here (cmp (x .mono) m) (x .coef) + (total cmp m xs + totalIn cmp m bs)) % p
     pub own-canon : Canonical cmp p (s .own)
-    pub canon : Canon (s .above)
+    pub canon : Canon cmp p (s .above)
     -- the last candidate is larger than all other terms, and not smaller than the first
     pub own-under : Under cmp (s .lead .mono) (s .own)
     pub under : Above (s .lead .mono) (s .above)
@@ -123,10 +118,10 @@ module _ {A : Type 0} (cmp : A → A → Ordering) (p : ℕ) where
       reduced = all-keep (λ t. (0 < t .coef) × (t .coef < p)) (x .mono) (x .coef) xs (λ h. (h, c .below)) (c .rest .reduced);
     }
 
-    pub sought : (bs : List (List (Term A))) (x : Term A) (xs : List (Term A)) → Candidate x xs → Canon bs → Sought x xs bs (seek cmp p x xs bs)
+    pub sought : (bs : List (List (Term A))) (x : Term A) (xs : List (Term A)) → Candidate x xs → Canon cmp p bs → Sought x xs bs (seek cmp p x xs bs)
     unfolding totalIn held Canon Above Shrunk
     sought =
-        seek-along (λ x xs bs s. Candidate x xs → Canon bs → Sought x xs bs s)
+        seek-along (λ x xs bs s. Candidate x xs → Canon cmp p bs → Sought x xs bs s)
         (λ x xs c g. record { sums = λ m. refl; own-canon = c .rest; canon = tt; own-under = c .over; under = tt; top = inl refl; small = c .below; own-short = omega arith; short = tt; fewer = omega arith })
         (λ x xs bs s r c g.
         let a = r c (g .1) in
@@ -238,7 +233,7 @@ module _ {A : Type 0} (cmp : A → A → Ordering) (p : ℕ) where
 
   pub record Passes (bs : List (List (Term A))) (s : Searched A) : Type 0 where
     pub sums : (m : A) → (leadTotal m (s .answer) + totalIn cmp m (s .buckets)) % p ≡ totalIn cmp m bs % p
-    pub canon : Canon (s .buckets)
+    pub canon : Canon cmp p (s .buckets)
     pub short : Shrunk (s .buckets) bs
     pub tops : Tops (s .answer) (s .buckets)
     pub fewer : Fewer (s .answer) (s .buckets) bs
@@ -251,7 +246,7 @@ module _ {A : Type 0} (cmp : A → A → Ordering) (p : ℕ) where
   pub record Finds (bs : List (List (Term A))) (s : Searched A) : Type 0 where
     -- the lead and the buckets without it are the polynomial
     pub sums : (m : A) → (leadTotal m (s .answer) + totalIn cmp m (s .buckets)) % p ≡ totalIn cmp m bs % p
-    pub canon : Canon (s .buckets)
+    pub canon : Canon cmp p (s .buckets)
     pub short : Shrunk (s .buckets) bs
     pub leads : Leads (s .answer) (s .buckets)
     pub fewer : Fewer (s .answer) (s .buckets) bs
@@ -339,7 +334,7 @@ module _ {A : Type 0} (cmp : A → A → Ordering) (p : ℕ) where
     raised-fewer none cs bs h = omega arith
     raised-fewer (lead at t) cs bs h = omega arith
 
-    pub passes : (bs : List (List (Term A))) → Canon bs → Passes bs (pass cmp p bs)
+    pub passes : (bs : List (List (Term A))) → Canon cmp p bs → Passes bs (pass cmp p bs)
     unfolding pass totalIn held Canon Shrunk Above
     passes [] g = record { sums = λ m. refl; canon = tt; short = tt; tops = refl; fewer = omega arith }
     passes ([] ∷ bs) g =
@@ -365,7 +360,7 @@ module _ {A : Type 0} (cmp : A → A → Ordering) (p : ℕ) where
           fewer = omega (arith, a .fewer);
         }
 
-    finds-in : (n : ℕ) (bs : List (List (Term A))) → held bs < n → Canon bs → Finds bs (searchIn cmp p n bs)
+    finds-in : (n : ℕ) (bs : List (List (Term A))) → held bs < n → Canon cmp p bs → Finds bs (searchIn cmp p n bs)
     unfolding searchIn
     finds-in zero bs h g = absurd (let z : ⊥ = omega arith in z)
     finds-in (suc n) bs h g = by-answer (s .answer) refl (passes bs g) (λ cs k c. finds-in n cs k c)
@@ -376,7 +371,7 @@ module _ {A : Type 0} (cmp : A → A → Ordering) (p : ℕ) where
         again : List (List (Term A)) → Searched A
         again cs = searchIn cmp p n cs
 
-        by-coef : (at : ℕ) (t : Term A) → s .answer ≡ lead at t → (c : ℕ) → t .coef ≡ c → Passes bs s → ((cs : List (List (Term A))) → held cs < n → Canon cs → Finds cs (again cs)) → Finds bs (ended cmp p (s .answer) s again)
+        by-coef : (at : ℕ) (t : Term A) → s .answer ≡ lead at t → (c : ℕ) → t .coef ≡ c → Passes bs s → ((cs : List (List (Term A))) → held cs < n → Canon cmp p cs → Finds cs (again cs)) → Finds bs (ended cmp p (s .answer) s again)
         by-coef at t e zero z q r =
             let few : held (s .buckets) < held bs = subst (λ (a : Lead A). Fewer a (s .buckets) bs) e (q .fewer) in
             let d = r (s .buckets) (let k : held (s .buckets) < n = omega arith in k) (q .canon) in
@@ -406,11 +401,11 @@ module _ {A : Type 0} (cmp : A → A → Ordering) (p : ℕ) where
               fewer = q .fewer;
             })
 
-        by-answer : (a : Lead A) → s .answer ≡ a → Passes bs s → ((cs : List (List (Term A))) → held cs < n → Canon cs → Finds cs (again cs)) → Finds bs (ended cmp p (s .answer) s again)
+        by-answer : (a : Lead A) → s .answer ≡ a → Passes bs s → ((cs : List (List (Term A))) → held cs < n → Canon cmp p cs → Finds cs (again cs)) → Finds bs (ended cmp p (s .answer) s again)
         by-answer none e q r =
             subst (Finds bs) (sym (ended-none s again e))
             (record { sums = q .sums; canon = q .canon; short = q .short; leads = subst (λ (a : Lead A). Leads a (s .buckets)) (sym e) (subst (λ (a : Lead A). Tops a (s .buckets)) e (q .tops)); fewer = q .fewer })
         by-answer (lead at t) e q r = by-coef at t e (t .coef) refl q r
 
-    pub finds : (bs : List (List (Term A))) → Canon bs → Finds bs (search cmp p bs)
+    pub finds : (bs : List (List (Term A))) → Canon cmp p bs → Finds bs (search cmp p bs)
     finds bs g = finds-in (suc (held bs)) bs (omega arith) g

@@ -1,7 +1,7 @@
 -- The full sum: it is the canonical list of the true sum, and is paid by the terms that it takes out of the buckets. Assumes nothing.
-use mathlib.Core.Path.{_≡_, refl, sym, ap, ap₂, _∙_, subst}
-use mathlib.Core.List.{List, [], _∷_, _++_}
-use Prim.Native.Nat.{ℕ, zero, suc, _+_, _-_, _*_, _%_, _<_, _≤_, Ordering}
+use mathlib.Core.Path.{_≡_, refl, ap, _∙_}
+use mathlib.Core.List.{List, [], _∷_}
+use Prim.Native.Nat.{ℕ, suc, _+_, _-_, _*_, _%_, _<_, _≤_, Ordering}
 use native.Mathlib.Nat.{mul-le-mul-right, mul-le-mul-left}
 use native.Mathlib.Omega.{arith}
 use lib.ListN.{length, length-append}
@@ -9,11 +9,10 @@ use Rattle.residue.proofs.Remainder.{add-same}
 use Rattle.monomial.specs.TotalOrder.{TotalOrder}
 use Rattle.polynomial.specs.Terms.{Term, total, Canonical}
 use Rattle.polynomial.specs.Merge.{merge, compared, mergeCount}
-use Rattle.polynomial.proofs.MergeLaws.{merge-size, merge-canonical, merge-nil, compared-nil, count-size, count-left}
-use Rattle.polynomial.proofs.CoefLaws.{total-nil, total-merge}
-use Rattle.geobucket.specs.Buckets.{held, totalIn, sumFrom, sumCompared, fullSum, emptied}
-use Rattle.geobucket.proofs.Credit.{credit, Low}
-use Rattle.geobucket.proofs.SearchLaws.{Canon}
+use Rattle.polynomial.proofs.MergeLaws.{merge-size, merge-canonical, merge-nil, compared-nil, count-size}
+use Rattle.polynomial.proofs.CoefLaws.{total-merge}
+use Rattle.geobucket.specs.Buckets.{held, Canon, totalIn, sumFrom, sumCompared, emptied}
+use Rattle.geobucket.specs.Credit.{credit, Low}
 
 module _ {A : Type 0} (cmp : A → A → Ordering) (p : ℕ) where
   module _ (O : TotalOrder A cmp) where

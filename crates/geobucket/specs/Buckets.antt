@@ -1,5 +1,5 @@
 -- The published geobucket (document 01, "Buckets"): a list of buckets, the first of capacity 4 and each of four times the capacity of the one before. An addition and a full sum, each with the pairs of monomials that it compares. Assumes nothing.
-use Prim.Native.Nat.{ℕ, zero, suc, _+_, _*_, _≤_, Ordering}
+use Prim.Native.Nat.{ℕ, _+_, _*_, _≤_, max, Ordering}
 use mathlib.Core.Bool.{true, false}
 use mathlib.Core.List.{List, [], _∷_, _++_}
 use lib.Dec.{leb}
@@ -20,6 +20,21 @@ held (b ∷ bs) = length b + held bs
 unfoldable pub Good : {A : Type 0} → (A → A → Ordering) → (p cap : ℕ) → List (List (Term A)) → Type 0
 Good cmp p cap [] = Unit {0}
 Good cmp p cap (b ∷ bs) = (Canonical cmp p b × (length b ≤ cap)) × Good cmp p (4 * cap) bs
+
+-- each bucket is canonical, whatever its length
+unfoldable pub Canon : {A : Type 0} → (A → A → Ordering) → (p : ℕ) → List (List (Term A)) → Type 0
+Canon cmp p [] = Unit {0}
+Canon cmp p (b ∷ bs) = Canonical cmp p b × Canon cmp p bs
+
+-- each bucket is within its capacity, the first of capacity cap
+unfoldable pub Fit : {A : Type 0} → (cap : ℕ) → List (List A) → Type 0
+Fit cap [] = Unit {0}
+Fit cap (b ∷ bs) = (length b ≤ cap) × Fit (4 * cap) bs
+
+-- the largest capacity, the first bucket's being cap
+unfoldable pub room : {A : Type 0} → (cap : ℕ) → List (List (Term A)) → ℕ
+room cap [] = 0
+room cap (b ∷ bs) = max cap (room (4 * cap) bs)
 
 module _ {A : Type 0} (cmp : A → A → Ordering) where
   -- the coefficients of m in all buckets, added up

@@ -37,6 +37,10 @@ scriptBytes = 16384
 abbrev pub scriptTerms : ℕ
 scriptTerms = 4096
 
+-- the starts of as many polynomials
+abbrev pub scriptStarts : ℕ
+scriptStarts = 4097
+
 -- the numbers of as many operations
 abbrev pub scriptNumbers : ℕ
 scriptNumbers = 8192

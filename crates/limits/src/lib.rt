@@ -27,6 +27,9 @@ pub const SCRIPT_BYTES: usize = 16384;
 // A term, and a line, takes at least four bytes of a script: the most terms, and the most operations.
 pub const SCRIPT_TERMS: usize = 4096;
 
+// The starts of as many polynomials.
+pub const SCRIPT_STARTS: usize = 4097;
+
 // The numbers of as many operations.
 pub const SCRIPT_NUMBERS: usize = 8192;
 

@@ -17,10 +17,10 @@ use Rattle.geobucket.proofs.SearchLaws.{Leads, Fewer, finds}
 use Rattle.geobucket.proofs.SumLaws.{sum-size, emptied-held}
 use Rattle.geobucket.proofs.LeadLaws.{sum-right}
 use Rattle.call.specs.Lending.{polynomial}
-use Rattle.engine.specs.Runs.{Operation, adds, leads, sums, Running, begun, operateAll, added, taken, summed, placeOf, operationsOf}
-use Rattle.runs.specs.Demanded.{eventsOf}
-use Rattle.runs.proofs.Follow.{Sound, canon, sound-along}
-use Rattle.script.specs.Grammar.{Line, addLine, leadLine, sumLine}
+use Rattle.run_outcome.specs.Runs.{Operation, adds, leads, Running, begun, operateAll, added, taken, summed, placeOf, operationsOf}
+use Rattle.run_outcome.specs.Demanded.{eventsOf, termsNamed}
+use Rattle.run_outcome.proofs.Follow.{Sound, canon, sound-along}
+use Rattle.grammar.specs.Grammar.{Line, addLine, leadLine, sumLine}
 use Rattle.script.specs.Loading.{entriesIn, endsFrom, pairsFrom}
 use Rattle.listing.proofs.WholeLaws.{terms-most}
 
@@ -34,13 +34,6 @@ below-append p (x ∷ xs) ys h k = (h .0, below-append p xs ys (h .1) k)
 below-reduced : (p : ℕ) (xs : List (Term ℕ)) → Reduced p xs → CoefsBelow p xs
 below-reduced p [] h = tt
 below-reduced p (x ∷ xs) h = (h .0 .1, below-reduced p xs (h .1))
-
--- the terms of all additions
-abbrev pub toAdd : List Operation → ℕ
-toAdd [] = 0
-toAdd (adds f ∷ os) = length f + toAdd os
-toAdd (leads ∷ os) = toAdd os
-toAdd (sums ∷ os) = toAdd os
 
 module _ (cmp : ℕ → ℕ → Ordering) (p : ℕ) where
   -- what holds before each operation, with so many terms to add so far
@@ -88,15 +81,15 @@ module _ (cmp : ℕ → ℕ → Ordering) (p : ℕ) where
           below = below-append p (t .output) (f ++ (term 0 0 ∷ [])) (g .below) (below-append p f (term 0 0 ∷ []) (below-reduced p f (sum-right cmp p O pos bs (canon cmp p a) .0 .reduced)) (pos, tt));
         }
 
-  pub gives : TotalOrder ℕ cmp → 0 < p → (places : ℕ) (os : List Operation) → Polynomials cmp p (eventsOf os) → Gives (toAdd os) (operateAll cmp p places os begun)
+  pub gives : TotalOrder ℕ cmp → 0 < p → (places : ℕ) (os : List Operation) → Polynomials cmp p (eventsOf os) → Gives (termsNamed os) (operateAll cmp p places os begun)
   gives O pos places os all =
-      sound-along cmp p O pos places (λ os t v. (most n : ℕ) → most + toAdd os ≤ n → Gives most t → Gives n v)
+      sound-along cmp p O pos places (λ os t v. (most n : ℕ) → most + termsNamed os ≤ n → Gives most t → Gives n v)
       (λ t a most n l g. record { given = omega (arith, l, g .given); brought = omega (arith, l, g .brought); below = g .below })
       (λ f os t v a c h r most n l g. r (most + length f) n (omega (arith, l)) (gives-added O pos a g f c h))
       (λ os t v a r most n l g. r most n l (gives-taken O pos a g))
       (λ os t v a r most n l g. r most n l (gives-summed O pos a g))
       (λ r o os t a most n l g. record { given = omega (arith, l, g .given); brought = omega (arith, l, g .brought); below = g .below })
-      os all 0 (toAdd os) (omega arith) gives-begun
+      os all 0 (termsNamed os) (omega arith) gives-begun
 
 -- ---- the additions of a script
 module _ (words coefs starts : List ℕ) where
@@ -105,7 +98,7 @@ module _ (words coefs starts : List ℕ) where
       let a = getD starts k 0 in
       omega (arith, terms-most (partOf starts k words) (partOf starts k coefs), length-take (getD starts (k + 1) 0 - a) (drop a words))
 
-  pub script-adds : (k at : ℕ) (ls : List Line) → ((j : ℕ) → getD starts (k + j) 0 ≡ getD (at ∷ endsFrom at ls) j 0) → toAdd (operationsOf words coefs starts (pairsFrom k ls)) ≤ length (entriesIn ls)
+  pub script-adds : (k at : ℕ) (ls : List Line) → ((j : ℕ) → getD starts (k + j) 0 ≡ getD (at ∷ endsFrom at ls) j 0) → termsNamed (operationsOf words coefs starts (pairsFrom k ls)) ≤ length (entriesIn ls)
   unfolding endsFrom pairsFrom operationsOf entriesIn
   script-adds k at [] h = omega arith
   script-adds k at (addLine ts ∷ ls) h =

@@ -3,14 +3,13 @@ use Prim.Native.Nat.{ℕ, zero, suc, _+_, _*_, _/_, _%_, _≤_, _<_}
 use native.Mathlib.Nat.{div-add-mod', mul-le-mul, mul-le-mul-right}
 use native.Mathlib.Decide.{decLe}
 use native.Mathlib.Omega.{arith}
-use mathlib.Core.Path.{_≡_, refl, ap, ap₂, _∙_, subst}
+use mathlib.Core.Path.{_≡_, refl, ap, _∙_, subst}
 use mathlib.Core.Bool.{Bool, true, false}
 use mathlib.Core.List.{List, [], _∷_, _++_, map}
 use mathlib.Core.Option.{Option, none, some}
 use borrow.Author.Tests.{ne-eqb}
 use lib.Dec.{eqb}
-use lib.ListN.{length, take, drop, getD, replicate, length-append, length-map, length-take}
-use lib.Seq.{take-at}
+use lib.ListN.{length, drop, getD, replicate, length-append, length-take}
 use Rattle.limits.specs.Limits.{bucketPlaces, largestPrime, listingBytes, scriptTerms, workPlaces}
 use Rattle.monomial.specs.declared.order.Order.{Order}
 use Rattle.monomial.specs.Exponents.{orderOf}
@@ -21,33 +20,33 @@ use Rattle.monomial.proofs.ByteLaws.{bytes-below}
 use Rattle.monomial.proofs.LayoutLaws.{below-fields, below-take}
 use Rattle.monomial.proofs.OrderLaws.{words-order}
 use Rattle.polynomial.specs.Terms.{Term, term, terms, All}
-use Rattle.polynomial.specs.Terms as T
 use Rattle.polynomial.proofs.OpeningLaws.{passes}
-use Rattle.polynomial.proofs.TermLists.{terms-of}
 use Rattle.geobucket.specs.Events.{levels, bound}
 use Rattle.geobucket.proofs.Levels.{levels-are}
 use Rattle.opening.specs.Run.{runRefusal}
 use Rattle.opening.proofs.RunLaws.{opened}
 use Rattle.call.specs.Answers.{Outcome, decidedBy}
 use Rattle.call.specs.Places.{unlessZero, nonZero}
-use Rattle.engine.specs.Runs.{Operation, adds, leads, sums, Running, operationsOf}
+use Rattle.run_outcome.specs.Runs.{Running, operationsOf}
 use Rattle.polynomial.specs.Settings.{settingOf}
-use Rattle.runs.specs.Outcome.{runOutcome, ranThrough, ended, tallyOf}
-use Rattle.runs.specs.Ending.{Ending, all-done, too-many-terms, no-place, no-places}
-use Rattle.runs.proofs.Follow.{all-polynomials, sound}
-use Rattle.runs.proofs.Demands.{outcome-is, demand-1-operations, demand-3-bound}
+use Rattle.run_outcome.specs.Outcome.{runOutcome, ranThrough, ended, tallyOf}
+use Rattle.run_outcome.proofs.Follow.{all-polynomials, sound}
+use Rattle.run_outcome.proofs.Demands.{outcome-is, demand-3-bound, written-back}
+use Rattle.run_outcome.proofs.Endings.{finished-most, stop-most}
 use Rattle.text.specs.Bytes.{joined}
 use Rattle.text.specs.Numbers.{decimal}
 use Rattle.text.proofs.NumberLaws.{decimal-digit, decimal-more, decimal-some}
-use Rattle.script.specs.Grammar.{Entry, Line, addLine, leadLine, sumLine, Script, entryText, entriesText, linesText, GoodEntry, GoodEntries, GoodLines, GoodScript}
-use Rattle.script.specs.Reading.{scriptOf}
-use Rattle.script.specs.Loading.{entriesIn, pairsFrom, orderNumber, wordsOf, coefsOf, startsOf, pairsOf}
-use Rattle.script.proofs.Accepted.{text-read}
+use Rattle.grammar.specs.Grammar.{Entry, Line, addLine, leadLine, sumLine, Script, entryText, entriesText, linesText, GoodEntry, GoodEntries, GoodLines, GoodScript}
+use Rattle.grammar.specs.Reading.{scriptOf}
+use Rattle.grammar.specs.Parts.{orderNumber}
+use Rattle.script.specs.Loading.{entriesIn, pairsFrom, wordsOf, coefsOf, startsOf, pairsOf}
+use Rattle.grammar.proofs.Accepted.{text-read}
 use Rattle.script.proofs.LinesLaws.{pairs-long}
-use Rattle.listing.specs.Listing.{exponentsText, termText, placeBy, placeText, leadText, sumTerms, termsText, zeroIf, sumText, answersText, of-word, at-word, costText, refusedText}
+use Rattle.listing_lines.specs.Listing.{exponentsText, termText, placeBy, placeText, leadText, sumTerms, termsText, zeroIf, sumText, answersText, of-word, at-word, costText, refusedText}
 use Rattle.listing.specs.Whole.{ranText, noTally, outcomeText, listingBy, listingOf}
 use Rattle.listing.proofs.WholeLaws.{operations-short}
-use Rattle.listing.proofs.SizeLaws.{Sizes, inside, sizes}
+use Rattle.listing.specs.Printed.{Sizes}
+use Rattle.listing.proofs.SizeLaws.{inside, sizes}
 use Rattle.listing.proofs.GivenLaws.{CoefsBelow, gives, script-adds}
 use Rattle.listing.proofs.NeverFull.{opening-most}
 
@@ -200,25 +199,10 @@ unfolding refusedText
 refused-most number finished h l =
     omega (arith, decimal-long 1 number h, decimal-long 4 finished l, length-append (decimal number) (at-word ++ (decimal finished ++ (10 ∷ []))), length-append (decimal finished) (10 ∷ []))
 
-finished-most : {places before : ℕ} {os : List Operation} {t : Running} → Ending places before os t → t .finished ≤ before + length os
-finished-most (all-done z e) = omega (arith, e)
-finished-most (too-many-terms done rest f e n h z) = omega (arith, n, ap length e, length-append done (adds f ∷ rest))
-finished-most (no-place done rest e n h z) = omega (arith, n, ap length e, length-append done (leads ∷ rest))
-finished-most (no-places done rest e n h z) = omega (arith, n, ap length e, length-append done (sums ∷ rest))
-
-stop-most : {places before : ℕ} {os : List Operation} {t : Running} → Ending places before os t → t .stop ≤ 11
-stop-most (all-done z e) = omega (arith, z)
-stop-most (too-many-terms done rest f e n h z) = omega (arith, z)
-stop-most (no-place done rest e n h z) = omega (arith, z)
-stop-most (no-places done rest e n h z) = omega (arith, z)
-
 -- ---- the listing
 below-small : (p : ℕ) (ts : List (Term ℕ)) → p ≤ largestPrime → CoefsBelow p ts → Small ts
 below-small p [] l h = tt
 below-small p (t ∷ ts) l h = ((let z : t .coef < 65536 = omega (arith, h .0) in z), below-small p ts l (h .1))
-
-written-back : (ts : List (Term ℕ)) (ow oc : List ℕ) → terms (take (length ts) (T.words ts ++ ow)) (take (length ts) (T.coefs ts ++ oc)) ≡ ts
-written-back ts ow oc = ap₂ terms (take-at (T.words ts) ow (length ts) (length-map ts (λ t. t .mono))) (take-at (T.coefs ts) oc (length ts) (length-map ts (λ t. t .coef))) ∙ terms-of ts
 
 module _ (s : Script) (g : GoodScript s) (z : Sizes s) (bw bc ww wc ow oc : List ℕ) where
   abbrev last : Running
@@ -253,11 +237,8 @@ module _ (s : Script) (g : GoodScript s) (z : Sizes s) (bw bc ww wc ow oc : List
         g .not-long,
       )
 
-  ended-so : Ending (length ow) 0 (operationsOf (wordsOf s) (coefsOf s) (startsOf s) (pairsOf s)) last
-  ended-so = demand-1-operations (settingOf (s .prime) (orderNumber (s .order)) (s .vars)) (wordsOf s) (coefsOf s) (startsOf s) (pairsOf s) (length ow)
-
   last-finished : last .finished < 100000
-  last-finished = omega (arith, finished-most ended-so, operations-short (wordsOf s) (coefsOf s) (startsOf s) (pairsOf s) .1, pairs-long 0 (s .lines), z .operations)
+  last-finished = omega (arith, finished-most (compareWords (orderOf (orderNumber (s .order)))) (s .prime) (length ow) (operationsOf (wordsOf s) (coefsOf s) (startsOf s) (pairsOf s)), operations-short (wordsOf s) (coefsOf s) (startsOf s) (pairsOf s) .1, pairs-long 0 (s .lines), z .operations)
 
   run-most : length (outcomeText (s .order) (s .vars) (pairsOf s) (runOutcome noTally (settingOf (s .prime) (orderNumber (s .order)) (s .vars)) (wordsOf s) (coefsOf s) (startsOf s) (pairsOf s) bw bc ww wc ow oc)) ≤ listingBytes
   unfolding ranText
@@ -269,7 +250,7 @@ module _ (s : Script) (g : GoodScript s) (z : Sizes s) (bw bc ww wc ow oc : List
           let ts = last .output in
           let cost = costText (length (last .work .pairs)) (length (last .work .brought)) in
           omega (arith, h, ap (λ (x : List (Term ℕ)). length (answersText (s .order) (s .vars) (pairsOf s) x ++ cost)) (written-back ts (drop (length ts) ow) (drop (length ts) oc)), length-append (answersText (s .order) (s .vars) (pairsOf s) ts) cost)
-      ends (suc n) e h = refused-most (suc n) (last .finished) (omega (arith, e, stop-most ended-so)) last-finished
+      ends (suc n) e h = refused-most (suc n) (last .finished) (omega (arith, e, stop-most (compareWords (orderOf (orderNumber (s .order)))) (s .prime) (length ow) (operationsOf (wordsOf s) (coefsOf s) (startsOf s) (pairsOf s)))) last-finished
 
       go : (r : ℕ) → refusal ≡ r → length (outcomeText (s .order) (s .vars) (pairsOf s) (decidedBy r noTally (ended last ow oc) bw bc ww wc ow oc)) ≤ listingBytes
       go (suc r) e = refused-most (suc r) 0 (omega (arith, e, opening-most (settingOf (s .prime) (orderNumber (s .order)) (s .vars)) (wordsOf s) (coefsOf s) (startsOf s) (pairsOf s) (length bw) (length bc) (length ww) (length wc) (length ow) (length oc))) (omega arith)

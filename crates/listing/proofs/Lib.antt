@@ -1,7 +1,3 @@
-pub mod PutLaws
-pub mod PlaceLaws
-pub mod AnswerLaws
-pub mod EndingLaws
 pub mod WholeLaws
 pub mod SizeLaws
 pub mod NeverFull
@@ -9,3 +5,7 @@ pub mod OutcomeLaws
 pub mod GivenLaws
 pub mod LengthLaws
 mod Outcomes
+pub mod Additions
+pub mod LinesJudged
+pub mod Judgements
+pub mod Demands

@@ -2,19 +2,20 @@
 use Prim.Native.Nat.{ℕ, zero, suc, _+_, _-_, _*_, _≤_, Ordering}
 use native.Mathlib.Omega.{arith}
 use mathlib.Core.Path.{_≡_, refl, ap, _∙_}
-use mathlib.Core.Bool.{Bool, true, false, _&&_}
+use mathlib.Core.Bool.{Bool, true}
 use mathlib.Core.List.{List, [], _∷_, _++_}
 use mathlib.Core.Option.{Option, none, some}
-use borrow.Author.Tests.{le-leb}
-use lib.ListN.{length, take, drop, getD, replicate, length-append, length-take}
-use lib.Dec.{leb, ltb}
-use Rattle.limits.specs.Limits.{bucketPlaces, largestPrime, mostTerms, scriptTerms, workPlaces, mostVariables}
-use Rattle.polynomial.specs.Terms.{Term, term, terms}
-use Rattle.monomial.specs.declared.order.Order.{Order}
+use mathlib.Core.Logic.{inl, inr}
+use borrow.Author.Tests.{le-leb, ltb-true}
+use lib.ListN.{length, drop, getD, replicate, length-append, length-take}
+use lib.Dec.{ltb}
+use Rattle.limits.specs.Limits.{bucketPlaces, mostTerms, scriptTerms, workPlaces}
+use Rattle.polynomial.specs.Terms.{Term, term}
 use Rattle.monomial.specs.Exponents.{orderOf}
-use Rattle.monomial.specs.Layout.{inLayout}
+use Rattle.monomial.specs.Layout.{below}
+use Rattle.monomial.proofs.Places.{and-both}
 use Rattle.monomial.specs.Words.{compareWords}
-use Rattle.polynomial.specs.Opening.{partOf, first, termBy, termRefusal, termsRefusal, fall, orderBy, refusalOf}
+use Rattle.polynomial.specs.Opening.{partOf}
 use Rattle.polynomial.proofs.MergeLaws.{merge-size, length-keep}
 use Rattle.geobucket.specs.Buckets.{held, carry, place, add, fullSum}
 use Rattle.geobucket.specs.Search.{seek, pass, search}
@@ -22,22 +23,25 @@ use Rattle.geobucket.proofs.AddLaws.{carry-along, place-along}
 use Rattle.geobucket.proofs.SearchLaws.{seek-along, search-along}
 use Rattle.geobucket.proofs.SumLaws.{sum-size, emptied-held}
 use Rattle.polynomial.specs.declared.setting.Setting.{Setting}
-use Rattle.opening.specs.Run.{unless, between, setting, shapeGood, operationsGood, refusalFrom, refusalAt, polynomialsRefusal, runRefusal}
-use Rattle.residue.specs.Prime.{isPrime}
+use Rattle.opening.specs.Run.{runRefusal}
+use Rattle.opening.proofs.ListedLaws.{run-numbers}
+use Rattle.refusal.specs.Judgement.{OneOf}
 use Rattle.call.specs.declared.answer.Tally.{Tally}
 use Rattle.call.specs.Answers.{Stated, decidedBy}
 use Rattle.call.specs.Lending.{polynomial}
-use Rattle.engine.specs.Runs.{adds, leads, sums, Running, begun, operate, operateAll, added, taken, summed, addedBy, takenBy, summedBy, placeOf, operationsOf}
+use Rattle.run_outcome.specs.Runs.{adds, leads, sums, Running, begun, operate, operateAll, added, taken, summed, addedBy, takenBy, summedBy, placeOf, operationsOf}
 use Rattle.polynomial.specs.Settings.{settingOf}
-use Rattle.runs.specs.Outcome.{ranThrough, ended}
-use Rattle.runs.proofs.Follow.{all-on}
-use Rattle.script.specs.Grammar.{Line, addLine, leadLine, sumLine, Script, entriesText, linesText, GoodLines}
-use Rattle.script.specs.Reading.{scriptOf}
-use Rattle.script.specs.Loading.{endsFrom, pairsFrom, orderNumber, wordsOf, coefsOf, startsOf, pairsOf}
-use Rattle.script.proofs.Accepted.{text-read}
+use Rattle.run_outcome.specs.Outcome.{ranThrough, ended}
+use Rattle.run_outcome.proofs.Follow.{all-on}
+use Rattle.grammar.specs.Grammar.{Line, addLine, leadLine, sumLine, Script, entriesText, linesText, GoodLines}
+use Rattle.grammar.specs.Reading.{scriptOf}
+use Rattle.grammar.specs.Parts.{orderNumber}
+use Rattle.script.specs.Loading.{endsFrom, pairsFrom, wordsOf, coefsOf, startsOf, pairsOf}
+use Rattle.grammar.proofs.Accepted.{text-read}
 use Rattle.script.proofs.FieldLaws.{entries-size}
-use Rattle.listing.specs.Listing.{answersText, costText, refusedText}
-use Rattle.listing.specs.Whole.{ranBy, ranText, noTally, scriptOutcome, listingBy, listingOf}
+use Rattle.listing_lines.specs.Listing.{refusedText}
+use Rattle.listing.specs.Whole.{ranBy, ranText, noTally, scriptOutcome, doneText, listingBy, listingOf}
+use Rattle.listing.specs.Printed.{Printed, bad-script, refused, done}
 use Rattle.listing.proofs.SizeLaws.{inside}
 use Rattle.listing.proofs.WholeLaws.{terms-most, ran-some}
 
@@ -105,7 +109,7 @@ polynomial-most words coefs starts k =
     omega (arith, terms-most (partOf starts k words) (partOf starts k coefs), length-take (getD starts (k + 1) 0 - getD starts k 0) (drop (getD starts k 0) words))
 
 -- what stands at a place, and behind it
-at-place : (l : List ℕ) (k x : ℕ) (xs : List ℕ) → drop k l ≡ x ∷ xs → (getD l k 0 ≡ x) × (drop (k + 1) l ≡ xs)
+pub at-place : (l : List ℕ) (k x : ℕ) (xs : List ℕ) → drop k l ≡ x ∷ xs → (getD l k 0 ≡ x) × (drop (k + 1) l ≡ xs)
 at-place [] zero x xs e = absurd (let z : _≡_ {A = ℕ} 0 (suc (length xs)) = ap length e in let y : ⊥ = omega arith in y)
 at-place [] (suc k) x xs e = absurd (let z : _≡_ {A = ℕ} 0 (suc (length xs)) = ap length e in let y : ⊥ = omega arith in y)
 at-place (a ∷ l) zero x xs e = (ap (λ (y : List ℕ). getD y 0 0) e, ap (drop 1) e)
@@ -147,52 +151,13 @@ never-full bytes s e cmp p =
     never-stops cmp p scriptTerms (omega arith) (wordsOf s) (coefsOf s) (startsOf s) (s .lines) 0 0 begun refl refl (omega (arith, room))
 
 -- ---- an opening refusal is one of 1 to 9
-first-most : (a b : ℕ) → a ≤ 9 → b ≤ 9 → first a b ≤ 9
-first-most zero b h k = k
-first-most (suc a) b h k = h
+one-most : (m : ℕ) (ns : List ℕ) {r : ℕ} → below (suc m) ns ≡ true → OneOf ns r → r ≤ m
+one-most m [] b o = absurd o
+one-most m (n ∷ ns) b (inl e) = omega (arith, e, ltb-true n (suc m) (and-both (ltb n (suc m)) (below (suc m) ns) b .0))
+one-most m (n ∷ ns) b (inr o) = one-most m ns (and-both (ltb n (suc m)) (below (suc m) ns) b .1) o
 
-unless-most : (b : Bool) (r : ℕ) → r ≤ 9 → unless b r ≤ 9
-unless-most true r h = omega arith
-unless-most false r h = h
-
-term-most : (c w : Bool) → termBy c w ≤ 9
-term-most false w = omega arith
-term-most true false = omega arith
-term-most true true = omega arith
-
-order-most : (b : Bool) → orderBy b ≤ 9
-order-most true = omega arith
-order-most false = omega arith
-
-module _ (o : Order) (n p : ℕ) where
-  terms-refused-most : (ts : List (Term ℕ)) → termsRefusal o n p ts ≤ 9
-  unfolding termsRefusal
-  terms-refused-most [] = omega arith
-  terms-refused-most (t ∷ ts) = first-most (termRefusal o n p t) (termsRefusal o n p ts) (term-most (ltb 0 (t .coef) && ltb (t .coef) p) (inLayout o n (t .mono))) (terms-refused-most ts)
-
-  polynomial-refused-most : (ts : List (Term ℕ)) → refusalOf o n p ts ≤ 9
-  unfolding refusalOf
-  polynomial-refused-most ts = first-most (termsRefusal o n p ts) (orderBy (fall (compareWords o) ts)) (terms-refused-most ts) (order-most (fall (compareWords o) ts))
-
-module _ (t : Setting) where
-  from-most : (words coefs starts : List ℕ) (more k : ℕ) → refusalFrom t words coefs starts more k ≤ 9
-  unfolding refusalFrom
-  from-most words coefs starts zero k = omega arith
-  from-most words coefs starts (suc more) k =
-      first-most (refusalAt t words coefs starts k) (refusalFrom t words coefs starts more (k + 1)) (polynomial-refused-most (orderOf (t .order)) (t .n) (t .p) (polynomial words coefs starts k)) (from-most words coefs starts more (k + 1))
-
-  pub opening-most : (words coefs starts ops : List ℕ) (bw bc ww wc ow oc : ℕ) → runRefusal t words coefs starts ops bw bc ww wc ow oc ≤ 9
-  unfolding runRefusal setting
-  opening-most words coefs starts ops bw bc ww wc ow oc =
-      let one = unless (isPrime (t .p) && leb (t .p) largestPrime) 1 in
-      let two = unless (between 1 3 (t .order)) 2 in
-      let three = unless (between 1 mostVariables (t .n)) 3 in
-      let shape = shapeGood (length words) (length coefs) starts (length ops) bw bc ww wc ow oc in
-      let good = operationsGood ops (length starts - 1) in
-      let last = polynomialsRefusal t words coefs starts in
-      first-most (first one (first two three)) (first (unless shape 8) (first (unless good 9) last))
-      (first-most one (first two three) (unless-most (isPrime (t .p) && leb (t .p) largestPrime) 1 (omega arith)) (first-most two three (unless-most (between 1 3 (t .order)) 2 (omega arith)) (unless-most (between 1 mostVariables (t .n)) 3 (omega arith))))
-      (first-most (unless shape 8) (first (unless good 9) last) (unless-most shape 8 (omega arith)) (first-most (unless good 9) last (unless-most good 9 (omega arith)) (from-most words coefs starts (length starts - 1) 0)))
+pub opening-most : (t : Setting) (words coefs starts ops : List ℕ) (bw bc ww wc ow oc : ℕ) → runRefusal t words coefs starts ops bw bc ww wc ow oc ≤ 9
+opening-most t words coefs starts ops bw bc ww wc ow oc = one-most 9 (0 ∷ 1 ∷ 2 ∷ 3 ∷ 4 ∷ 5 ∷ 6 ∷ 8 ∷ 9 ∷ []) refl (run-numbers t words coefs starts ops bw bc ww wc ow oc)
 
 -- ---- a refusal, where all operations are done, is the opening's
 opening-alone : (refusal : ℕ) (tally : Tally) (t : Running) (bw bc ww wc ow oc : List ℕ) → refusal ≤ 9 → t .stop ≡ 0 → (let a : Stated = decidedBy refusal tally (ended t ow oc) bw bc ww wc ow oc .answer in (a .number ≤ 9) × ((a .number ≡ 0 → ⊥) → a .finished ≡ 0))
@@ -214,18 +179,7 @@ no-refusal-10-11 bytes s is =
     let h = refused-at-opening bytes s is .0 in
     (λ q. let z : ⊥ = omega (arith, h, q) in z, λ q. let z : ⊥ = omega (arith, h, q) in z)
 
--- the lines of all leads and sums, and the cost
-abbrev pub doneText : Script → List ℕ
-doneText s =
-    let r = scriptOutcome s in
-    answersText (s .order) (s .vars) (pairsOf s) (terms (take (r .answer .places) (r .ow)) (take (r .answer .places) (r .oc))) ++ costText (r .tally .comparisons) (r .tally .brought)
-
--- ---- the listing of any bytes: not a script; or refused by an opening check; or the lines of all leads and sums, and the cost
-pub data Printed (bytes : List ℕ) : Type 0 where
-  bad-script : scriptOf bytes ≡ none → listingOf bytes ≡ refusedText 17 0 → Printed bytes
-  refused : (number : ℕ) → (number ≡ 0 → ⊥) → number ≤ 9 → listingOf bytes ≡ refusedText number 0 → Printed bytes
-  done : (s : Script) → scriptOf bytes ≡ some s → scriptOutcome s .answer .number ≡ 0 → listingOf bytes ≡ doneText s → Printed bytes
-
+-- ---- the listing of any bytes
 pub printed : (bytes : List ℕ) → Printed bytes
 unfolding listingOf ranText
 printed bytes = by (scriptOf bytes) refl

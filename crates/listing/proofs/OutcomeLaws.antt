@@ -9,7 +9,7 @@ use lib.ListN.{length}
 use Rattle.limits.specs.Limits.{listingBytes}
 use Rattle.refusal.specs.declared.Refusal.the-variants.{NoOutput}
 use Rattle.listing.specs.declared.entry.Listed.the-variants.{Written, Refused}
-use Rattle.listing.specs.Put.{Put}
+use Rattle.listing_lines.specs.Put.{Put}
 use Rattle.listing.specs.Whole.{listingOf}
 use Rattle.listing.specs.Outcome.{listingStated, ListingOutcome, outcomeBy, listingOutcome}
 

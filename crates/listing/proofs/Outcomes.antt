@@ -4,11 +4,11 @@ use mathlib.Core.List.{List, [], _∷_}
 use Prim.Native.Nat.{ℕ}
 use Rattle.text.specs.Bytes.{begins, same, indexOf, parts, joined}
 use Rattle.text.specs.Numbers.{andThen, withDigit, withDigits, numberOf}
-use Rattle.script.specs.Reading.{numbersOf, entryOf, entriesOf, addOf, lineOf, linesOf, scriptOf}
+use Rattle.grammar.specs.Reading.{numbersOf, entryOf, entriesOf, addOf, lineOf, linesOf, scriptOf}
 use Rattle.listing.specs.Whole.{listingOf}
-use Rattle.listing.specs.Listing.{refusedText}
+use Rattle.listing_lines.specs.Listing.{refusedText}
 
--- "prime 7", "order dp", "vars 7", and a line that is no line of a script
+-- `prime 7`, `order dp`, `vars 7`, and a line that is no line of a script
 seven : List ℕ
 seven =
     112 ∷ 114 ∷ 105 ∷ 109 ∷ 101 ∷ 32 ∷ 55 ∷ 10

@@ -1,28 +1,30 @@
 -- A script's text is long enough for its terms and lines, so that what is read has room. Assumes nothing.
-use Prim.Native.Nat.{ℕ, zero, suc, _+_, _-_, _*_, _≤_, _<_}
+use Prim.Native.Nat.{ℕ, _+_, _-_, _*_, _≤_}
 use native.Mathlib.Omega.{arith}
-use mathlib.Core.Path.{_≡_, refl, sym, ap, subst, _∙_}
-use mathlib.Core.List.{List, [], _∷_, _++_, map}
+use mathlib.Core.Path.{_≡_, refl, sym, ap, _∙_}
+use mathlib.Core.List.{List, [], _∷_, _++_}
 use mathlib.Core.Option.{Option, none, some}
-use lib.ListN.{length, take, drop, replicate, length-append, length-map, length-replicate}
+use lib.ListN.{length, take, drop, length-append, length-map}
 use lib.Seq.{sets, sets-eq, length-sets, take-at, length-take-le}
-use Rattle.limits.specs.Limits.{scriptNumbers, scriptTerms}
+use Rattle.limits.specs.Limits.{scriptNumbers, scriptStarts, scriptTerms}
 use Rattle.monomial.specs.declared.order.Order.{Order}
 use Rattle.script.specs.declared.reader.Loaded.{Loaded}
 use Rattle.script.specs.declared.reader.Found.{Found}
 use Rattle.script.specs.declared.reader.Found.the-variants.{Script as Found·Script, Bad as Found·Bad}
-use Rattle.script.specs.Grammar.{Entry, Line, addLine, leadLine, sumLine, Script, order-word, vars-word, orderName, entriesText, lineText, linesText, scriptText, GoodLines, GoodScript}
-use Rattle.script.specs.Reading.{scriptOf}
-use Rattle.script.specs.Loading.{lineEntries, entriesIn, endsFrom, pairsFrom, orderNumber, wordsOf, coefsOf, startsOf, pairsOf, countsOf, loadedOf, entryWord, entryCoef, ScriptAs, ReadScript}
-use Rattle.script.proofs.Accepted.{text-read}
+use Rattle.grammar.specs.Grammar.{Line, addLine, leadLine, sumLine, Script, order-word, vars-word, orderName, entriesText, linesText, scriptText, GoodLines}
+use Rattle.grammar.specs.Reading.{scriptOf}
+use Rattle.grammar.specs.Parts.{entryWord, entryCoef}
+use Rattle.script.specs.Loading.{entriesIn, endsFrom, wordsOf, coefsOf, startsOf, pairsOf, loadedOf, ScriptAs, ReadScript}
+use Rattle.grammar.proofs.Accepted.{text-read}
 use Rattle.script.proofs.FieldLaws.{entries-size}
 use Rattle.script.proofs.LinesLaws.{pairs-long}
 use Rattle.script.proofs.ScriptLaws.{order-number}
 use Rattle.text.specs.Numbers.{decimal}
-use Rattle.listing.specs.Put.{Put}
-use Rattle.listing.specs.Listing.{refusedText}
+use Rattle.listing_lines.specs.Put.{Put}
+use Rattle.listing_lines.specs.Listing.{refusedText}
 use Rattle.listing.specs.Whole.{listingBy, listingOf, loadedText, outcomeText, scriptOutcome}
-use Rattle.listing.proofs.PutLaws.{put-same}
+use Rattle.listing.specs.Printed.{Sizes}
+use Rattle.listing_lines.proofs.PutLaws.{put-same}
 
 lines-terms : (n : ℕ) (ls : List Line) → GoodLines n ls → 4 * length (entriesIn ls) ≤ length (linesText ls)
 unfolding entriesIn linesText
@@ -45,11 +47,6 @@ ends-many at [] = omega arith
 ends-many at (addLine ts ∷ ls) = omega (arith, ends-many (at + length ts) ls)
 ends-many at (leadLine ∷ ls) = omega (arith, ends-many at ls)
 ends-many at (sumLine ∷ ls) = omega (arith, ends-many at ls)
-
-pub record Sizes (s : Script) : Type 0 where
-  pub terms : length (entriesIn (s .lines)) ≤ scriptTerms
-  pub polynomials : length (endsFrom 0 (s .lines)) ≤ scriptTerms
-  pub operations : length (s .lines) ≤ scriptTerms
 
 -- six bytes of the first line stand before the others
 pub inside : (s : Script) → 6 + length (linesText (s .lines)) ≤ length (scriptText s)
@@ -80,7 +77,7 @@ pub record Read (s : List ℕ) (l : Loaded) (words coefs starts ops : List ℕ) 
   pub is : scriptOf s ≡ some script
   pub loaded : l ≡ loadedOf script
   pub terms-in : l .counts .terms ≤ scriptTerms
-  pub starts-in : l .counts .polynomials + 1 ≤ 4097
+  pub starts-in : l .counts .polynomials + 1 ≤ scriptStarts
   pub pairs-in : 2 * l .counts .operations ≤ scriptNumbers
   pub words-are : take (l .counts .terms) words ≡ wordsOf script
   pub coefs-are : take (l .counts .terms) coefs ≡ coefsOf script
@@ -88,7 +85,7 @@ pub record Read (s : List ℕ) (l : Loaded) (words coefs starts ops : List ℕ) 
   pub pairs-are : take (2 * l .counts .operations) ops ≡ pairsOf script
   pub words-long : length words ≡ scriptTerms
   pub coefs-long : length coefs ≡ scriptTerms
-  pub starts-long : length starts ≡ 4097
+  pub starts-long : length starts ≡ scriptStarts
   pub ops-long : length ops ≡ scriptNumbers
 
 module _ {s words₀ coefs₀ starts₀ ops₀ words coefs starts ops : List ℕ} {r : Found} (d : ReadScript s words₀ coefs₀ starts₀ ops₀ words coefs starts ops r) where
@@ -100,7 +97,7 @@ module _ {s words₀ coefs₀ starts₀ ops₀ words coefs starts ops : List ℕ
       go none q = refl
       go (some t) q = absurd (let y : r ≡ Found·Script (loadedOf t) = q .0 in let z : _≡_ {A = ℕ} 0 1 = cc in let w : ⊥ = omega arith in w)
 
-  pub good-read : length words₀ ≡ scriptTerms → length coefs₀ ≡ scriptTerms → length starts₀ ≡ 4097 → length ops₀ ≡ scriptNumbers → (l : Loaded) → r ≡ Found·Script l → Read s l words coefs starts ops
+  pub good-read : length words₀ ≡ scriptTerms → length coefs₀ ≡ scriptTerms → length starts₀ ≡ scriptStarts → length ops₀ ≡ scriptNumbers → (l : Loaded) → r ≡ Found·Script l → Read s l words coefs starts ops
   good-read lw lc lt lo l e = go (scriptOf s) refl (d .is)
     where
       go : (x : Option Script) → scriptOf s ≡ x → ScriptAs x words₀ coefs₀ starts₀ ops₀ words coefs starts ops r → Read s l words coefs starts ops
@@ -118,7 +115,7 @@ module _ {s words₀ coefs₀ starts₀ ops₀ words coefs starts ops : List ℕ
             pairs-in = omega (arith, z .operations);
             words-are = taken-back scriptTerms (length (entriesIn (t .lines))) words₀ words (wordsOf t) lw (q .1) (length-map (entriesIn (t .lines)) (entryWord (t .order))) (z .terms);
             coefs-are = taken-back scriptTerms (length (entriesIn (t .lines))) coefs₀ coefs (coefsOf t) lc (q .2) (length-map (entriesIn (t .lines)) entryCoef) (z .terms);
-            starts-are = taken-back 4097 (length (endsFrom 0 (t .lines)) + 1) starts₀ starts (startsOf t) lt (q .3) (omega arith) (omega (arith, z .polynomials));
+            starts-are = taken-back scriptStarts (length (endsFrom 0 (t .lines)) + 1) starts₀ starts (startsOf t) lt (q .3) (omega arith) (omega (arith, z .polynomials));
             pairs-are = taken-back scriptNumbers (2 * length (t .lines)) ops₀ ops (pairsOf t) lo (q .4) (pairs-long 0 (t .lines)) (omega (arith, z .operations));
             words-long = ap length (q .1) ∙ (length-sets words₀ 0 (wordsOf t) ∙ lw);
             coefs-long = ap length (q .2) ∙ (length-sets coefs₀ 0 (coefsOf t) ∙ lc);

@@ -20,18 +20,18 @@ use Rattle.call.specs.declared.answer.Answer.{Answer}
 use Rattle.call.specs.declared.answer.Answer.the-variants.{Done, Refused}
 use Rattle.call.specs.Answers.{Stated, stated, Outcome, decidedBy}
 use Rattle.call.specs.Lending.{polynomial}
-use Rattle.engine.specs.Runs.{Operation, adds, leads, sums, Running, operateAll, operationBy, operationOf, operationsOf, begun}
+use Rattle.run_outcome.specs.Runs.{Operation, adds, leads, sums, Running, operateAll, operationBy, operationOf, operationsOf, begun}
 use Rattle.polynomial.specs.Settings.{settingOf}
-use Rattle.runs.specs.Outcome.{runOutcome, ranThrough, ended}
-use Rattle.runs.proofs.Follow.{along}
+use Rattle.run_outcome.specs.Outcome.{runOutcome, ranThrough, ended}
+use Rattle.run_outcome.proofs.Follow.{along}
 use Rattle.opening.specs.Run.{runRefusal}
 use Rattle.monomial.specs.Exponents.{orderOf}
 use Rattle.monomial.specs.Words.{compareWords}
 use Rattle.script.specs.declared.reader.Loaded.{Loaded}
-use Rattle.listing.specs.Put.{Put}
-use Rattle.listing.specs.Listing.{answersText, costText, refusedText}
+use Rattle.listing_lines.specs.Put.{Put}
+use Rattle.listing_lines.specs.Listing.{answersText, costText, refusedText}
 use Rattle.listing.specs.Whole.{ranBy, ranText, RanRoom, noTally, loadedText}
-use Rattle.listing.proofs.PutLaws.{put-both, put-same}
+use Rattle.listing_lines.proofs.PutLaws.{put-both, put-same}
 
 pub places-done : {tally : Tally} {answer : Answer} {ow oc k m : ℕ} → RanRoom tally (stated answer) ow oc → answer ≡ Done k m → m ≤ ow
 places-done r e = rw e at (r .places-in)

@@ -1,4 +1,4 @@
-pub mod Put
-pub mod Listing
 pub mod Whole
 pub mod Outcome
+pub mod Printed
+pub mod Judgement

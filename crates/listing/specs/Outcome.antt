@@ -25,7 +25,7 @@ pub record ListingOutcome : Type 0 where
   pub answer : ListingStated
   pub out : List ℕ
 
--- by whether fewer than 65,536 bytes are lent: "refusal 10 with count 0", and nothing is written
+-- by whether fewer than 65,536 bytes are lent: then refusal 10, and nothing is written
 abbrev pub outcomeBy : (few : Bool) → (text out : List ℕ) → ListingOutcome
 outcomeBy true text out = record { answer = record { number = 10; finished = 0; bytes = 0 }; out = out }
 outcomeBy false text out = record { answer = record { number = 0; finished = 0; bytes = min (length text) (length out) }; out = sets out 0 text }

@@ -1,7 +1,7 @@
 -- The listing as a function of a script's bytes. Assumes nothing.
 use Prim.Native.Nat.{ℕ, zero, suc, _≤_}
 use mathlib.Core.Path.{_≡_}
-use mathlib.Core.List.{List, _++_}
+use mathlib.Core.List.{List, _++_, map}
 use mathlib.Core.Option.{Option, none, some}
 use lib.ListN.{take, replicate}
 use Rattle.limits.specs.Limits.{bucketPlaces, scriptTerms, workPlaces}
@@ -11,12 +11,14 @@ use Rattle.polynomial.specs.Terms.{terms}
 use Rattle.call.specs.declared.answer.Tally.{Tally}
 use Rattle.call.specs.Answers.{Stated, Outcome}
 use Rattle.polynomial.specs.Settings.{settingOf}
-use Rattle.runs.specs.Outcome.{runOutcome}
+use Rattle.run_outcome.specs.Outcome.{runOutcome}
 use Rattle.script.specs.declared.reader.Loaded.{Loaded}
-use Rattle.script.specs.Grammar.{Script}
-use Rattle.script.specs.Reading.{scriptOf}
-use Rattle.script.specs.Loading.{orderNumber, wordsOf, coefsOf, startsOf, pairsOf}
-use Rattle.listing.specs.Listing.{answersText, costText, refusedText}
+use Rattle.run_outcome.specs.Runs.{Operation, adds, leads, sums}
+use Rattle.grammar.specs.Grammar.{Line, addLine, leadLine, sumLine, Script}
+use Rattle.grammar.specs.Reading.{scriptOf}
+use Rattle.grammar.specs.Parts.{entryWord, entryCoef, orderNumber}
+use Rattle.script.specs.Loading.{wordsOf, coefsOf, startsOf, pairsOf}
+use Rattle.listing_lines.specs.Listing.{answersText, costText, refusedText}
 
 -- What a run answered, with its counts and its output: the lines of its leads and sums and the cost; or the refusal alone; by the number of the refusal, 0 for none.
 abbrev pub ranBy : (number finished : ℕ) → (done : List ℕ) → List ℕ
@@ -30,10 +32,22 @@ ranText o n ops ow oc tally a = ranBy (a .number) (a .finished) (answersText o n
 abbrev pub noTally : Tally
 noTally = record { comparisons = 0; brought = 0; given = 0; held = 0 }
 
+-- a line as an operation of the run: an addition adds its terms, each as the word of its exponents (theorems `demand-2-operations` and `demand-2-exponents`)
+abbrev pub operationIn : Script → Line → Operation
+operationIn s (addLine es) = adds (terms (map (entryWord (s .order)) es) (map entryCoef es))
+operationIn s leadLine = leads
+operationIn s sumLine = sums
+
 -- the run of a script, with an output of 4,096 places
 abbrev pub scriptOutcome : Script → Outcome
 scriptOutcome s =
     runOutcome noTally (settingOf (s .prime) (orderNumber (s .order)) (s .vars)) (wordsOf s) (coefsOf s) (startsOf s) (pairsOf s) (replicate bucketPlaces 0) (replicate bucketPlaces 0) (replicate workPlaces 0) (replicate workPlaces 0) (replicate scriptTerms 0) (replicate scriptTerms 0)
+
+-- the lines of all its leads and sums, and the cost
+abbrev pub doneText : Script → List ℕ
+doneText s =
+    let r = scriptOutcome s in
+    answersText (s .order) (s .vars) (pairsOf s) (terms (take (r .answer .places) (r .ow)) (take (r .answer .places) (r .oc))) ++ costText (r .tally .comparisons) (r .tally .brought)
 
 abbrev pub outcomeText : Order → (n : ℕ) → (ops : List ℕ) → Outcome → List ℕ
 outcomeText o n ops r = ranText o n ops (r .ow) (r .oc) (r .tally) (r .answer)

@@ -1,13 +1,14 @@
 // The whole listing of a script.
-use crate::answers::put_answers;
-use crate::ending::put_cost;
-use crate::ending::put_refused;
 use call::answer::Answer;
 use call::answer::Tally;
 use limits::BUCKET_PLACES;
 use limits::SCRIPT_NUMBERS;
+use limits::SCRIPT_STARTS;
 use limits::SCRIPT_TERMS;
 use limits::WORK_PLACES;
+use listing_lines::answers::put_answers;
+use listing_lines::ending::put_cost;
+use listing_lines::ending::put_refused;
 use monomial::order::Order;
 use monomial::order::order_of;
 use refusal::number_of;
@@ -19,7 +20,7 @@ ghost use Prim.Native.Nat.{_≤_};
 ghost use lib.ListN.{length};
 ghost use Rattle.limits.specs.Limits.{scriptNumbers, scriptTerms};
 ghost use Rattle.call.specs.Answers.{stated};
-ghost use Rattle.listing.specs.Put.{Put};
+ghost use Rattle.listing_lines.specs.Put.{Put};
 ghost use Rattle.listing.specs.Whole.{ranText, RanRoom, loadedText, listingOf};
 
 // Puts what a run answered.
@@ -104,7 +105,7 @@ pub fn put_listing(script: &[u8], out: &mut [u8]) -> usize
 {
     let mut words = [0u64; SCRIPT_TERMS];
     let mut coefs = [0u32; SCRIPT_TERMS];
-    let mut starts = [0usize; 4097];
+    let mut starts = [0usize; SCRIPT_STARTS];
     let mut ops = [0usize; SCRIPT_NUMBERS];
     let found = read_script(script, &mut words, &mut coefs, &mut starts, &mut ops);
     match found {

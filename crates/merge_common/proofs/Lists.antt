@@ -1,4 +1,4 @@
--- Lists with a run of places put anew, and parts of them. Assumes nothing.
+-- Lists with a run of places put again, and parts of them. Assumes nothing.
 use mathlib.Core.Path.{_≡_, refl, sym, ap, ap₂, _∙_}
 use mathlib.Core.List.{List, [], _∷_, _++_, map}
 use mathlib.Core.Logic.{_⊎_, inl, inr, ⊎-elim}

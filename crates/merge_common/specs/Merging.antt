@@ -5,7 +5,7 @@ use mathlib.Core.List.{List, _++_}
 use lib.ListN.{length}
 use lib.Seq.{sets}
 use Rattle.residue.specs.Modular.{Modulus}
-use Rattle.polynomial.specs.Terms.{Term, terms, words, coefs}
+use Rattle.polynomial.specs.Terms.{Term, words, coefs}
 use Rattle.polynomial.specs.Merge.{merge, mergeCount}
 use Rattle.merge_common.specs.Lent.{Poly, part, Apart}
 

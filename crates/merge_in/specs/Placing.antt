@@ -5,7 +5,7 @@ use mathlib.Core.List.{List}
 use mathlib.Core.Logic.{_⊎_}
 use lib.ListN.{length, getD}
 use Rattle.residue.specs.Modular.{Modulus}
-use Rattle.polynomial.specs.Terms.{Term, terms, words, coefs}
+use Rattle.polynomial.specs.Terms.{Term, words, coefs}
 use Rattle.polynomial.specs.Merge.{merge, mergeCount}
 use Rattle.merge_common.specs.Lent.{Poly, part}
 use Rattle.merge_in.specs.declared.in_place.Placed.{Placed}

@@ -10,7 +10,7 @@ use borrow.Author.Tests.{lt-ltb, le-ltb, le-leb, lt-leb, eq-eqb, ne-eqb, eqb-tru
 use lib.Dec.{lit<, ltb, leb, eqb}
 use lib.Arith.{mod-mul, digits-mod}
 use lib.Bits.{bitAnd, and-block, and-high, and-zero-r}
-use lib.ListN.{length, take, drop, replicate, length-append}
+use lib.ListN.{length, take, drop, replicate}
 use Rattle.monomial.specs.Exponents.{each, product, quotient, divides, orElse, lex, revLex}
 use Rattle.monomial.specs.Layout.{bytes, ofBytes, Below, below}
 use Rattle.monomial.proofs.Comparing.{compare-digits}

@@ -1,7 +1,7 @@
 -- Comparing words is comparing exponents, in each order, and comparing keys is comparing words. Assumes nothing.
 use mathlib.Core.Path.{_≡_, refl, sym, ap, ap₂, _∙_}
 use mathlib.Core.List.{List, [], _∷_, _++_, reverse}
-use Prim.Native.Nat.{ℕ, zero, suc, _+_, _-_, _*_, _/_, _%_, _^_, _<_, _≤_, compare, Ordering, Ordering·lt, Ordering·eq, Ordering·gt}
+use Prim.Native.Nat.{ℕ, _+_, _-_, _*_, _^_, _<_, _≤_, compare, Ordering, Ordering·lt, Ordering·eq, Ordering·gt}
 use native.Mathlib.Omega.{arith}
 use lib.ListN.{length, replicate}
 use Rattle.monomial.specs.declared.order.Order.{Order}
@@ -11,7 +11,7 @@ use Rattle.monomial.specs.Layout.{ofBytes, six, upward, wordOf, exponent
 use Rattle.monomial.specs.Words.{low, high, compareWords, keyOf}
 use Rattle.monomial.proofs.Comparing.{carried, compare-digits, eq-compare}
 use Rattle.monomial.proofs.OrderLaws.{exponents-order, words-order, lex-same, rev-like}
-use Rattle.monomial.proofs.Places.{length-reverse, length-upward, below-upward, below-true, true-below, Below-more}
+use Rattle.monomial.proofs.Places.{length-upward, below-upward, below-true, true-below, Below-more}
 use Rattle.monomial.proofs.ByteLaws.{compare-bytes, revLex-top, lex-top}
 use Rattle.monomial.proofs.LayoutLaws.{length-six, six-below, low-word, high-word, length-exponents, exponents-small, word-exponents}
 

@@ -1,18 +1,18 @@
 -- Words and exponents: each is got back from the other, and the test of the layout decides the layout. Assumes nothing.
-use mathlib.Core.Path.{_≡_, refl, sym, ap, ap₂, _∙_, subst}
-use mathlib.Core.Bool.{Bool, true, false, _&&_}
-use mathlib.Core.List.{List, [], _∷_, _++_, reverse}
+use mathlib.Core.Path.{_≡_, sym, ap, ap₂, _∙_, subst}
+use mathlib.Core.Bool.{true, _&&_}
+use mathlib.Core.List.{List, [], _∷_, _++_}
 use Prim.Native.Nat.{ℕ, zero, suc, _+_, _-_, _*_, _/_, _%_, _^_, _<_, _≤_}
 use native.Mathlib.Omega.{arith}
 use borrow.Author.Tests.{eq-eqb, eqb-true}
-use lib.Dec.{ltb, eqb, lit≤}
+use lib.Dec.{eqb, lit≤}
 use lib.ListN.{length, take, drop, replicate, length-append, length-replicate, length-drop, take-append-drop}
 use lib.Seq.{take-at, drop-at, length-take-le}
 use Rattle.monomial.specs.declared.order.Order.{Order}
 use Rattle.monomial.specs.Exponents.{degree}
 use Rattle.monomial.specs.Layout.{bytes, ofBytes, six, upward, wordOf, fields, exponents, Below, below, Layout, inLayout}
 use Rattle.monomial.specs.Words.{low, high, Packed}
-use Rattle.monomial.proofs.Places.{upward-upward, length-upward, below-upward, degree-upward, degree-append, degree-zeros, below-true, true-below, and-both, below-append, below-zeros, zeros, Below-more}
+use Rattle.monomial.proofs.Places.{upward-upward, length-upward, below-upward, below-true, true-below, and-both, below-append, below-zeros, zeros, Below-more}
 use Rattle.monomial.proofs.ByteLaws.{length-bytes, ofBytes-bytes, bytes-of, ofBytes-lt}
 
 -- ---- six fields

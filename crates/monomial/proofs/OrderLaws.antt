@@ -1,16 +1,16 @@
 -- The three orders on exponents, and the comparison of words, are total orders; multiplying by a monomial keeps an order on exponents, and 1 is the least. Assumes nothing.
-use mathlib.Core.Path.{_≡_, refl, sym, ap, ap₂, _∙_}
-use mathlib.Core.Logic.{_⊎_, inl, inr, ⊎-elim}
+use mathlib.Core.Path.{_≡_, refl, sym, ap₂}
+use mathlib.Core.Logic.{_⊎_, inl, inr}
 use mathlib.Core.List.{List, [], _∷_}
-use Prim.Native.Nat.{ℕ, zero, suc, _+_, _*_, _/_, _%_, _^_, _<_, _≤_, compare, Ordering, Ordering·lt, Ordering·eq, Ordering·gt}
+use Prim.Native.Nat.{ℕ, zero, suc, _+_, compare, Ordering, Ordering·lt, Ordering·eq, Ordering·gt}
 use native.Mathlib.Omega.{arith}
-use lib.ListN.{length, replicate}
+use lib.ListN.{length}
 use Rattle.monomial.specs.declared.order.Order.{Order}
 use Rattle.monomial.specs.declared.order.Order.the-variants.{Lex, DegLex, DegRevLex}
 use Rattle.monomial.specs.Exponents.{degree, product, one, orElse, lex, revLex, compareIn}
 use Rattle.monomial.specs.Words.{low, high, compareWords}
 use Rattle.monomial.specs.TotalOrder.{turned, TotalOrder}
-use Rattle.monomial.proofs.Comparing.{tri, Tri, less, same, more, eq-compare, lt-compare, compare-same, compare-add}
+use Rattle.monomial.proofs.Comparing.{tri, Tri, less, same, more, compare-same, compare-add}
 use Rattle.monomial.proofs.WeakOrder.{Chain, WeakOrder, strict, chain-lt-left, chain-gt-right, chain-orElse, weak-orElse, orElse-eq, weak-through, weak-turned, nat-weak, nat-order}
 
 -- ---- Lex

@@ -1,6 +1,6 @@
 -- Comparisons made of comparisons: numbers, one after the other, turned round, through a function. What is shown of the parts holds of the whole. Assumes nothing.
 use mathlib.Core.Path.{_≡_, refl, sym, ap, _∙_}
-use Prim.Native.Nat.{ℕ, _+_, _*_, _<_, _≤_, compare, Ordering, Ordering·lt, Ordering·eq, Ordering·gt}
+use Prim.Native.Nat.{ℕ, compare, Ordering, Ordering·lt, Ordering·eq, Ordering·gt}
 use native.Mathlib.Omega.{arith}
 use Rattle.monomial.specs.Exponents.{orElse}
 use Rattle.monomial.specs.TotalOrder.{turned, TotalOrder}

@@ -1,11 +1,14 @@
+pub mod Judging
+pub mod StartsJudged
+pub mod PolynomialsJudged
+pub mod BadPlaces
 pub mod Tests
 pub mod SettingLaws
-pub mod OperationLaws
 pub mod PolynomialLaws
 pub mod ShapeLaws
 pub mod RunLaws
 pub mod ReductionLaws
-pub mod ListedLaws
 pub mod Judgements
 pub mod ReductionJudgements
+pub mod ListedLaws
 pub mod Outcomes

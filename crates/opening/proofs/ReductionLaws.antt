@@ -1,26 +1,28 @@
--- A reduction's opening checks: what the loop over the divisors keeps, and what a reduction that no check refuses is. Assumes nothing.
+-- A reduction's opening checks, and what a reduction that no check refuses is. Assumes nothing.
 use mathlib.Core.Path.{_≡_, refl, sym, ap, _∙_}
 use mathlib.Core.Bool.{Bool, true, false, _&&_}
-use mathlib.Core.List.{List, [], _∷_}
-use Prim.Native.Nat.{ℕ, zero, suc, _+_, _-_, _<_, _≤_}
-use native.Mathlib.Numerals.{add-one}
+use mathlib.Core.List.{List}
+use Prim.Native.Nat.{ℕ, _<_, _≤_}
 use native.Mathlib.Omega.{arith}
 use borrow.Author.Tests.{le-leb, lt-leb, leb-true}
 use lib.Dec.{leb, ltb}
-use lib.ListN.{length, getD, drop, length-drop}
-use lib.Seq.{drop-cons}
+use lib.ListN.{length}
 use Rattle.limits.specs.Limits.{mostSteps}
+use Rattle.conditions.specs.Lengths.{lentGood}
+use Rattle.conditions.specs.Divisors.{divisorsGood}
+use Rattle.conditions.proofs.LengthLaws.{lent-passes}
+use Rattle.conditions.proofs.DivisorLaws.{divisors-rise}
 use Rattle.monomial.proofs.Places.{and-both}
 use Rattle.polynomial.specs.declared.setting.Setting.{Setting}
 use Rattle.polynomial.specs.Opening.{startsGood, first}
-use Rattle.opening.specs.Run.{unless, setting, lentGood, polynomialsRefusal}
-use Rattle.opening.specs.Reduction.{reductionShape, noneZero, divisorsGood, reductionRefusal, ReductionOpened}
+use Rattle.opening.specs.Run.{unless, setting, polynomialsRefusal}
+use Rattle.opening.specs.Reduction.{reductionShape, reductionRefusal, ReductionOpened}
 use Rattle.opening.specs.ReductionJudgement.{GoodReductionShape}
 use Rattle.polynomial.proofs.OpeningLaws.{first-none}
 use Rattle.opening.proofs.Tests.{first-some, passed, and-off, and-on}
 use Rattle.opening.proofs.SettingLaws.{setting-passes}
 use Rattle.opening.proofs.PolynomialLaws.{polynomials-pass}
-use Rattle.opening.proofs.ShapeLaws.{lent-passes}
+use Rattle.opening.proofs.StartsJudged.{starts-good, good-starts}
 
 pub few-starts : (n : ℕ) → n ≤ 1 → ltb 1 n ≡ false
 few-starts n h = lt-leb 2 n (omega arith)
@@ -28,62 +30,13 @@ few-starts n h = lt-leb 2 n (omega arith)
 pub some-starts : (n : ℕ) → 1 < n → ltb 1 n ≡ true
 some-starts n h = le-leb 2 n h
 
--- the polynomials from 1 up to k are not zero: the others decide
-pub record Looked (ss : List ℕ) (k : ℕ) : Type 0 where
-  pub few : k ≤ length ss + 1
-  pub rest : noneZero (drop k ss) ≡ divisorsGood ss
-
-pub looked-start : (ss : List ℕ) → Looked ss 1
-looked-start ss = record { few = omega arith; rest = refl }
-
-module _ (ss : List ℕ) (k : ℕ) (r : Looked ss k) where
-  module _ (inside : k + 1 < length ss) where
-    at-k : (ltb (getD ss k 0) (getD ss (k + 1) 0) && noneZero (drop (k + 1) ss)) ≡ divisorsGood ss
-    unfolding noneZero
-    at-k =
-        let a = drop-cons ss k 0 (omega arith) in
-        let b : drop (suc k) ss ≡ getD ss (k + 1) 0 ∷ drop (suc (k + 1)) ss = ap (λ (n : ℕ). drop n ss) (sym (add-one k)) ∙ drop-cons ss (k + 1) 0 inside in
-        sym (ap noneZero (a ∙ ap (λ (x : List ℕ). getD ss k 0 ∷ x) b) ∙ ap (λ (x : List ℕ). ltb (getD ss k 0) (getD ss (k + 1) 0) && noneZero x) (sym (drop-cons ss (k + 1) 0 inside))) ∙ r .rest
-
-    pub looked-zero : getD ss (k + 1) 0 ≤ getD ss k 0 → false ≡ divisorsGood ss
-    looked-zero h = sym (ap (λ (b : Bool). b && noneZero (drop (k + 1) ss)) (lt-leb (suc (getD ss k 0)) (getD ss (k + 1) 0) (omega arith))) ∙ at-k
-
-    pub looked-next : getD ss k 0 < getD ss (k + 1) 0 → Looked ss (k + 1)
-    looked-next h = record { few = omega arith; rest = sym (ap (λ (b : Bool). b && noneZero (drop (k + 1) ss)) (le-leb (suc (getD ss k 0)) (getD ss (k + 1) 0) h)) ∙ at-k }
-
-  pub looked-all : length ss ≤ k + 1 → true ≡ divisorsGood ss
-  unfolding noneZero
-  looked-all h = sym (short (drop k ss) (omega (arith, lib-drop))) ∙ r .rest
-    where
-      lib-drop : length (drop k ss) ≡ length ss - k
-      lib-drop = length-drop k ss
-
-      short : (l : List ℕ) → length l ≤ 1 → noneZero l ≡ true
-      short [] q = refl
-      short (a ∷ []) q = refl
-      short (a ∷ (b ∷ l)) q = absurd (let z : ⊥ = omega arith in z)
-
--- ---- what passes
-rising : (ss : List ℕ) → noneZero ss ≡ true → (k : ℕ) → k + 1 < length ss → getD ss k 0 < getD ss (suc k) 0
-unfolding noneZero
-rising [] h k l = absurd (let z : ⊥ = omega arith in z)
-rising (s ∷ []) h k l = absurd (let z : ⊥ = omega arith in z)
-rising (s ∷ (t ∷ ss)) h zero l = leb-true (suc s) t (and-both (ltb s t) (noneZero (t ∷ ss)) h .0)
-rising (s ∷ (t ∷ ss)) h (suc k) l = rising (t ∷ ss) (and-both (ltb s t) (noneZero (t ∷ ss)) h .1) k (let m : k + 1 < suc (length ss) = omega arith in m)
-
-pub divisors-rise : (ss : List ℕ) → divisorsGood ss ≡ true → (k : ℕ) → 1 ≤ k → k + 1 < length ss → getD ss k 0 < getD ss (k + 1) 0
-divisors-rise [] h k one l = absurd (let z : ⊥ = omega arith in z)
-divisors-rise (s ∷ ss) h zero one l = absurd (let z : ⊥ = omega arith in z)
-divisors-rise (s ∷ ss) h (suc k) one l = rw (add-one (suc k)) (rising ss h k (let m : k + 1 < length ss = omega arith in m))
-
--- what a good shape is
 pub reduction-shape-passes : {words coefs : ℕ} {ss : List ℕ} {limit bw bc ww wc ow oc : ℕ} → reductionShape words coefs ss limit bw bc ww wc ow oc ≡ true → GoodReductionShape words coefs ss limit bw bc ww wc ow oc
 unfolding reductionShape
 reduction-shape-passes {words} {coefs} {ss} {limit} {bw} {bc} {ww} {wc} {ow} {oc} h =
     let x = and-both (lentGood words coefs bw bc ww wc ow oc) (startsGood ss words && (ltb 1 (length ss) && leb limit mostSteps)) h in
     let y = and-both (startsGood ss words) (ltb 1 (length ss) && leb limit mostSteps) (x .1) in
     let z = and-both (ltb 1 (length ss)) (leb limit mostSteps) (y .1) in
-    record { lent = lent-passes (x .0); starts = y .0; some = leb-true 2 (length ss) (z .0); few-steps = leb-true limit mostSteps (z .1) }
+    record { lent = lent-passes (x .0); starts = starts-good words ss (y .0); some = leb-true 2 (length ss) (z .0); few-steps = leb-true limit mostSteps (z .1) }
 
 -- a refusal of the setting comes first
 pub reduction-setting : (t : Setting) (words coefs starts : List ℕ) (limit bw bc ww wc ow oc r : ℕ) → r ≡ setting t → (r ≡ 0 → ⊥) → r ≡ reductionRefusal t words coefs starts limit bw bc ww wc ow oc
@@ -128,7 +81,7 @@ reduction-opened t words coefs starts limit bw bc ww wc ow oc h =
       bucket-coefs = l .bucket-coefs;
       work-words = l .work-words;
       work-coefs = l .work-coefs;
-      starts = x .starts;
+      starts = good-starts (length words) starts (x .starts);
       some = x .some;
       few-steps = x .few-steps;
       polynomials = polynomials-pass t words coefs starts (d .0);

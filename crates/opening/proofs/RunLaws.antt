@@ -4,9 +4,10 @@ use mathlib.Core.List.{List}
 use Prim.Native.Nat.{ℕ, _-_}
 use native.Mathlib.Omega.{arith}
 use lib.ListN.{length}
+use Rattle.conditions.specs.Operations.{operationsGood}
 use Rattle.polynomial.specs.declared.setting.Setting.{Setting}
 use Rattle.polynomial.specs.Opening.{first}
-use Rattle.opening.specs.Run.{unless, setting, shapeGood, operationsGood, polynomialsRefusal, runRefusal, Opened}
+use Rattle.opening.specs.Run.{unless, setting, shapeGood, polynomialsRefusal, runRefusal, Opened}
 use Rattle.polynomial.proofs.OpeningLaws.{first-none}
 use Rattle.opening.proofs.Tests.{first-some, passed}
 use Rattle.opening.proofs.SettingLaws.{setting-passes}

@@ -1,19 +1,16 @@
 -- The setting's refusals, test by test, and what a setting that passes is. Assumes nothing.
-use mathlib.Core.Path.{_≡_}
-use mathlib.Core.Bool.{true, false, _&&_, and-false}
-use Prim.Native.Nat.{_<_, _≤_}
-use native.Mathlib.Omega.{arith}
-use borrow.Author.Tests.{le-leb, lt-leb, leb-true}
-use lib.Dec.{leb}
+use mathlib.Core.Path.{_≡_, subst}
+use mathlib.Core.Bool.{true, false, and-false}
+use Prim.Native.Nat.{ℕ, _<_, _≤_}
+use borrow.Author.Tests.{le-leb, lt-leb}
 use Rattle.limits.specs.Limits.{largestPrime, mostVariables}
+use Rattle.refusal.specs.Judgement.{Judged}
+use Rattle.refusal.proofs.JudgementLaws.{judged-none}
 use Rattle.residue.specs.Prime.{Prime, isPrime}
-use Rattle.residue.proofs.Primality.{true-prime}
-use Rattle.monomial.proofs.Places.{and-both}
 use Rattle.polynomial.specs.declared.setting.Setting.{Setting}
-use Rattle.polynomial.specs.Opening.{first}
-use Rattle.opening.specs.Run.{unless, between, setting}
-use Rattle.polynomial.proofs.OpeningLaws.{first-none}
-use Rattle.opening.proofs.Tests.{passed}
+use Rattle.opening.specs.Run.{between, setting}
+use Rattle.opening.specs.Judgement.{settingConditions}
+use Rattle.opening.proofs.Judgements.{setting-counted, setting-judged}
 
 module _ (t : Setting) where
   pub over-limit : largestPrime < t .p → 1 ≡ setting t
@@ -47,21 +44,13 @@ pub record Set (t : Setting) : Type 0 where
   pub n-high : t .n ≤ 6
 
 pub setting-passes : (t : Setting) → setting t ≡ 0 → Set t
-unfolding setting
 setting-passes t h =
-    let p = t .p in
-    let order = t .order in
-    let n = t .n in
-    let a = first-none (unless (isPrime p && leb p largestPrime) 1) (first (unless (between 1 3 order) 2) (unless (between 1 mostVariables n) 3)) h in
-    let b = first-none (unless (between 1 3 order) 2) (unless (between 1 mostVariables n) 3) (a .1) in
-    let q = and-both (isPrime p) (leb p largestPrime) (passed (isPrime p && leb p largestPrime) 1 (omega arith) (a .0)) in
-    let o = and-both (leb 1 order) (leb order 3) (passed (between 1 3 order) 2 (omega arith) (b .0)) in
-    let v = and-both (leb 1 n) (leb n mostVariables) (passed (between 1 mostVariables n) 3 (omega arith) (b .1)) in
+    let a = judged-none (settingConditions t) (setting-counted t) (subst (λ (r : ℕ). Judged (settingConditions t) r) h (setting-judged t)) in
     record {
-      prime = true-prime p (q .0);
-      limit = leb-true p largestPrime (q .1);
-      order-low = leb-true 1 order (o .0);
-      order-high = leb-true order 3 (o .1);
-      n-low = leb-true 1 n (v .0);
-      n-high = leb-true n 6 (v .1);
+      prime = a .0 .0;
+      limit = a .0 .1;
+      order-low = a .1 .0 .0;
+      order-high = a .1 .0 .1;
+      n-low = a .1 .1 .0 .0;
+      n-high = a .1 .1 .0 .1;
     }

@@ -3,32 +3,13 @@ use mathlib.Core.Path.{_≡_}
 use mathlib.Core.Bool.{true, false, _&&_}
 use mathlib.Core.List.{List}
 use Prim.Native.Nat.{ℕ}
-use borrow.Author.Tests.{eqb-true}
-use lib.Dec.{eqb}
 use Rattle.limits.specs.Limits.{bucketPlaces, workPlaces}
 use Rattle.monomial.proofs.Places.{and-both}
 use Rattle.polynomial.specs.Opening.{startsGood}
-use Rattle.opening.specs.Run.{spaceGood, lentGood, pairsGood, shapeGood}
-use Rattle.opening.specs.Judgement.{GoodLent}
+use Rattle.conditions.specs.Lengths.{lentGood, pairsGood}
+use Rattle.conditions.proofs.LengthLaws.{lent-passes}
+use Rattle.opening.specs.Run.{shapeGood}
 use Rattle.opening.proofs.Tests.{and-off, and-on}
-
--- what is lent, by its lengths
-pub lent-passes : {words coefs bw bc ww wc ow oc : ℕ} → lentGood words coefs bw bc ww wc ow oc ≡ true → GoodLent words coefs bw bc ww wc ow oc
-unfolding lentGood spaceGood
-lent-passes {words} {coefs} {bw} {bc} {ww} {wc} {ow} {oc} h =
-    let b = and-both (eqb words coefs) (eqb ow oc && spaceGood bw bc ww wc) h in
-    let d = and-both (eqb ow oc) (spaceGood bw bc ww wc) (b .1) in
-    let e = and-both (eqb bw bucketPlaces) (eqb bc bucketPlaces && (eqb ww workPlaces && eqb wc workPlaces)) (d .1) in
-    let f = and-both (eqb bc bucketPlaces) (eqb ww workPlaces && eqb wc workPlaces) (e .1) in
-    let g = and-both (eqb ww workPlaces) (eqb wc workPlaces) (f .1) in
-    record {
-      lent = eqb-true words coefs (b .0);
-      output = eqb-true ow oc (d .0);
-      bucket-words = eqb-true bw bucketPlaces (e .0);
-      bucket-coefs = eqb-true bc bucketPlaces (f .0);
-      work-words = eqb-true ww workPlaces (g .0);
-      work-coefs = eqb-true wc workPlaces (g .1);
-    }
 
 pub record Shaped (words coefs : ℕ) (ss : List ℕ) (ops bw bc ww wc ow oc : ℕ) : Type 0 where
   pub lent : words ≡ coefs

@@ -1,18 +1,11 @@
 -- What a passed or failed test tells. Assumes nothing.
-use mathlib.Core.Path.{_≡_, refl, sym, ap, _∙_}
-use mathlib.Core.Bool.{Bool, true, false, not, _&&_}
+use mathlib.Core.Path.{_≡_, refl, ap}
+use mathlib.Core.Bool.{Bool, true, false, _&&_}
 use Prim.Native.Nat.{ℕ, zero, suc, _<_}
 use native.Mathlib.Omega.{arith}
-use borrow.Author.Tests.{not-true, not-false}
+pub use Rattle.conditions.proofs.Tests.{yes, no}
 use Rattle.polynomial.specs.Opening.{first}
 use Rattle.opening.specs.Run.{unless}
-
--- what a test `!t` says of the definition b that t is
-pub yes : {t b : Bool} → t ≡ b → not t ≡ false → b ≡ true
-yes {t} e h = sym e ∙ not-false t h
-
-pub no : {t b : Bool} → t ≡ b → not t ≡ true → b ≡ false
-no {t} e h = sym e ∙ not-true t h
 
 -- a refusal comes first
 pub first-some : (r k : ℕ) → (r ≡ 0 → ⊥) → r ≡ first r k

@@ -1,74 +1,102 @@
--- The conditions of a run's opening refusals, as document 01 says them, and its judgement: each number under its condition, where no earlier one holds. Assumes nothing.
-use Prim.Native.Nat.{ℕ, _-_, _/_, _%_, _<_, _≤_}
+-- The conditions of a run's opening refusals, as document 01 says them, in its order. Assumes nothing.
+use Prim.Native.Nat.{ℕ, zero, suc, _+_, _-_, _<_, _≤_, Ordering}
 use mathlib.Core.Path.{_≡_}
-use mathlib.Core.Bool.{true}
-use mathlib.Core.List.{List, [], _∷_}
+use mathlib.Core.List.{List, [], _∷_, _++_}
 use mathlib.Core.Logic.{_⊎_}
-use lib.ListN.{length}
-use Rattle.limits.specs.Limits.{bucketPlaces, largestPrime, mostOperations, mostVariables, workPlaces}
+use lib.ListN.{length, getD}
+use Rattle.limits.specs.Limits.{largestPrime, mostVariables}
+use Rattle.refusal.specs.Judgement.{Condition, condition}
+use Rattle.conditions.specs.Lengths.{GoodLent, GoodPairs}
+use Rattle.conditions.specs.Operations.{GoodOperations}
 use Rattle.residue.specs.Prime.{Prime}
+use Rattle.monomial.specs.declared.order.Order.{Order}
+use Rattle.monomial.specs.Exponents.{compareIn, orderOf}
+use Rattle.monomial.specs.Layout.{Layout, exponents}
 use Rattle.polynomial.specs.declared.setting.Setting.{Setting}
-use Rattle.polynomial.specs.Opening.{startsGood}
-use Rattle.opening.specs.Run.{refusalAt}
+use Rattle.polynomial.specs.Terms.{Term, term, terms, Falling}
+use Rattle.polynomial.specs.Opening.{partOf}
 
--- "1: p is not a prime from 2 to 65,521. 2: order not 1 to 3. 3: n not 1 to 6."
+-- ---- the setting: "1: p is not a prime from 2 to 65,521. 2: order not 1 to 3. 3: n not 1 to 6."
 abbrev pub GoodPrime : ℕ → Type 0
 GoodPrime p = Prime p × (p ≤ largestPrime)
 
 abbrev pub Between : (low high x : ℕ) → Type 0
 Between low high x = (low ≤ x) × (x ≤ high)
 
-abbrev pub GoodSetting : Setting → Type 0
-GoodSetting t = GoodPrime (t .p) × Between 1 3 (t .order) × Between 1 mostVariables (t .n)
+abbrev pub settingConditions : Setting → List Condition
+settingConditions t = condition 1 (GoodPrime (t .p)) ∷ (condition 2 (Between 1 3 (t .order)) ∷ (condition 3 (Between 1 mostVariables (t .n)) ∷ []))
 
--- the setting is refused, with r
-pub data SettingRefused (t : Setting) (r : ℕ) : Type 0 where
-  refused-1 : (GoodPrime (t .p) → ⊥) → r ≡ 1 → SettingRefused t r
-  refused-2 : GoodPrime (t .p) → (Between 1 3 (t .order) → ⊥) → r ≡ 2 → SettingRefused t r
-  refused-3 : GoodPrime (t .p) → Between 1 3 (t .order) → (Between 1 mostVariables (t .n) → ⊥) → r ≡ 3 → SettingRefused t r
+-- ---- 8: the sizes of what is lent
 
--- "8: words and coefficients (input or output) of unequal length, bucket or work space of another size than above", by the lengths
-pub record GoodLent (words coefs bw bc ww wc ow oc : ℕ) : Type 0 where
-  pub lent : words ≡ coefs
-  pub output : ow ≡ oc
-  pub bucket-words : bw ≡ bucketPlaces
-  pub bucket-coefs : bc ≡ bucketPlaces
-  pub work-words : ww ≡ workPlaces
-  pub work-coefs : wc ≡ workPlaces
+-- "The first start is 0, the last is the length, none falls."
+pub record GoodStarts (ss : List ℕ) (len : ℕ) : Type 0 where
+  pub some : 0 < length ss
+  pub first-is : getD ss 0 0 ≡ 0
+  pub last-is : getD ss (length ss - 1) 0 ≡ len
+  pub none-falls : (k : ℕ) → k + 1 < length ss → getD ss k 0 ≤ getD ss (k + 1) 0
 
--- 8, with "starts missing or not as above, operations not whole pairs or over 16,777,216 of them"
+-- with "starts missing or not as above, operations not whole pairs or over 16,777,216 of them"
 pub record GoodShape (words coefs ss ops : List ℕ) (bw bc ww wc ow oc : ℕ) : Type 0 where
   pub lent : GoodLent (length words) (length coefs) bw bc ww wc ow oc
-  pub starts : startsGood ss (length words) ≡ true
-  pub whole : length ops % 2 ≡ 0
-  pub most : length ops / 2 ≤ mostOperations
+  pub starts : GoodStarts ss (length words)
+  pub pairs : GoodPairs (length ops)
 
--- "9: operation unknown, polynomial k absent, or second number not 0 in codes 2 and 3."
-abbrev pub GoodOperation : (code k polynomials : ℕ) → Type 0
-GoodOperation code k polynomials = ((code ≡ 1) × (k < polynomials)) ⊎ ((k ≡ 0) × ((code ≡ 2) ⊎ (code ≡ 3)))
+-- ---- a polynomial: "the first place with 4 or 5 (4 first at one place), then 6"
 
-abbrev pub GoodOperations : List ℕ → (polynomials : ℕ) → Type 0
-GoodOperations [] polynomials = Unit {0}
-GoodOperations (code ∷ []) polynomials = ⊥
-GoodOperations (code ∷ (k ∷ ops)) polynomials = GoodOperation code k polynomials × GoodOperations ops polynomials
+-- how two words stand to each other by their exponents, in n variables
+abbrev pub byExponents : Order → (n : ℕ) → ℕ → ℕ → Ordering
+byExponents o n x y = compareIn o (exponents o n x) (exponents o n y)
 
-module _ (t : Setting) (words coefs ss : List ℕ) where
-  -- no polynomial is refused
-  abbrev pub NoneRefused : Type 0
-  NoneRefused = (k : ℕ) → k < length ss - 1 → refusalAt t words coefs ss k ≡ 0
+module _ (t : Setting) where
+  -- "4: coefficient 0 or ≥ p."
+  abbrev pub GoodCoef : Term ℕ → Type 0
+  GoodCoef u = (0 < u .coef) × (u .coef < t .p)
 
-  -- "polynomial by polynomial": polynomial k is the first that is refused, with r, which is 4, 5 or 6
-  pub record FirstRefused (r : ℕ) : Type 0 where
-    pub k : ℕ
-    pub there : k < length ss - 1
-    pub before : (j : ℕ) → j < k → refusalAt t words coefs ss j ≡ 0
-    pub is : refusalAt t words coefs ss k ≡ r
-    pub some : r ≡ 0 → ⊥
+  -- "5: word not of the layout above."
+  abbrev pub GoodWord : Term ℕ → Type 0
+  GoodWord u = Layout (orderOf (t .order)) (t .n) (u .mono)
+
+  -- "6: terms do not fall strictly.", under the chosen order
+  abbrev pub GoodOrder : List (Term ℕ) → Type 0
+  GoodOrder us = Falling (byExponents (orderOf (t .order)) (t .n)) us
+
+  -- 4 and 5, place by place
+  abbrev pub placesConditions : List (Term ℕ) → List Condition
+  placesConditions [] = []
+  placesConditions (u ∷ us) = condition 4 (GoodCoef u) ∷ (condition 5 (GoodWord u) ∷ placesConditions us)
+
+  abbrev pub polynomialConditions : List (Term ℕ) → List Condition
+  polynomialConditions us = placesConditions us ++ (condition 6 (GoodOrder us) ∷ [])
+
+  -- the same by places: place `at` is the first with a bad coefficient or word, and r says which (theorems `bad-place` and `place-bad`)
+  abbrev pub placeOf : List (Term ℕ) → ℕ → Term ℕ
+  placeOf us i = getD us i (term 0 0)
+
+  pub record BadPlace (us : List (Term ℕ)) (r : ℕ) : Type 0 where
+    pub at : ℕ
+    pub there : at < length us
+    pub before : (j : ℕ) → j < at → GoodCoef (placeOf us j) × GoodWord (placeOf us j)
+    pub is : ((r ≡ 4) × (GoodCoef (placeOf us at) → ⊥)) ⊎ ((r ≡ 5) × (GoodCoef (placeOf us at) × (GoodWord (placeOf us at) → ⊥)))
+
+  -- all places are good, and the terms do not fall (theorems `bad-order` and `order-bad`)
+  pub record BadOrder (us : List (Term ℕ)) : Type 0 where
+    pub places : (j : ℕ) → j < length us → GoodCoef (placeOf us j) × GoodWord (placeOf us j)
+    pub not-falling : GoodOrder us → ⊥
+
+  module _ (words coefs ss : List ℕ) where
+    -- those of the first k polynomials, one polynomial after the other
+    abbrev pub conditionsBelow : (k : ℕ) → List Condition
+    conditionsBelow zero = []
+    conditionsBelow (suc k) = conditionsBelow k ++ polynomialConditions (terms (partOf ss k words) (partOf ss k coefs))
+
+    -- "polynomial by polynomial": there is one less than there are starts
+    abbrev pub polynomialsConditions : List Condition
+    polynomialsConditions = conditionsBelow (length ss - 1)
 
 -- "Opening order: 1, 2, 3, 8, 9; then polynomial by polynomial"
-pub data Judged (t : Setting) (words coefs ss ops : List ℕ) (bw bc ww wc ow oc r : ℕ) : Type 0 where
-  refused-setting : SettingRefused t r → Judged t words coefs ss ops bw bc ww wc ow oc r
-  refused-8 : GoodSetting t → (GoodShape words coefs ss ops bw bc ww wc ow oc → ⊥) → r ≡ 8 → Judged t words coefs ss ops bw bc ww wc ow oc r
-  refused-9 : GoodSetting t → GoodShape words coefs ss ops bw bc ww wc ow oc → (GoodOperations ops (length ss - 1) → ⊥) → r ≡ 9 → Judged t words coefs ss ops bw bc ww wc ow oc r
-  refused-polynomial : GoodSetting t → GoodShape words coefs ss ops bw bc ww wc ow oc → GoodOperations ops (length ss - 1) → FirstRefused t words coefs ss r → Judged t words coefs ss ops bw bc ww wc ow oc r
-  passed : GoodSetting t → GoodShape words coefs ss ops bw bc ww wc ow oc → GoodOperations ops (length ss - 1) → NoneRefused t words coefs ss → r ≡ 0 → Judged t words coefs ss ops bw bc ww wc ow oc r
+abbrev pub runConditions : Setting → (words coefs ss ops : List ℕ) (bw bc ww wc ow oc : ℕ) → List Condition
+runConditions t words coefs ss ops bw bc ww wc ow oc =
+    settingConditions t ++
+    (condition 8 (GoodShape words coefs ss ops bw bc ww wc ow oc) ∷
+    (condition 9 (GoodOperations ops (length ss - 1)) ∷
+    polynomialsConditions t words coefs ss))

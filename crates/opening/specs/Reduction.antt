@@ -2,29 +2,21 @@
 use Prim.Native.Nat.{ℕ, _+_, _<_, _≤_}
 use mathlib.Core.Path.{_≡_}
 use mathlib.Core.Bool.{Bool, true, _&&_}
-use mathlib.Core.List.{List, [], _∷_}
+use mathlib.Core.List.{List}
 use lib.Dec.{leb, ltb}
-use lib.ListN.{length, getD, drop}
+use lib.ListN.{length, getD}
 use Rattle.limits.specs.Limits.{bucketPlaces, largestPrime, mostSteps, workPlaces}
 use Rattle.residue.specs.Prime.{Prime}
 use Rattle.polynomial.specs.declared.setting.Setting.{Setting}
 use Rattle.polynomial.specs.Terms.{terms}
 use Rattle.polynomial.specs.Opening.{startsGood, partOf, first, polynomialRefusal}
-use Rattle.opening.specs.Run.{unless, setting, lentGood, polynomialsRefusal}
+use Rattle.conditions.specs.Lengths.{lentGood}
+use Rattle.conditions.specs.Divisors.{divisorsGood}
+use Rattle.opening.specs.Run.{unless, setting, polynomialsRefusal}
 
 -- 8: "a step limit over 8,796,093,022,208, or a reduction without polynomial 0", besides lengths and starts
 unfoldable pub reductionShape : (words coefs : ℕ) → (starts : List ℕ) → (limit bw bc ww wc ow oc : ℕ) → Bool
 reductionShape words coefs starts limit bw bc ww wc ow oc = lentGood words coefs bw bc ww wc ow oc && (startsGood starts words && (ltb 1 (length starts) && leb limit mostSteps))
-
--- the polynomials between these starts are not zero
-unfoldable pub noneZero : List ℕ → Bool
-noneZero [] = true
-noneZero (s ∷ []) = true
-noneZero (s ∷ (t ∷ ss)) = ltb s t && noneZero (t ∷ ss)
-
--- 7: "a divisor is zero"; the divisors are the polynomials from 1 on
-abbrev pub divisorsGood : List ℕ → Bool
-divisorsGood starts = noneZero (drop 1 starts)
 
 -- the refusal of a reduction by its opening checks; the last six are lengths
 unfoldable pub reductionRefusal : Setting → (words coefs starts : List ℕ) (limit bw bc ww wc ow oc : ℕ) → ℕ

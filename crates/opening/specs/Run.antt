@@ -1,15 +1,17 @@
 -- The opening checks of a run (document 01, "Refusals by cause"): "Opening order: 1, 2, 3, 8, 9; then polynomial by polynomial, the first place with 4 or 5 (4 first at one place), then 6". Refusals are document 01's numbers, and 0 is none. Assumes nothing.
-use Prim.Native.Nat.{ℕ, zero, suc, _+_, _-_, _/_, _%_, _<_, _≤_}
+use Prim.Native.Nat.{ℕ, zero, suc, _+_, _-_, _<_, _≤_}
 use mathlib.Core.Path.{_≡_}
-use mathlib.Core.Bool.{Bool, true, false, _&&_, _||_}
-use mathlib.Core.List.{List, [], _∷_}
-use lib.Dec.{leb, ltb, eqb}
+use mathlib.Core.Bool.{Bool, true, false, _&&_}
+use mathlib.Core.List.{List}
+use lib.Dec.{leb}
 use lib.ListN.{length}
-use Rattle.limits.specs.Limits.{bucketPlaces, largestPrime, mostOperations, mostVariables, workPlaces}
+use Rattle.limits.specs.Limits.{bucketPlaces, largestPrime, mostVariables, workPlaces}
 use Rattle.residue.specs.Prime.{Prime, isPrime}
 use Rattle.polynomial.specs.declared.setting.Setting.{Setting}
 use Rattle.polynomial.specs.Terms.{terms}
 use Rattle.polynomial.specs.Opening.{startsGood, partOf, first, polynomialRefusal}
+use Rattle.conditions.specs.Lengths.{lentGood, pairsGood}
+use Rattle.conditions.specs.Operations.{operationsGood}
 
 -- the refusal of a test: none where it is passed
 abbrev pub unless : (good : Bool) → ℕ → ℕ
@@ -23,35 +25,9 @@ between low high x = leb low x && leb x high
 unfoldable pub setting : Setting → ℕ
 setting t = first (unless (isPrime (t .p) && leb (t .p) largestPrime) 1) (first (unless (between 1 3 (t .order)) 2) (unless (between 1 mostVariables (t .n)) 3))
 
--- "The bucket space has 5,460 places for words and for coefficients"; "The work space, 8,192 places for each"
-unfoldable pub spaceGood : (bw bc ww wc : ℕ) → Bool
-spaceGood bw bc ww wc = eqb bw bucketPlaces && (eqb bc bucketPlaces && (eqb ww workPlaces && eqb wc workPlaces))
-
--- 8: "words and coefficients (input or output) of unequal length, bucket or work space of another size than above", by the lengths
-unfoldable pub lentGood : (words coefs bw bc ww wc ow oc : ℕ) → Bool
-lentGood words coefs bw bc ww wc ow oc = eqb words coefs && (eqb ow oc && spaceGood bw bc ww wc)
-
--- 8: "operations not whole pairs or over 16,777,216 of them", by the length of their list
-unfoldable pub pairsGood : ℕ → Bool
-pairsGood len = eqb (len % 2) 0 && leb (len / 2) mostOperations
-
 -- 8, with "starts missing or not as above"
 unfoldable pub shapeGood : (words coefs : ℕ) → (starts : List ℕ) → (ops bw bc ww wc ow oc : ℕ) → Bool
 shapeGood words coefs starts ops bw bc ww wc ow oc = lentGood words coefs bw bc ww wc ow oc && (startsGood starts words && pairsGood ops)
-
--- "(1, k) adds polynomial k; (2, 0) takes the lead; (3, 0) gives the full sum."
-abbrev pub operationBy : (adds : Bool) → (code k polynomials : ℕ) → Bool
-operationBy true code k polynomials = ltb k polynomials
-operationBy false code k polynomials = eqb k 0 && (eqb code 2 || eqb code 3)
-
-unfoldable pub operationGood : (code k polynomials : ℕ) → Bool
-operationGood code k polynomials = operationBy (eqb code 1) code k polynomials
-
--- 9: "operation unknown, polynomial k absent, or second number not 0 in codes 2 and 3", over the pairs
-unfoldable pub operationsGood : List ℕ → (polynomials : ℕ) → Bool
-operationsGood [] polynomials = true
-operationsGood (code ∷ []) polynomials = false
-operationsGood (code ∷ (k ∷ ops)) polynomials = operationGood code k polynomials && operationsGood ops polynomials
 
 module _ (t : Setting) (words coefs starts : List ℕ) where
   -- the refusal of polynomial k: "the first place with 4 or 5 (4 first at one place), then 6"

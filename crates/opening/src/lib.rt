@@ -1,5 +1,4 @@
 // The opening checks of runs and of reductions.
-pub mod operations; // the list of operations of a run
 pub mod polynomials; // polynomial by polynomial
 pub mod reduction; // all checks of a reduction, in their order
 pub mod run; // all checks of a run, in their order

@@ -2,10 +2,11 @@
 use crate::polynomials::polynomials_refusal;
 use crate::setting::setting;
 use crate::shape::input_good;
+use conditions::divisors::divisors_good;
 use limits::MOST_STEPS;
 use polynomial::setting::Setting;
 ghost use mathlib.Core.Path.{_≡_};
-ghost use Rattle.opening.specs.Reduction.{reductionShape, divisorsGood, reductionRefusal};
+ghost use Rattle.opening.specs.Reduction.{reductionShape, reductionRefusal};
 
 // The refusal of a reduction, 0 for none: 1, 2, 3, 8, then the polynomials', then 7. The last six are
 // the lengths of bucket space, work space and output.
@@ -71,18 +72,4 @@ fn reduction_shape(
         return false;
     }
     limit <= MOST_STEPS
-}
-
-// Whether none of the polynomials from 1 on is zero.
-fn divisors_good(starts: &[usize]) -> bool
-    ensures { λ r. ⌜ r ≡ divisorsGood (now (starts .entry)) ⌝ }
-{
-    let mut k = 1;
-    while k + 1 < starts.len() {
-        if starts[k + 1] <= starts[k] {
-            return false;
-        }
-        k += 1;
-    }
-    true
 }

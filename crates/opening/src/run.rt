@@ -1,8 +1,8 @@
 // All opening checks of a run, in their order.
-use crate::operations::operations_good;
 use crate::polynomials::polynomials_refusal;
 use crate::setting::setting;
 use crate::shape::shape_good;
+use conditions::operations::operations_good;
 use polynomial::setting::Setting;
 ghost use mathlib.Core.Path.{_≡_};
 ghost use Rattle.opening.specs.Run.{runRefusal};

@@ -1,13 +1,13 @@
 -- Coefficients: the merge adds them, and a canonical list is determined by them. Assumes nothing.
-use mathlib.Core.Path.{_≡_, refl, sym, ap, ap₂, _∙_, subst}
+use mathlib.Core.Path.{_≡_, refl, sym, ap, ap₂, _∙_}
 use mathlib.Core.List.{List, [], _∷_}
-use Prim.Native.Nat.{ℕ, zero, suc, _+_, _%_, _<_, _≤_, Ordering, Ordering·lt, Ordering·eq, Ordering·gt}
+use Prim.Native.Nat.{ℕ, zero, suc, _+_, _%_, _<_, Ordering, Ordering·lt, Ordering·eq, Ordering·gt}
 use native.Mathlib.Nat.{mod-mod, mod-eq-of-lt, add-mod-mod, mod-add-mod, zero-mod}
 use native.Mathlib.Omega.{arith}
 use Rattle.residue.specs.Modular.{sum}
 use Rattle.residue.proofs.Remainder.{add-both, cancel}
 use Rattle.monomial.specs.TotalOrder.{TotalOrder}
-use Rattle.polynomial.specs.Terms.{Term, term, All, Reduced, here, Under, Falling, total, coefAt, Same, Canonical}
+use Rattle.polynomial.specs.Terms.{Term, term, here, Under, Falling, total, coefAt, Same, Canonical}
 use Rattle.polynomial.specs.Merge.{keep, merge}
 use Rattle.polynomial.proofs.MergeLaws.{Stands, less, same, more, stands, along, turned-lt, turned-gt, under-more}
 

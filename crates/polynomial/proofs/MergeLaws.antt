@@ -1,13 +1,12 @@
 -- Laws of the merge, for any total order. Assumes nothing.
-use mathlib.Core.Path.{_≡_, refl, sym, ap, ap₂, _∙_, subst}
+use mathlib.Core.Path.{_≡_, refl, sym, ap, _∙_, subst}
 use mathlib.Core.List.{List, [], _∷_}
-use mathlib.Core.Logic.{_⊎_, inl, inr}
 use Prim.Native.Nat.{ℕ, zero, suc, _+_, _-_, _%_, _<_, _≤_, Ordering, Ordering·lt, Ordering·eq, Ordering·gt}
-use native.Mathlib.Nat.{mod-lt, mod-mod, add-mod-mod, mod-add-mod}
+use native.Mathlib.Nat.{mod-lt}
 use native.Mathlib.Omega.{arith}
 use lib.ListN.{length}
 use Rattle.monomial.specs.TotalOrder.{turned, TotalOrder}
-use Rattle.polynomial.specs.Terms.{Term, term, All, Reduced, here, Under, Falling, total, coefAt, Canonical}
+use Rattle.polynomial.specs.Terms.{Term, term, All, Reduced, Under, Falling, Canonical}
 use Rattle.polynomial.specs.Merge.{keep, into, merge, comparedInto, compared, mergeCount}
 
 -- the three outcomes of a comparison

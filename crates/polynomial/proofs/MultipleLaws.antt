@@ -1,9 +1,9 @@
 -- The multiple of a polynomial by a term: it falls, is reduced, and has the product's coefficients, wherever multiplying by the monomial keeps the order. Assumes nothing.
-use mathlib.Core.Path.{_≡_, refl, sym, ap, ap₂, _∙_}
+use mathlib.Core.Path.{_≡_, refl, sym, ap, _∙_}
 use mathlib.Core.List.{List, [], _∷_}
 use mathlib.Core.Logic.{⊎-elim}
-use Prim.Native.Nat.{ℕ, zero, suc, _+_, _*_, _%_, _<_, _≤_, Ordering, Ordering·lt, Ordering·eq, Ordering·gt}
-use native.Mathlib.Nat.{mod-lt, mod-mod, mod-eq-of-lt, add-mod-mod, mod-add-mod, mul-add, mul-zero, mul-comm, zero-mod, pos-of-ne-zero}
+use Prim.Native.Nat.{ℕ, suc, _+_, _*_, _%_, _<_, Ordering, Ordering·lt, Ordering·eq, Ordering·gt}
+use native.Mathlib.Nat.{mod-lt, mod-mod, mod-eq-of-lt, mul-add, mul-zero, mul-comm, zero-mod, pos-of-ne-zero}
 use native.Mathlib.Omega.{arith}
 use lib.ListN.{length}
 use Rattle.residue.specs.Prime.{Prime}

@@ -1,5 +1,5 @@
 -- The opening check of a polynomial: what its steps come to, and what a polynomial that passes it is. Assumes nothing.
-use mathlib.Core.Path.{_≡_, refl, sym, ap, ap₂, _∙_, subst}
+use mathlib.Core.Path.{_≡_, refl, sym, ap, ap₂, _∙_}
 use mathlib.Core.Bool.{Bool, true, false, _&&_, and-assoc, and-true, and-false}
 use mathlib.Core.List.{List, [], _∷_, _++_, append-assoc}
 use Prim.Native.Nat.{ℕ, zero, suc, _+_, _-_, _^_, _<_, _≤_, zero-le, compare, Ordering, Ordering·lt, Ordering·eq, Ordering·gt}
@@ -14,12 +14,12 @@ use Rattle.monomial.specs.declared.order.Order.{Order}
 use Rattle.monomial.specs.Layout.{Layout, inLayout}
 use Rattle.monomial.specs.TotalOrder.{TotalOrder}
 use Rattle.monomial.specs.Words.{compareWords, keyOf}
-use Rattle.monomial.proofs.Comparing.{lt-compare, eq-compare, gt-compare, Tri, less, same, more, tri}
+use Rattle.monomial.proofs.Comparing.{Tri, less, same, more, tri}
 use Rattle.monomial.proofs.OrderLaws.{words-order}
 use Rattle.monomial.proofs.LayoutLaws.{test-layout}
 use Rattle.monomial.proofs.KeyLaws.{key-compare}
 use Rattle.monomial.proofs.Places.{and-both}
-use Rattle.polynomial.specs.Terms.{Term, term, terms, All, Reduced, Under, Falling, Canonical}
+use Rattle.polynomial.specs.Terms.{Term, term, terms, All, Reduced, Falling, Canonical}
 use Rattle.polynomial.specs.Opening.{first, termBy, termRefusal, termsRefusal, isLarger, fall, orderBy, refusalOf, orderNext, orderAfter}
 use Rattle.polynomial.proofs.MergeLaws.{under-more}
 use Rattle.polynomial.proofs.TermLists.{length-terms, term-at, lead-at}

@@ -1,4 +1,4 @@
--- The published merge (document 01, "Buckets") over a comparison: "while neither list is used up, one comparison puts the larger lead into the result, or, for like terms, their sum unless it is 0. The list that still has terms then gives its rest." Assumes nothing.
+-- The published merge (document 01, "Buckets") over a comparison: "while neither list is used up, one comparison puts the larger lead into the result, or, for like terms, their sum unless it is 0. The list that still has terms then gives its rest, as a part of itself." Assumes nothing.
 use Prim.Native.Nat.{ℕ, zero, suc, _+_, _%_, Ordering, Ordering·lt, Ordering·eq, Ordering·gt}
 use mathlib.Core.List.{List, [], _∷_}
 use lib.ListN.{length}

@@ -37,7 +37,7 @@ use Rattle.reducer.specs.Divisors.{OfLayout}
 use Rattle.reducer.specs.Dividing.{TailAddition, TailAdded, tailOf, Dividing, toAdd, DividedTo, over, many, divided, Divided}
 use Rattle.divisors.proofs.InverseLaws.{multiplying}
 
--- ---- "anyOver" of words is "anyTooLarge" of terms
+-- ---- `anyOver` of words is `anyTooLarge` of terms
 pub over-terms : (q : ℕ) (ws cs : List ℕ) → length cs ≡ length ws → anyTooLarge overWord q (terms ws cs) ≡ anyOver q ws
 unfolding anyTooLarge anyOver
 over-terms q [] cs e = refl

@@ -15,9 +15,9 @@ use Rattle.space.specs.Space.{listFrom}
 use Rattle.division.specs.Choice.{unfit, fits, firstFrom, chosen}
 use Rattle.division.specs.Divisors.{Valid}
 use Rattle.division.proofs.FitLaws.{first-none, first-here, first-later}
-use Rattle.call.specs.Lending.{polynomial}
+use Rattle.call.specs.Lending.{polynomial, divisorsOf}
 use Rattle.divisors.specs.Divisors.{leadWord, leadCoef, Leads, FirstFit}
-use Rattle.reducer.specs.Divisors.{divisorsOf, OfLayout, Checked}
+use Rattle.reducer.specs.Divisors.{OfLayout, Checked}
 use Rattle.reducer.specs.Dividing.{tailOf}
 use Rattle.reducer.proofs.DivideLaws.{part-cons}
 

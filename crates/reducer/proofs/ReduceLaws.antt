@@ -22,14 +22,14 @@ use Rattle.space.proofs.SpaceLaws.{lists-none, stands-none}
 use Rattle.refusal.specs.declared.Refusal.the-variants.{TooManyTerms}
 use Rattle.call.specs.declared.state.State.{State}
 use Rattle.call.specs.States.{begun, counted, brought, halted, goesOn}
-use Rattle.call.specs.Lending.{polynomial, Addend, Lent, WorkSpace}
+use Rattle.call.specs.Lending.{polynomial, divisorsOf, Addend, Lent, WorkSpace}
 use Rattle.division.specs.Choice.{chosen}
 use Rattle.division.specs.Divisors.{AllOf}
 use Rattle.division.specs.Steps.{overWord, stepsFrom, reductionOfWords}
 use Rattle.division.proofs.HeldTerms.{Every, add-every}
 use Rattle.division.proofs.Endings.{begins, begins-not}
 use Rattle.divisors.specs.Divisors.{KeptLeads, Inverses}
-use Rattle.reducer.specs.Divisors.{divisorsOf, OfLayout}
+use Rattle.reducer.specs.Divisors.{OfLayout}
 use Rattle.reducer.specs.Stepping.{Ended, Going, Reaches, Sound, Stepping, Stepped, Beginning, Begun, refused, added, Reducible, Reduced}
 use Rattle.reducer.proofs.BeginLaws.{held-none}
 use Rattle.reducer.proofs.StepLaws.{false-true, of-every}

@@ -2,7 +2,7 @@
 use mathlib.Core.Path.{_≡_, refl, sym, ap, ap₂, _∙_, subst}
 use mathlib.Core.Bool.{Bool, true, false}
 use mathlib.Core.List.{List, [], _∷_, _++_}
-use Prim.Native.Nat.{ℕ, zero, suc, _+_, _-_, _<_, _≤_, Ordering}
+use Prim.Native.Nat.{ℕ, suc, _+_, _-_, _<_, _≤_, Ordering}
 use native.Mathlib.Decide.{decLe}
 use native.Mathlib.Numerals.{add-one}
 use native.Mathlib.Omega.{arith}
@@ -17,10 +17,10 @@ use Rattle.polynomial.specs.Terms.{Term, term, All, terms}
 use Rattle.polynomial.proofs.TermLists.{length-terms}
 use Rattle.polynomial.proofs.MultipleLaws.{length-multiple}
 use Rattle.multiple.specs.Multiplying.{anyOver}
-use Rattle.geobucket.specs.Buckets.{held, add, addCompared}
+use Rattle.geobucket.specs.Buckets.{held, add, addCompared, Canon}
 use Rattle.geobucket.specs.Search.{Lead, none, lead, search, withLead}
 use Rattle.geobucket.specs.Events as events
-use Rattle.geobucket.proofs.SearchLaws.{Canon, Within, Fewer, Leads as LeadOf, Finds, search-within, finds}
+use Rattle.geobucket.proofs.SearchLaws.{Within, Fewer, Leads as LeadOf, Finds, search-within, finds}
 use Rattle.geobucket.proofs.AddLaws.{adds}
 use Rattle.geobucket.proofs.EventLaws.{good-canon, room-six}
 use Rattle.space.specs.Space.{Buckets, bucketsIn, dropped}
@@ -48,9 +48,10 @@ use Rattle.division.proofs.Lasts.{with-every}
 use Rattle.division.proofs.WholeLaws.{left-none, left-held}
 use Rattle.division.proofs.StepLaws.{step-none, step-limit, step-kept, step-full, step-large, step-many, step-divided}
 use Rattle.divisors.specs.Divisors.{leadWord, leadCoef, Leads, FirstFit, KeptLeads, Inverses}
-use Rattle.reducer.specs.Divisors.{divisorsOf, OfLayout}
+use Rattle.call.specs.Lending.{divisorsOf}
+use Rattle.reducer.specs.Divisors.{OfLayout}
 use Rattle.reducer.specs.Dividing.{Dividing, DividedTo, over, many, divided, Divided, tailOf}
-use Rattle.reducer.specs.Stepping.{Keeping, Kept, full, put, remainderIn, Ended, Sound, Stepping, Stepped}
+use Rattle.reducer.specs.Stepping.{Searched, no-lead, no-step, one-step, Keeping, Kept, full, put, remainderIn, Ended, Sound, Stepping, Stepped}
 use Rattle.reducer.proofs.DivideLaws.{over-terms, tail-long, to-add}
 use Rattle.reducer.proofs.FirstLaws.{leads-there, fit-none, fit-some}
 
@@ -436,3 +437,20 @@ module _ {o : Order} {p : ℕ} {words coefs starts leads : List ℕ} {limit : �
                   let ew' : ow' ≡ set ow (s .places) (k .word) = ew ∙ ap (λ (n : ℕ). set ow n (k .word)) terms-same in
                   let ec' : oc' ≡ set oc (s .places) (k .coef) = ec ∙ ap (λ (n : ℕ). set oc n (k .coef)) terms-same in
                   rw (eb, ew', ec') (subst (λ (x : State). Stepped o p words coefs starts limit s b₀ bw bc ow oc x inverses (dropped b (k .bucket)) bw bc' (set ow (s .places) (k .word)) (set oc (s .places) (k .coef))) (sym (es ∙ ap (λ (x : State). gave (finishedOne x) 1 1) et)) (put-to (omega (arith, terms-same))))
+
+-- ---- by what the search came to
+pub ended-step : {o : Order} {p : ℕ} {words coefs starts leads : List ℕ} {limit : ℕ} {s : State} {inverses : List ℕ} {b₀ : Buckets} {bw bc ww wc mw mc ow oc : List ℕ} → Stepping o p words coefs starts leads limit s inverses b₀ bw bc ww wc mw mc ow oc → {b : Buckets} {bc' : List ℕ} {k : Candidate} → FindDone (compareWords o) p (bucketsIn b₀ bw bc) b bw bc' k → {t : State} → Searched s k limit t → goesOn (t .course) ≡ false → Stepped o p words coefs starts limit s b₀ bw bc ow oc t inverses b bw bc' ow oc
+ended-step a d (no-lead h e) off = zero-step a d refl h e
+ended-step a d (no-step n h e) off = limit-step a d refl n h e
+ended-step a d (one-step n h e) off = absurd (false-true (sym off ∙ (ap (λ (x : State). goesOn (x .course)) e ∙ a .more)))
+
+-- a lead was found and a step is left
+pub record OneStep (s : State) (k : Candidate) (limit : ℕ) (t : State) : Type 0 where
+  pub counted-is : t ≡ counted s (k .count)
+  pub some-lead : k .bucket ≡ 6 → ⊥
+  pub some-left : t .finished ≡ limit → ⊥
+
+pub goes-on : {s : State} {k : Candidate} {limit : ℕ} {t : State} → Searched s k limit t → goesOn (t .course) ≡ true → OneStep s k limit t
+goes-on (no-lead h e) on = absurd (false-true (sym (ap (λ (x : State). goesOn (x .course)) e) ∙ on))
+goes-on (no-step n h e) on = absurd (false-true (sym (ap (λ (x : State). goesOn (x .course)) e) ∙ on))
+goes-on (one-step n h e) on = record { counted-is = e; some-lead = n; some-left = λ q. h (ap (λ (x : State). x .finished) (sym e) ∙ q) }

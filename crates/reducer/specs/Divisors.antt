@@ -1,5 +1,5 @@
--- The divisors as they are lent: "Polynomial 0 is added first; the others are divisors." Assumes nothing.
-use Prim.Native.Nat.{ℕ, _+_, _-_, _<_, _≤_}
+-- The polynomials of a reduction as its opening checks leave them. Assumes nothing.
+use Prim.Native.Nat.{ℕ, _+_, _<_, _≤_}
 use mathlib.Core.Path.{_≡_}
 use mathlib.Core.List.{List}
 use lib.ListN.{length, getD}
@@ -8,15 +8,9 @@ use Rattle.residue.specs.Prime.{Prime}
 use Rattle.monomial.specs.declared.order.Order.{Order}
 use Rattle.monomial.specs.Layout.{Layout}
 use Rattle.monomial.specs.Words.{compareWords}
-use Rattle.polynomial.specs.Terms.{Term}
 use Rattle.polynomial.specs.Opening.{Within}
-use Rattle.space.specs.Space.{listFrom}
 use Rattle.division.specs.Divisors.{Valid}
 use Rattle.call.specs.Lending.{polynomial}
-
--- the polynomials from 1 on
-abbrev pub divisorsOf : (words coefs starts : List ℕ) → List (List (Term ℕ))
-divisorsOf words coefs starts = listFrom (polynomial words coefs starts) 1 (length starts - 2)
 
 -- a word of the layout; those of fewer variables are words of six
 abbrev pub OfLayout : Order → ℕ → Type 0

@@ -13,11 +13,11 @@ use Rattle.merge_common.specs.Lent.{part}
 use Rattle.geobucket.specs.Buckets.{held}
 use Rattle.geobucket.specs.Events as events
 use Rattle.space.specs.Space.{Buckets, bucketsIn, Stands, dropped, noBuckets}
-use Rattle.refusal.specs.declared.Refusal.the-variants.{NoOutput, TooManyTerms}
+use Rattle.refusal.specs.declared.Refusal.the-variants.{NoOutput, TooManyTerms, StepLimit}
 use Rattle.call.specs.declared.state.State.{State}
-use Rattle.call.specs.States.{begun, counted, brought, gave, finishedOne, halted, goesOn, stopOf}
+use Rattle.call.specs.States.{begun, counted, brought, gave, finishedOne, closed, halted, goesOn, stopOf}
 use Rattle.call.specs.Counts.{Counts}
-use Rattle.call.specs.Lending.{polynomial, Output, WorkSpace}
+use Rattle.call.specs.Lending.{polynomial, divisorsOf, Output, WorkSpace}
 use Rattle.search.specs.declared.candidate.Candidate.{Candidate}
 use Rattle.search.specs.Searching.{Removal}
 use Rattle.buckets.specs.Adding.{AddDone}
@@ -25,7 +25,15 @@ use Rattle.division.specs.Choice.{chosen}
 use Rattle.division.specs.Divisors.{AllOf}
 use Rattle.division.specs.Steps.{Reduction, stepsFrom, overWord, reductionOfWords}
 use Rattle.divisors.specs.Divisors.{KeptLeads, Inverses}
-use Rattle.reducer.specs.Divisors.{divisorsOf, OfLayout, Checked}
+use Rattle.reducer.specs.Divisors.{OfLayout, Checked}
+
+-- ---- the search
+
+-- no lead was found, or one was found with no step left, or with one
+pub data Searched (s : State) (lead : Candidate) (limit : ℕ) (s' : State) : Type 0 where
+  no-lead : lead .bucket ≡ 6 → s' ≡ closed (counted s (lead .count)) → Searched s lead limit s'
+  no-step : (lead .bucket ≡ 6 → ⊥) → s .finished ≡ limit → s' ≡ halted (counted s (lead .count)) StepLimit → Searched s lead limit s'
+  one-step : (lead .bucket ≡ 6 → ⊥) → (s .finished ≡ limit → ⊥) → s' ≡ counted s (lead .count) → Searched s lead limit s'
 
 -- ---- the lead goes to the remainder
 

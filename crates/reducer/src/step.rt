@@ -7,7 +7,8 @@ use refusal::Refusal;
 use search::candidate::Candidate;
 use search::lead::find_lead;
 use search::lead::remove_lead;
-ghost use Rattle.reducer.specs.Stepping.{Keeping, Kept, Stepping, Stepped};
+ghost use Rattle.call.specs.States.{Countable};
+ghost use Rattle.reducer.specs.Stepping.{Searched, Keeping, Kept, Stepping, Stepped};
 
 // Finds the lead, then divides it by the first divisor whose lead monomial divides it, or puts it to
 // the remainder. Stops with 13 where a lead is found and the limit's leads are removed already.
@@ -35,6 +36,40 @@ pub fn step<'a>(
     ensures { λ r. ⌜ Stepped order p (now (words .entry)) (now (coefs .entry)) (now (starts .entry)) limit s (now (b .entry)) (now (bw .entry)) (now (bc .entry)) (now (ow .entry)) (now (oc .entry)) r (now (inverses .exit)) (now (b .exit)) (now (bw .exit)) (now (bc .exit)) (now (ow .exit)) (now (oc .exit)) ⌝ }
 {
     let lead = find_lead(order, p, b, bw, bc);
+    let t = after_search(s, lead, limit);
+    if t.goes_on() {
+        let k = first_fit(words, starts, leads, lead.word);
+        if k + 1 < starts.len() {
+            return divide(
+                order,
+                p,
+                words,
+                coefs,
+                starts,
+                k,
+                t,
+                lead,
+                inverses,
+                b,
+                bw,
+                bc,
+                ww,
+                wc,
+                mw,
+                mc,
+            );
+        }
+        return keep(t, lead, b, ow, oc);
+    }
+    t
+}
+
+// The state after the search: the reduction ends where no lead was found, then stops with 13 where the
+// limit's leads are removed already.
+fn after_search(s: State, lead: Candidate, limit: u64) -> State
+    requires { ⌜ Countable (s .comparisons) (lead .count) ⌝ }
+    ensures { λ r. ⌜ Searched s lead limit r ⌝ }
+{
     let t = s.compare(lead.count);
     if lead.bucket == 6 {
         return t.close();
@@ -42,28 +77,7 @@ pub fn step<'a>(
     if t.finished == limit {
         return t.halt(Refusal::StepLimit);
     }
-    let k = first_fit(words, starts, leads, lead.word);
-    if k + 1 < starts.len() {
-        return divide(
-            order,
-            p,
-            words,
-            coefs,
-            starts,
-            k,
-            t,
-            lead,
-            inverses,
-            b,
-            bw,
-            bc,
-            ww,
-            wc,
-            mw,
-            mc,
-        );
-    }
-    keep(t, lead, b, ow, oc)
+    t
 }
 
 // Puts the lead to the remainder, or refuses with 10 where the output has no place for it.

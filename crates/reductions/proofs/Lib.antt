@@ -1,3 +1,2 @@
 pub mod OpenedLaws
 pub mod OutcomeLaws
-pub mod Demands

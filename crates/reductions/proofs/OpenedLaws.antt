@@ -1,26 +1,22 @@
 -- What a reduction that no opening check refuses can be done with. Assumes nothing.
 use mathlib.Core.Path.{_≡_, sym, ap, _∙_}
 use mathlib.Core.List.{List, [], _∷_}
-use Prim.Native.Nat.{ℕ, zero, suc, _+_, _-_, _<_, _≤_}
+use Prim.Native.Nat.{ℕ, _+_, _≤_}
 use native.Mathlib.Omega.{arith}
 use lib.ListN.{length, take, drop, take-append-drop, length-drop}
 use lib.Seq.{take-all}
 use Rattle.monomial.specs.declared.order.Order.{Order}
 use Rattle.monomial.specs.Exponents.{orderOf, degree}
 use Rattle.monomial.specs.Layout.{fields, Below, Layout}
-use Rattle.monomial.specs.Words.{compareWords}
 use Rattle.monomial.proofs.Places.{zeros, degree-append, degree-zeros}
 use Rattle.monomial.proofs.LayoutLaws.{length-fields}
-use Rattle.polynomial.specs.Terms.{Term}
 use Rattle.polynomial.proofs.MergeLaws.{all-map}
-use Rattle.polynomial.proofs.OpeningLaws.{passes}
 use Rattle.polynomial.proofs.StartLaws.{good-within}
-use Rattle.space.specs.Space.{Buckets, listFrom, noBuckets}
+use Rattle.space.specs.Space.{Buckets, noBuckets}
 use Rattle.polynomial.specs.declared.setting.Setting.{Setting}
 use Rattle.opening.specs.Reduction.{ReductionOpened}
-use Rattle.division.specs.Divisors.{Valid, AllOf}
 use Rattle.call.specs.Lending.{polynomial, Lent}
-use Rattle.reducer.specs.Divisors.{divisorsOf}
+use Rattle.reduction_outcome.proofs.OpenedLaws.{valid-polynomial}
 use Rattle.reducer.specs.Stepping.{Reducible}
 
 -- a word of the layout in n variables is one in six
@@ -35,12 +31,6 @@ layout-six o n w few l = record {
     none [] h = tt
     none (a ∷ α) h = absurd (let z : ⊥ = omega arith in z)
 
--- what holds of each polynomial from i on holds of their list
-all-from : (Q : List (Term ℕ) → Type 0) (g : ℕ → List (Term ℕ)) (i k : ℕ) → ((j : ℕ) → i ≤ j → j < i + k → Q (g j)) → AllOf Q (listFrom g i k)
-unfolding AllOf listFrom
-all-from Q g i zero h = tt
-all-from Q g i (suc k) h = (h i (omega arith) (omega arith), all-from Q g (suc i) k (λ j l u. h j (omega arith) (omega arith)))
-
 module _ {t : Setting} {words coefs ss : List ℕ} {steps lbw lbc lww lwc low loc : ℕ} (o : ReductionOpened t words coefs ss steps lbw lbc lww lwc low loc) where
   abbrev p : ℕ
   p = t .p
@@ -50,12 +40,6 @@ module _ {t : Setting} {words coefs ss : List ℕ} {steps lbw lbc lww lwc low lo
 
   abbrev n : ℕ
   n = t .n
-
-  pub valid-polynomial : (k : ℕ) → k + 1 < length ss → Valid (compareWords (orderOf order)) p (λ w. Layout (orderOf order) n w) (polynomial words coefs ss k)
-  valid-polynomial k h = let v = passes (orderOf order) n p (polynomial words coefs ss k) (o .polynomials k h) in record { canonical = v .0; are = v .1 }
-
-  pub valid-divisors : AllOf (Valid (compareWords (orderOf order)) p (λ w. Layout (orderOf order) n w)) (divisorsOf words coefs ss)
-  valid-divisors = all-from (λ f. Valid (compareWords (orderOf order)) p (λ w. Layout (orderOf order) n w) f) (polynomial words coefs ss) 1 (length ss - 2) (λ k l h. valid-polynomial k (omega (arith, o .some)))
 
   pub reducible : Reducible (orderOf order) p words coefs ss steps
   reducible = record {
@@ -67,7 +51,7 @@ module _ {t : Setting} {words coefs ss : List ℕ} {steps lbw lbc lww lwc low lo
       some = o .some;
       parts = λ k h. good-within ss (length words) (o .starts) k h;
       valid = λ k h.
-          let v = valid-polynomial k h in
+          let v = valid-polynomial o k h in
           record { canonical = v .canonical; are = all-map {P = λ t. Layout (orderOf order) n (t .mono)} {Q = λ t. Layout (orderOf order) 6 (t .mono)} (λ t l. layout-six (orderOf order) n (t .mono) (o .n-high) l) (polynomial words coefs ss k) (v .are) };
       not-zero = o .divisors;
     };

@@ -10,13 +10,12 @@ use Rattle.space.proofs.SpaceLaws.{held-lens}
 use Rattle.call.specs.declared.state.State.{State}
 use Rattle.call.specs.declared.answer.Tally.{Tally}
 use Rattle.call.specs.Answers.{Stated, statedOf, tallyIn, Outcome}
-use Rattle.call.specs.Lending.{polynomial}
+use Rattle.call.specs.Lending.{polynomial, divisorsOf}
 use Rattle.call.proofs.OutputLaws.{written-long}
 use Rattle.call.proofs.OutcomeLaws.{returned-as}
 use Rattle.division.specs.Steps.{reductionOfWords}
-use Rattle.reducer.specs.Divisors.{divisorsOf}
 use Rattle.reducer.specs.Stepping.{Reduced}
-use Rattle.reductions.specs.Outcome.{tallyOf, ended}
+use Rattle.reduction_outcome.specs.Outcome.{tallyOf, ended}
 
 -- a reduction that finished or was stopped
 pub ended-as : {o : Order} {p : ℕ} {words coefs starts : List ℕ} {limit : ℕ} {ow₀ oc₀ : List ℕ} {s : State} {b : Buckets} {bw bc ow oc : List ℕ} → Reduced o p words coefs starts limit ow₀ oc₀ s b bw bc ow oc

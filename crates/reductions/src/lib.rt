@@ -14,7 +14,7 @@ use space::state::clear;
 ghost use mathlib.Core.Path.{_≡_};
 ghost use Rattle.polynomial.specs.Settings.{settingOf};
 ghost use Rattle.call.specs.Answers.{Outcome, stated};
-ghost use Rattle.reductions.specs.Outcome.{reductionOutcome};
+ghost use Rattle.reduction_outcome.specs.Outcome.{reductionOutcome};
 
 // Reduces polynomial 0 by the others, with at most `limit` leads removed. The old counts come back from
 // an opening refusal, which changes nothing.

@@ -2,14 +2,13 @@
 use mathlib.Core.Path.{_≡_, refl, sym, ap, _∙_}
 use mathlib.Core.Bool.{Bool, true, false, _||_}
 use mathlib.Core.List.{List, [], _∷_}
-use mathlib.Core.Logic.{_⊎_, inl, inr}
-use Prim.Native.Nat.{ℕ, zero, suc, _<_, _≤_}
+use Prim.Native.Nat.{ℕ}
 use native.Mathlib.Omega.{arith}
-use borrow.Author.Tests.{eq-eqb, eqb-true, ltb-true}
-use lib.Dec.{eqb, ltb}
+use borrow.Author.Tests.{eqb-true}
+use lib.Dec.{eqb}
 use Rattle.refusal.specs.declared.Refusal.{Refusal}
 use Rattle.refusal.specs.declared.Refusal.the-variants.{NotPrime, BadOrder, BadVariables, BadCoefficient, BadLayout, NotFalling, ZeroDivisor, BadShape, BadOperation, NoOutput, TooManyTerms, ExponentOver, StepLimit, NotBlocks, BadCheck, BadBlock, BadScript}
-use Rattle.refusal.specs.Table.{numberOf, causes, among, listed, fall}
+use Rattle.refusal.specs.Table.{numberOf, causes, among, listed, fall, found}
 
 -- n is none of the numbers of these causes
 abbrev pub NoneOf : List Refusal → ℕ → Type 0
@@ -35,11 +34,6 @@ is-first n r rs h e = by (eqb n (numberOf r)) refl e
 -- the one computed test: the numbers of the table fall
 pub table-falls : fall causes ≡ true
 table-falls = refl
-
--- the cause of a number, by the table
-abbrev found : ℕ → List Refusal → Refusal
-found n [] = NotPrime
-found n (r ∷ rs) = elim (eqb n (numberOf r)) [ true ↦ r | false ↦ found n rs ]
 
 -- each cause has a row, which its number finds: no two have one number
 pub cause-found : (r : Refusal) → found (numberOf r) causes ≡ r

@@ -44,3 +44,8 @@ abbrev pub fall : List Refusal → Bool
 fall [] = true
 fall (r ∷ []) = true
 fall (r ∷ (s ∷ rs)) = ltb (numberOf s) (numberOf r) && fall (s ∷ rs)
+
+-- the first of these causes that has the number n
+abbrev pub found : ℕ → List Refusal → Refusal
+found n [] = NotPrime
+found n (r ∷ rs) = elim (eqb n (numberOf r)) [ true ↦ r | false ↦ found n rs ]

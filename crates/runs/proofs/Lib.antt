@@ -1,6 +1,2 @@
 pub mod OpenedLaws
 pub mod OutcomeLaws
-pub mod Follow
-pub mod Outcomes
-pub mod Endings
-pub mod Demands

@@ -1,10 +1,10 @@
 -- What the opening checks of a run let pass can be run. Assumes nothing.
 use mathlib.Core.Path.{_≡_, sym, ap, _∙_, subst}
-use mathlib.Core.Bool.{Bool, true}
+use mathlib.Core.Bool.{true}
 use mathlib.Core.List.{List, [], _∷_}
 use Prim.Native.Nat.{ℕ, zero, suc, _+_, _-_, _*_, _/_, _%_, _<_, _≤_}
 use native.Mathlib.Omega.{arith}
-use borrow.Author.Tests.{eqb-true, leb-true, ltb-true, eq-eqb}
+use borrow.Author.Tests.{eqb-true, leb-true}
 use lib.Dec.{leb, eqb}
 use lib.ListN.{length, getD}
 use Rattle.limits.specs.Limits.{mostOperations}
@@ -14,9 +14,12 @@ use Rattle.polynomial.proofs.OpeningLaws.{passes}
 use Rattle.monomial.proofs.Places.{and-both}
 use Rattle.polynomial.proofs.StartLaws.{good-within}
 use Rattle.polynomial.specs.declared.setting.Setting.{Setting}
-use Rattle.opening.specs.Run.{Opened, pairsGood, operationBy, operationGood, operationsGood}
+use Rattle.conditions.specs.Lengths.{pairsGood}
+use Rattle.conditions.specs.Operations.{operationGood, operationsGood}
+use Rattle.opening.specs.Run.{Opened}
 use Rattle.space.specs.Space.{Buckets, noBuckets}
 use Rattle.call.specs.Lending.{Lent}
+use Rattle.run_outcome.proofs.Follow.{one-there}
 use Rattle.engine.specs.States.{Loaded}
 
 -- 16,777,216 pairs at most, and no half one
@@ -25,11 +28,6 @@ unfolding pairsGood
 pairs-whole len h =
     let e = and-both (eqb (len % 2) 0) (leb (len / 2) mostOperations) h in
     (omega (arith, eqb-true (len % 2) 0 (e .0)), omega (arith, leb-true (len / 2) mostOperations (e .1)))
-
--- the polynomial of an addition is there
-pub one-there : (code k polynomials : ℕ) → operationGood code k polynomials ≡ true → code ≡ 1 → k < polynomials
-unfolding operationGood
-one-there code k polynomials h e = ltb-true k polynomials (ap (λ (b : Bool). operationBy b code k polynomials) (sym (eq-eqb code 1 e)) ∙ h)
 
 additions-there : (ops : List ℕ) (polynomials : ℕ) → operationsGood ops polynomials ≡ true → (j : ℕ) → 2 * j + 1 < length ops → getD ops (2 * j) 0 ≡ 1 → getD ops (2 * j + 1) 0 < polynomials
 unfolding operationsGood

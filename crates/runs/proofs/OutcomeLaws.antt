@@ -13,9 +13,9 @@ use Rattle.call.specs.declared.answer.Tally.{Tally}
 use Rattle.call.specs.Answers.{Stated, Outcome, statedOf, tallyIn}
 use Rattle.call.proofs.OutputLaws.{written-long}
 use Rattle.call.proofs.OutcomeLaws.{returned-as}
-use Rattle.engine.specs.Runs.{begun, operateAll, operationsOf}
+use Rattle.run_outcome.specs.Runs.{begun, operateAll, operationsOf}
 use Rattle.engine.specs.States.{RanAll}
-use Rattle.runs.specs.Outcome.{tallyOf, ended}
+use Rattle.run_outcome.specs.Outcome.{tallyOf, ended}
 
 pub ended-as : {cmp : ℕ → ℕ → Ordering} {p : ℕ} {words coefs starts ops ow₀ oc₀ : List ℕ} {s : State} {b : Buckets} {bw bc ow oc : List ℕ} → RanAll cmp p words coefs starts ops ow₀ oc₀ s b bw bc ow oc
     → {bw' bc' ww' wc' : List ℕ} → AtReturn (bucketsIn b bw bc) bw' bc' ww' wc' → {x : Stated} {t : Tally} → (x ≡ statedOf s) × (t ≡ tallyIn s b)

@@ -14,7 +14,7 @@ use space::state::clear;
 ghost use mathlib.Core.Path.{_≡_};
 ghost use Rattle.polynomial.specs.Settings.{settingOf};
 ghost use Rattle.call.specs.Answers.{Outcome, stated};
-ghost use Rattle.runs.specs.Outcome.{runOutcome};
+ghost use Rattle.run_outcome.specs.Outcome.{runOutcome};
 
 // Does the operations on an empty geobucket. The old counts come back from an opening refusal, which
 // changes nothing.

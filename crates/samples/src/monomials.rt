@@ -1,14 +1,10 @@
-// Pairs of monomials x and y in each order: how they compare, their words, whether one divides the
-// other, and their product.
+// Pairs of monomials x and y in each order: how they compare, and their words.
 use crate::text;
 use crate::words;
 use monomial::exponents::word_of;
-use monomial::layout::in_layout;
 use monomial::order::Comparison;
 use monomial::order::Order;
 use monomial::order::order_of;
-use monomial::word::divides;
-use monomial::word::quotient;
 ghost use mathlib.Core.Path.{_≡_};
 ghost use Prim.Native.Nat.{_≤_};
 ghost use lib.ListN.{length};
@@ -88,9 +84,6 @@ fn in_order(order: Order, x: &[u8], y: &[u8])
     comparison(order, x, y);
     word(order, x);
     word(order, y);
-    division(order, x, y);
-    division(order, y, x);
-    product(order, x, y);
 }
 
 fn comparison(order: Order, x: &[u8], y: &[u8])
@@ -113,82 +106,4 @@ fn word(order: Order, x: &[u8])
     text::order(order);
     text::exponents(x);
     words::reading(order, x.len(), word_of(order, x));
-}
-
-// Whether y divides x, and the quotient.
-fn division(order: Order, x: &[u8], y: &[u8])
-    requires { ⌜ (length (now x) ≤ 6) × (length (now y) ≤ 6) ⌝ }
-{
-    text::order(order);
-    text::exponents(y);
-    text::put(b" divides ");
-    text::exponents(x);
-    match divide(order, x.len() as u32, word_of(order, x), word_of(order, y)) {
-        Answer::Word(w) => {
-            text::put(b": quotient ");
-            words::back(order, x.len(), w);
-            text::put(b"\n");
-        }
-        Answer::Not => text::put(b": not\n"),
-        Answer::Refused => text::put(b": refused\n"),
-    }
-}
-
-fn product(order: Order, x: &[u8], y: &[u8])
-    requires { ⌜ (length (now x) ≤ 6) × (length (now y) ≤ 6) ⌝ }
-{
-    text::order(order);
-    text::exponents(x);
-    text::put(b" times ");
-    text::exponents(y);
-    match times(order, x.len() as u32, word_of(order, x), word_of(order, y)) {
-        Answer::Word(w) => {
-            text::put(b": ");
-            words::back(order, x.len(), w);
-            text::put(b"\n");
-        }
-        Answer::Not => text::put(b": over 127\n"),
-        Answer::Refused => text::put(b": refused\n"),
-    }
-}
-
-// The word of a quotient or a product, that there is none, or that a word is not of the layout.
-enum Answer {
-    Word(u64),
-    Not,
-    Refused,
-}
-
-// The quotient of x by y.
-fn divide(order: Order, n: u32, x: u64, y: u64) -> Answer
-    requires { ⌜ n ≤ 6 ⌝ }
-{
-    if !in_layout(order, n, x) {
-        return Answer::Refused;
-    }
-    if !in_layout(order, n, y) {
-        return Answer::Refused;
-    }
-    if !divides(y, x) {
-        return Answer::Not;
-    }
-    Answer::Word(quotient(x, y))
-}
-
-// The product of x and y. No field of the sum carries into the next, and an exponent over 127 makes
-// a word outside the layout.
-fn times(order: Order, n: u32, x: u64, y: u64) -> Answer
-    requires { ⌜ n ≤ 6 ⌝ }
-{
-    if !in_layout(order, n, x) {
-        return Answer::Refused;
-    }
-    if !in_layout(order, n, y) {
-        return Answer::Refused;
-    }
-    let w = x + y;
-    if !in_layout(order, n, w) {
-        return Answer::Not;
-    }
-    Answer::Word(w)
 }

@@ -1,5 +1,5 @@
 -- The terms of an addition, field by field, as the code reads them. Assumes nothing.
-use Prim.Native.Nat.{ℕ, zero, suc, _+_, _-_, _*_, _≤_, _<_}
+use Prim.Native.Nat.{ℕ, suc, _+_, _-_, _*_, _≤_, _<_}
 use native.Mathlib.Numerals.{add-one}
 use native.Mathlib.Omega.{arith}
 use mathlib.Core.Path.{_≡_, refl, sym, ap, _∙_}
@@ -7,26 +7,26 @@ use mathlib.Core.Bool.{Bool, true, false}
 use mathlib.Core.List.{List, [], _∷_, _++_, map, append-nil}
 use mathlib.Core.Option.{Option, none, some}
 use borrow.Author.Tests.{eq-eqb, ne-eqb, ltb-true, ltb-false}
-use lib.Dec.{eqb, ltb}
-use lib.ListN.{length, take, drop, getD, set, length-append, length-map, length-take, length-drop, drop-of-length-le}
+use lib.Dec.{ltb}
+use lib.ListN.{length, take, drop, getD, set, length-append, length-map, length-take, drop-of-length-le}
 use lib.Seq.{sets, length-sets, take-all, drop-cons, drop-drop}
 use Rattle.monomial.specs.declared.order.Order.{Order}
 use Rattle.text.specs.Bytes.{indexOf, onto, parts, joined}
 use Rattle.text.specs.Numbers.{decimal, andThen}
-use Rattle.text.proofs.ByteLaws.{index-most, parts-some, parts-found, parts-last, found-there}
+use Rattle.text.proofs.ByteLaws.{parts-some, parts-found, parts-last, found-there}
 use Rattle.text.proofs.NumberLaws.{decimal-some}
 use Rattle.merge_common.proofs.Lists.{sets-snoc}
-use Rattle.script.specs.declared.entry.Counted.{Counted}
-use Rattle.script.specs.declared.entry.Counted.the-variants.{All}
-use Rattle.script.specs.declared.entry.Counted.the-variants.{Bad as Counted·Bad}
-use Rattle.script.specs.declared.entry.Parsed.{Parsed}
-use Rattle.script.specs.declared.entry.Parsed.the-variants.{Term}
-use Rattle.script.specs.declared.entry.Parsed.the-variants.{Bad as Parsed·Bad}
-use Rattle.script.specs.Grammar.{Entry, entryText, entriesText, GoodEntry, GoodEntries}
-use Rattle.script.specs.Reading.{entryOf, entriesOf, fieldsOf}
-use Rattle.script.specs.Loading.{parsed, entryWord, entryCoef, EntriesAs, ReadEntries, EntryRoom}
-use Rattle.script.proofs.Accepted.{entry-read}
-use Rattle.script.proofs.Prefix.{map-snoc, before, before-more, before-none}
+use Rattle.grammar.specs.declared.entry.Counted.the-variants.{All}
+use Rattle.grammar.specs.declared.entry.Counted.the-variants.{Bad as Counted·Bad}
+use Rattle.grammar.specs.declared.entry.Parsed.{Parsed}
+use Rattle.grammar.specs.declared.entry.Parsed.the-variants.{Term}
+use Rattle.grammar.specs.declared.entry.Parsed.the-variants.{Bad as Parsed·Bad}
+use Rattle.grammar.specs.Grammar.{Entry, entryText, entriesText, GoodEntry, GoodEntries}
+use Rattle.grammar.specs.Reading.{entryOf, entriesOf, fieldsOf}
+use Rattle.grammar.specs.Parts.{parsed, entryWord, entryCoef}
+use Rattle.script.specs.Loading.{ReadEntries}
+use Rattle.grammar.proofs.Accepted.{entry-read}
+use Rattle.grammar.proofs.Prefix.{map-snoc, before, before-more, before-none}
 
 -- ---- the fields from a place on
 module _ (n : ℕ) (s : List ℕ) (i : ℕ) where

@@ -1,9 +1,4 @@
-pub mod Accepted
-pub mod Written
-pub mod Prefix
-pub mod EntryLaws
 pub mod FieldLaws
 pub mod LineLaws
-pub mod HeaderLaws
 pub mod LinesLaws
 pub mod ScriptLaws

@@ -1,9 +1,9 @@
 -- A line as the code reads it, return by return. Assumes nothing.
-use Prim.Native.Nat.{ℕ, zero, suc, _+_, _-_, _*_, _≤_, _<_}
+use Prim.Native.Nat.{ℕ, _+_, _-_, _*_, _≤_, _<_}
 use native.Mathlib.Omega.{arith}
 use mathlib.Core.Path.{_≡_, refl, sym, ap, _∙_}
-use mathlib.Core.Bool.{Bool, true, false}
-use mathlib.Core.List.{List, [], _∷_, _++_, map}
+use mathlib.Core.Bool.{true, false}
+use mathlib.Core.List.{List, [], _∷_, map}
 use mathlib.Core.Option.{Option, none, some}
 use lib.ListN.{length, drop, set, length-drop}
 use lib.Seq.{sets}
@@ -11,18 +11,16 @@ use Rattle.monomial.specs.declared.order.Order.{Order}
 use Rattle.text.specs.Bytes.{begins, same, parts}
 use Rattle.text.specs.Numbers.{andThen}
 use Rattle.text.proofs.ByteLaws.{begins-is, same-is}
-use Rattle.script.specs.declared.entry.Counted.{Counted}
-use Rattle.script.specs.declared.entry.Counted.the-variants.{All}
-use Rattle.script.specs.declared.entry.Counted.the-variants.{Bad as Counted·Bad}
+use Rattle.grammar.specs.declared.entry.Counted.{Counted}
+use Rattle.grammar.specs.declared.entry.Counted.the-variants.{All}
+use Rattle.grammar.specs.declared.entry.Counted.the-variants.{Bad as Counted·Bad}
 use Rattle.script.specs.declared.line.Counts.{Counts}
 use Rattle.script.specs.declared.line.Behind.{Behind}
 use Rattle.script.specs.declared.line.Behind.the-variants.{Line as Behind·Line, Bad as Behind·Bad}
-use Rattle.script.specs.Grammar.{Entry, Line, addLine, leadLine, sumLine, add-word, lead-word, sum-word}
-use Rattle.script.specs.Reading.{fieldsOf, addOf, lineBy, lineOf}
-use Rattle.script.specs.Loading.{entryWord, entryCoef, endsFrom, pairsFrom, countsBehind, EntriesAs, ReadEntries, LineRoom, LineAs, ReadLine, ReadAdd}
-
-pub so : {t b v : Bool} → t ≡ b → t ≡ v → b ≡ v
-so e h = sym e ∙ h
+use Rattle.grammar.specs.Grammar.{Entry, leadLine, add-word, lead-word, sum-word}
+use Rattle.grammar.specs.Reading.{fieldsOf, addOf, lineOf}
+use Rattle.grammar.specs.Parts.{entryWord, entryCoef}
+use Rattle.script.specs.Loading.{endsFrom, pairsFrom, countsBehind, EntriesAs, ReadEntries, LineRoom, ReadLine, ReadAdd}
 
 -- ---- an addition
 module _ (o : Order) (at : ℕ) (words coefs words' coefs' : List ℕ) (r : Counted) where

@@ -1,13 +1,9 @@
 -- The lines behind the first three as the code reads them. Assumes nothing.
-use Prim.Native.Nat.{ℕ, zero, suc, _+_, _-_, _*_, _≤_, _<_}
-use native.Mathlib.Numerals.{add-one}
-use native.Mathlib.Nat.{add-assoc}
+use Prim.Native.Nat.{ℕ, suc, _+_, _-_, _*_, _≤_, _<_}
 use native.Mathlib.Omega.{arith}
 use mathlib.Core.Path.{_≡_, refl, sym, ap, _∙_}
-use mathlib.Core.Bool.{Bool, true, false}
 use mathlib.Core.List.{List, [], _∷_, _++_, map, append-nil, append-assoc}
 use mathlib.Core.Option.{Option, none, some}
-use borrow.Author.Tests.{le-leb}
 use lib.ListN.{length, take, drop, length-append, length-map, length-take, length-drop, drop-of-length-le}
 use lib.Seq.{sets, length-sets}
 use Rattle.monomial.specs.declared.order.Order.{Order}
@@ -18,12 +14,13 @@ use Rattle.merge_common.proofs.Lists.{sets-append}
 use Rattle.script.specs.declared.line.Counts.{Counts}
 use Rattle.script.specs.declared.line.Behind.{Behind}
 use Rattle.script.specs.declared.line.Behind.the-variants.{Line as Behind·Line, Bad as Behind·Bad}
-use Rattle.script.specs.Grammar.{Entry, Line, addLine, leadLine, sumLine, lineText, entriesText, GoodLine}
-use Rattle.script.specs.Reading.{lineOf, linesOf}
-use Rattle.script.specs.Loading.{entryWord, entryCoef, lineEntries, entriesIn, endsFrom, pairsFrom, countsBehind, LineRoom, LineAs, ReadLine, countsOf, LinesRoom, LinesAs, ReadLines}
-use Rattle.script.proofs.Accepted.{line-read}
+use Rattle.grammar.specs.Grammar.{Entry, Line, addLine, leadLine, sumLine, lineText, GoodLine}
+use Rattle.grammar.specs.Reading.{lineOf, linesOf}
+use Rattle.grammar.specs.Parts.{entryWord, entryCoef}
+use Rattle.script.specs.Loading.{lineEntries, entriesIn, endsFrom, pairsFrom, countsBehind, LineRoom, LineAs, ReadLine, countsOf, LinesRoom, ReadLines}
+use Rattle.grammar.proofs.Accepted.{line-read}
 use Rattle.script.proofs.FieldLaws.{entries-size}
-use Rattle.script.proofs.Prefix.{parts-at, before, before-more, before-none, partsIf, partsFrom, from-next, from-end}
+use Rattle.grammar.proofs.Prefix.{parts-at, before, before-more, before-none, partsFrom, from-next, from-end}
 
 -- ---- one line more
 entries-more : (ls : List Line) (l : Line) → entriesIn (ls ++ (l ∷ [])) ≡ entriesIn ls ++ lineEntries l

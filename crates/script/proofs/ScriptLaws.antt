@@ -1,12 +1,10 @@
 -- A whole script as the code reads it, return by return. Assumes nothing.
-use Prim.Native.Nat.{ℕ, zero, suc, _+_, _*_, _≤_, _<_}
+use Prim.Native.Nat.{ℕ, _≤_, _<_}
 use native.Mathlib.Omega.{arith}
 use mathlib.Core.Path.{_≡_, refl, sym, ap, _∙_}
-use mathlib.Core.Bool.{Bool, true, false}
-use mathlib.Core.List.{List, [], _∷_, map}
+use mathlib.Core.List.{List, map}
 use mathlib.Core.Option.{Option, none, some}
 use borrow.Author.Tests.{le-leb, lt-leb}
-use lib.Dec.{leb}
 use lib.ListN.{length, drop, set, length-set}
 use lib.Seq.{sets}
 use Rattle.limits.specs.Limits.{scriptBytes}
@@ -18,15 +16,14 @@ use Rattle.text.specs.Numbers.{andThen}
 use Rattle.script.specs.declared.line.Counts.{Counts}
 use Rattle.script.specs.declared.line.Behind.{Behind}
 use Rattle.script.specs.declared.line.Behind.the-variants.{Line as Behind·Line, Bad as Behind·Bad}
-use Rattle.script.specs.declared.header.Header.{Header}
-use Rattle.script.specs.declared.header.Head.{Head}
-use Rattle.script.specs.declared.header.Head.the-variants.{Is, Bad as Head·Bad}
-use Rattle.script.specs.declared.reader.Loaded.{Loaded}
-use Rattle.script.specs.declared.reader.Found.{Found}
+use Rattle.grammar.specs.declared.header.Header.{Header}
+use Rattle.grammar.specs.declared.header.Head.{Head}
+use Rattle.grammar.specs.declared.header.Head.the-variants.{Is, Bad as Head·Bad}
 use Rattle.script.specs.declared.reader.Found.the-variants.{Script as Found·Script, Bad as Found·Bad}
-use Rattle.script.specs.Grammar.{Line, Script}
-use Rattle.script.specs.Reading.{linesOf, withHeader, scriptOf}
-use Rattle.script.specs.Loading.{entryWord, entryCoef, entriesIn, endsFrom, pairsFrom, orderNumber, countsOf, LinesRoom, LinesAs, ReadLines, scriptFrom, HeadAs, ReadHeader, ScriptRoom, loadedOf, ReadScript}
+use Rattle.grammar.specs.Grammar.{Line, Script}
+use Rattle.grammar.specs.Reading.{linesOf, withHeader, scriptOf}
+use Rattle.grammar.specs.Parts.{entryWord, orderNumber, scriptFrom, HeadAs, ReadHeader}
+use Rattle.script.specs.Loading.{entriesIn, countsOf, LinesRoom, LinesAs, ReadLines, ScriptRoom, ReadScript}
 
 pub order-number : (o : Order) → orderOf (orderNumber o) ≡ o
 order-number Lex = refl

@@ -1,44 +1,25 @@
 -- A script as a run takes it: words, coefficients, starts and operations. Assumes nothing.
-use Prim.Native.Nat.{ℕ, zero, suc, _+_, _*_, _≤_, min}
+use Prim.Native.Nat.{ℕ, _+_, _*_, _≤_}
 use mathlib.Core.List.{List, [], _∷_, _++_, map}
 use mathlib.Core.Path.{_≡_}
 use mathlib.Core.Option.{Option, none, some}
-use lib.ListN.{length, take, drop}
+use lib.ListN.{length, drop}
 use lib.Seq.{sets}
-use Rattle.limits.specs.Limits.{scriptNumbers, scriptTerms}
+use Rattle.limits.specs.Limits.{scriptNumbers, scriptStarts, scriptTerms}
 use Rattle.monomial.specs.declared.order.Order.{Order}
-use Rattle.monomial.specs.declared.order.Order.the-variants.{Lex, DegLex, DegRevLex}
-use Rattle.monomial.specs.Layout.{wordOf}
-use Rattle.script.specs.declared.entry.Counted.{Counted}
-use Rattle.script.specs.declared.entry.Counted.the-variants.{All}
-use Rattle.script.specs.declared.entry.Counted.the-variants.{Bad as Counted·Bad}
-use Rattle.script.specs.declared.entry.Parsed.{Parsed}
-use Rattle.script.specs.declared.entry.Parsed.the-variants.{Term}
-use Rattle.script.specs.declared.entry.Parsed.the-variants.{Bad as Parsed·Bad}
+use Rattle.grammar.specs.declared.entry.Counted.{Counted}
+use Rattle.grammar.specs.declared.entry.Counted.the-variants.{All}
+use Rattle.grammar.specs.declared.entry.Counted.the-variants.{Bad as Counted·Bad}
 use Rattle.text.specs.Bytes.{parts}
-use Rattle.script.specs.Reading.{numbersOf, fieldsOf, addOf, lineOf, linesOf, afterWord, withHeader, scriptOf}
+use Rattle.grammar.specs.Reading.{fieldsOf, addOf, lineOf, linesOf, scriptOf}
 use Rattle.script.specs.declared.reader.Loaded.{Loaded}
 use Rattle.script.specs.declared.reader.Found.{Found}
 use Rattle.script.specs.declared.reader.Found.the-variants.{Script as Found·Script, Bad as Found·Bad}
-use Rattle.text.specs.Numbers.{andThen}
-use Rattle.script.specs.declared.header.Header.{Header}
-use Rattle.script.specs.declared.header.Head.{Head}
-use Rattle.script.specs.declared.header.Head.the-variants.{Is, Bad as Head·Bad}
 use Rattle.script.specs.declared.line.Counts.{Counts}
 use Rattle.script.specs.declared.line.Behind.{Behind}
 use Rattle.script.specs.declared.line.Behind.the-variants.{Line as Behind·Line, Bad as Behind·Bad}
-use Rattle.script.specs.Grammar.{Entry, Line, addLine, leadLine, sumLine, Script, vars-word}
-
--- An exponent as a byte. "an exponent over 127 gives 5": its word is outside the layout.
-abbrev pub capped : ℕ → ℕ
-capped e = min e 255
-
--- The word of a term. More than six variables are refused with 3, whatever the word.
-abbrev pub entryWord : Order → Entry → ℕ
-entryWord o t = wordOf o (map capped (take 6 (t .exps)))
-
-abbrev pub entryCoef : Entry → ℕ
-entryCoef t = t .coef
+use Rattle.grammar.specs.Grammar.{Entry, Line, addLine, leadLine, sumLine, Script}
+use Rattle.grammar.specs.Parts.{entryWord, entryCoef, orderNumber}
 
 abbrev pub lineEntries : Line → List Entry
 lineEntries (addLine ts) = ts
@@ -64,12 +45,6 @@ pairsFrom k (addLine ts ∷ ls) = 1 ∷ k ∷ pairsFrom (k + 1) ls
 pairsFrom k (leadLine ∷ ls) = 2 ∷ 0 ∷ pairsFrom k ls
 pairsFrom k (sumLine ∷ ls) = 3 ∷ 0 ∷ pairsFrom k ls
 
--- "The orders are 1 = lp, 2 = Dp, 3 = dp"
-abbrev pub orderNumber : Order → ℕ
-orderNumber Lex = 1
-orderNumber DegLex = 2
-orderNumber DegRevLex = 3
-
 abbrev pub wordsOf : Script → List ℕ
 wordsOf s = map (entryWord (s .order)) (entriesIn (s .lines))
 
@@ -83,18 +58,6 @@ abbrev pub pairsOf : Script → List ℕ
 pairsOf s = pairsFrom 0 (s .lines)
 
 -- ---- what the code hands back
-
--- exponents, of which those that have a place are stored
-abbrev pub CountedAs : Option (List ℕ) → (exps exps' : List ℕ) → Counted → Type 0
-CountedAs none exps exps' r = r ≡ Counted·Bad
-CountedAs (some es) exps exps' r = (r ≡ All (length es)) × (exps' ≡ sets exps 0 (map capped es))
-
-pub record ReadExponents (s exps exps' : List ℕ) (r : Counted) : Type 0 where
-  pub is : CountedAs (numbersOf (parts 46 s)) exps exps' r
-
-abbrev pub parsed : Order → Option Entry → Parsed
-parsed o none = Parsed·Bad
-parsed o (some t) = Term (entryWord o t) (entryCoef t)
 
 -- Room for terms: each takes at least four bytes of the text, of which there are l.
 pub record EntryRoom (l at words coefs : ℕ) : Type 0 where
@@ -162,37 +125,13 @@ LinesAs o (some ls) words coefs starts ops words' coefs' starts' ops' r =
 pub record ReadLines (o : Order) (n from : ℕ) (s : List ℕ) (words coefs starts ops words' coefs' starts' ops' : List ℕ) (r : Behind) : Type 0 where
   pub is : LinesAs o (linesOf n (parts 10 (drop from s))) words coefs starts ops words' coefs' starts' ops' r
 
--- ---- the first three lines
-abbrev pub orderCode : Option Order → ℕ
-orderCode none = 0
-orderCode (some o) = orderNumber o
-
--- a script of which the first three lines have been read
-abbrev pub scriptFrom : (p : ℕ) → Order → (n : ℕ) → List (List ℕ) → Option Script
-scriptFrom p o n ls = andThen (linesOf n ls) (λ xs. some (record { prime = p; order = o; vars = n; lines = xs }))
-
--- the third line and those behind it
-abbrev pub varsThen : (p : ℕ) → Order → List (List ℕ) → Option Script
-varsThen p o [] = none
-varsThen p o (c ∷ ls) = andThen (afterWord vars-word c) (λ n. scriptFrom p o n ls)
-
-abbrev pub HeadAs : Option Script → (s : List ℕ) → Head → Type 0
-HeadAs x s Head·Bad = x ≡ none
-HeadAs x s (Is h) = (from-in : h .from ≤ length s) × (o : Order) × (named : h .order ≡ orderNumber o) × (x ≡ scriptFrom (h .prime) o (h .vars) (parts 10 (drop (h .from) s)))
-
-pub record ReadHeader (s : List ℕ) (r : Head) : Type 0 where
-  pub is : HeadAs (withHeader (parts 10 s)) s r
-
-pub record ReadVars (s : List ℕ) (p order j : ℕ) (r : Head) : Type 0 where
-  pub is : (o : Order) → order ≡ orderNumber o → HeadAs (varsThen p o (parts 10 (drop j s))) s r
-
 -- ---- a whole script
 
--- "buffers sized from the script's length": 16,384 bytes hold at most 4,096 terms, and at most 4,096 lines
+-- the lent places are enough for every script: 16,384 bytes hold at most 4,096 terms, and at most 4,096 lines
 pub record ScriptRoom (words coefs starts ops : ℕ) : Type 0 where
   pub words-long : words ≡ scriptTerms
   pub coefs-long : coefs ≡ scriptTerms
-  pub starts-long : starts ≡ 4097
+  pub starts-long : starts ≡ scriptStarts
   pub ops-long : ops ≡ scriptNumbers
 
 abbrev pub loadedOf : Script → Loaded

@@ -1,7 +1,7 @@
 // A line of a script behind the first three: `add` with terms, `lead` or `sum`.
-use crate::entry::Counted;
-use crate::entry::Parsed;
-use crate::entry::read_entry;
+use grammar::entry::Counted;
+use grammar::entry::Parsed;
+use grammar::entry::read_entry;
 use monomial::order::Order;
 use text::bytes::find;
 use text::bytes::is_word;
@@ -12,7 +12,7 @@ ghost use mathlib.Core.List.{_∷_, []};
 ghost use lib.ListN.{length};
 ghost use lib.Seq.{sets};
 ghost use Rattle.script.specs.Loading.{EntryRoom, ReadEntries, LineRoom, ReadLine, ReadAdd, countsBehind};
-ghost use Rattle.script.specs.Grammar.{leadLine};
+ghost use Rattle.grammar.specs.Grammar.{leadLine};
 
 // How many terms, polynomials and operations have been read.
 pub struct Counts {

@@ -1,9 +1,9 @@
 // A whole script.
-use crate::header::Head;
-use crate::header::read_header;
 use crate::line::Behind;
 use crate::line::Counts;
 use crate::lines::read_lines;
+use grammar::header::Head;
+use grammar::header::read_header;
 use limits::SCRIPT_BYTES;
 use monomial::order::order_of;
 ghost use lib.ListN.{length};

@@ -2,15 +2,14 @@
 use mathlib.Core.Path.{_≡_, refl, sym, ap, ap₂, _∙_, subst}
 use mathlib.Core.List.{List, [], _∷_, _++_}
 use Prim.Native.Nat.{ℕ, zero, suc, _+_, _-_, _*_, _<_, _≤_, Ordering}
-use native.Mathlib.Decide.{decLe}
 use native.Mathlib.Omega.{arith}
 use lib.ListN.{length, getD, drop, length-append}
 use Rattle.limits.specs.Limits.{bucketPlaces}
 use Rattle.monomial.specs.TotalOrder.{TotalOrder}
-use Rattle.polynomial.specs.Terms.{Term, term, Canonical, Under}
-use Rattle.geobucket.specs.Buckets.{held, Good}
-use Rattle.geobucket.specs.Search.{Pass, seek, Lead, none, lead, Searched, higher, pass, after, ended, searchIn, search, putBack, withLead}
-use Rattle.geobucket.proofs.SearchLaws.{Canon, Above, Shrunk, Tops, Fewer, Within, Passes, passes, pass-within, ended-none, ended-lead, ended-again, seek-along}
+use Rattle.polynomial.specs.Terms.{Term}
+use Rattle.geobucket.specs.Buckets.{held, Canon}
+use Rattle.geobucket.specs.Search.{seek, Lead, none, lead, Searched, pass, after, ended, searchIn, search, putBack}
+use Rattle.geobucket.proofs.SearchLaws.{Above, Shrunk, Tops, Fewer, Within, Passes, passes, pass-within, ended-none, ended-lead, ended-again, seek-along}
 use Rattle.space.specs.Space.{listFrom}
 use Rattle.space.proofs.SpaceLaws.{from-same}
 

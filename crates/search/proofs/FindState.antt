@@ -9,9 +9,8 @@ use Rattle.limits.specs.Limits.{bucketPlaces}
 use Rattle.residue.specs.Modular.{Modulus}
 use Rattle.monomial.specs.TotalOrder.{TotalOrder}
 use Rattle.polynomial.specs.Terms.{Term, term}
-use Rattle.geobucket.specs.Buckets.{held, Good}
+use Rattle.geobucket.specs.Buckets.{held, Good, Canon}
 use Rattle.geobucket.specs.Search.{Pass, Lead, none, lead, Searched, pass, search, putBack, withLead}
-use Rattle.geobucket.proofs.SearchLaws.{Canon}
 use Rattle.space.specs.Space.{Buckets, headAt, listFrom, bucketAt, bucketsIn, Laid, Stands, dropped}
 use Rattle.space.proofs.Starts.{cap-zero, six}
 use Rattle.space.proofs.SpaceLaws.{from-long, good-at, canon-from, canon-at, good-from, held-short, bucket-short, bucket-none, bucket-lead, head-in, dropped-laid, dropped-other, some-of, drop-here}

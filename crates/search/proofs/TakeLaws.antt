@@ -1,16 +1,17 @@
 -- A lead that was found and left, and its removal. Assumes nothing.
-use mathlib.Core.Path.{_≡_, refl, sym, ap, ap₂, _∙_, subst}
+use mathlib.Core.Path.{_≡_, refl, sym, ap, _∙_, subst}
 use mathlib.Core.List.{List, _∷_}
-use Prim.Native.Nat.{ℕ, _<_, _≤_, Ordering}
+use Prim.Native.Nat.{ℕ, _<_, Ordering}
 use native.Mathlib.Nat.{zero-add}
 use native.Mathlib.Omega.{arith}
 use lib.ListN.{length}
 use Rattle.monomial.specs.TotalOrder.{TotalOrder}
 use Rattle.polynomial.specs.Terms.{Term}
-use Rattle.geobucket.specs.Search.{Lead, none, lead, search, putBack, withLead}
-use Rattle.geobucket.proofs.SearchLaws.{Canon, Within, Finds, search-within, finds}
-use Rattle.space.specs.Space.{Buckets, bucketAt, bucketsIn, Laid, Stands, dropped}
-use Rattle.space.proofs.SpaceLaws.{from-long, dropped-laid, dropped-other, some-of, drop-here}
+use Rattle.geobucket.specs.Search.{Lead, none, lead, search, withLead}
+use Rattle.geobucket.specs.Buckets.{Canon}
+use Rattle.geobucket.proofs.SearchLaws.{Within, Finds, search-within, finds}
+use Rattle.space.specs.Space.{Buckets, bucketAt, bucketsIn, Laid, dropped}
+use Rattle.space.proofs.SpaceLaws.{dropped-laid, dropped-other, some-of, drop-here}
 use Rattle.search.specs.declared.candidate.Candidate.{Candidate}
 use Rattle.search.specs.Candidates.{candidateOf}
 use Rattle.search.specs.Searching.{Removal, FindDone, TakeDone}

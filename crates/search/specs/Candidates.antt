@@ -1,6 +1,5 @@
 -- The search's candidate, as a value. Assumes nothing.
 use Prim.Native.Nat.{ℕ, _+_, _%_}
-use Rattle.polynomial.specs.Terms.{Term}
 use Rattle.geobucket.specs.Search.{Lead, none, lead}
 use Rattle.search.specs.declared.candidate.Candidate.{Candidate}
 

@@ -1,3 +1,4 @@
 pub mod Starts
 pub mod SpaceLaws
 pub mod SettleLaws
+pub mod LaidLaws

@@ -13,8 +13,7 @@ use Rattle.merge_common.proofs.Lists.{sets-append, getD-sets-other, getD-part, 
 use Rattle.polynomial.specs.Terms.{Term, term, terms, Canonical}
 use Rattle.polynomial.proofs.TermLists.{length-terms}
 use Rattle.residue.specs.Modular.{Modulus}
-use Rattle.geobucket.specs.Buckets.{empty, held, Good}
-use Rattle.geobucket.proofs.SearchLaws.{Canon}
+use Rattle.geobucket.specs.Buckets.{empty, held, Good, Canon}
 use Rattle.space.specs.Space.{Buckets, headAt, lenAt, capacity, start, listFrom, rowAt, bucketAt, bucketsIn, Laid, Stands, moved, dropped, noBuckets, heldIn}
 use Rattle.space.proofs.Starts.{next-start, next-capacity, start-up, start-end}
 
@@ -54,7 +53,7 @@ module _ {A : Type 0} where
       let e : i + suc (5 - i) ≡ 6 = omega arith in
       ap (listFrom f 0) (sym e) ∙ (from-split f 0 i (suc (5 - i)) ∙ ap (λ (l : List A). listFrom f 0 i ++ l) (ap (λ (n : ℕ). listFrom f n (suc (5 - i))) (let z : 0 + i ≡ i = omega arith in z) ∙ from-next f i (5 - i)))
 
--- ---- parts of a list of which a run of places is put anew
+-- ---- parts of a list of which a run of places is put again
 pub part-frame : (s : List ℕ) (a : ℕ) (vs : List ℕ) (h n : ℕ) → Apart h n a (length vs) → part h n (sets s a vs) ≡ part h n s
 part-frame s a vs h n out =
     let l : length (part h n (sets s a vs)) ≡ length (part h n s) = length-take n (drop h (sets s a vs)) ∙ (ap (min n) (length-drop h (sets s a vs) ∙ (ap (λ (m : ℕ). m - h) (length-sets s a vs) ∙ sym (length-drop h s))) ∙ sym (length-take n (drop h s))) in

@@ -1,5 +1,5 @@
 -- The lent bucket space (document 01, "Buckets"): "The bucket space has 5,460 places for words and for coefficients; bucket i starts at place (4^i − 4)/3." Buckets are numbered from 0 here, so that document 01's bucket i is bucket i - 1. Assumes nothing.
-use Prim.Native.Nat.{ℕ, zero, suc, _+_, _-_, _*_, _^_, _≤_, _<_, Ordering}
+use Prim.Native.Nat.{ℕ, zero, suc, _+_, _-_, _*_, _/_, _^_, _≤_, _<_, Ordering}
 use mathlib.Core.Path.{_≡_}
 use mathlib.Core.List.{List, [], _∷_, _++_, map}
 use lib.ListN.{length, getD, set, replicate}
@@ -81,11 +81,24 @@ unfoldable pub laidOut : ℕ → List (List ℕ) → List ℕ
 laidOut cap [] = []
 laidOut cap (l ∷ ls) = l ++ (replicate (cap - length l) 0 ++ laidOut (4 * cap) ls)
 
+-- where document 01's bucket i, from 1 up, starts: "bucket i starts at place (4^i − 4)/3"
+abbrev pub placeOf : ℕ → ℕ
+placeOf i = (4 ^ i - 4) / 3
+
+-- a row, and 0 past it, n places in all
+abbrev pub padded : ℕ → List ℕ → List ℕ
+padded n row = row ++ replicate (n - length row) 0
+
+-- Six rows lie in a slice of the bucket space: document 01's bucket i from its start on, and 0 past it up to the next one's start.
+pub record LiesIn (rows : List (List ℕ)) (s : List ℕ) : Type 0 where
+  pub long : length s ≡ bucketPlaces
+  pub row-is : (i : ℕ) → 1 ≤ i → i ≤ 6 → part (placeOf i) (placeOf (suc i) - placeOf i) s ≡ padded (placeOf (suc i) - placeOf i) (getD rows (i - 1) [])
+
 -- a slice of the bucket space at return
 abbrev pub settled : Buckets → List ℕ → List ℕ
 settled b s = laidOut 4 (listFrom (rowAt b s) 0 6)
 
--- the spaces at return: the buckets as laid out, and "The work space is all 0 at return."
+-- the spaces at return: the buckets as laid out, and "The work space, 8,192 places for each, is all 0 at return."
 pub record AtReturn (bs : List (List (Term ℕ))) (sw sc ww wc : List ℕ) : Type 0 where
   pub words-are : sw ≡ laidOut 4 (map words bs)
   pub coefs-are : sc ≡ laidOut 4 (map coefs bs)

@@ -1,5 +1,5 @@
-// The spaces as they are at return: "Places past a bucket's terms are 0 at return. The work space is
-// all 0 at return."
+// The spaces as they are at return: "Places past a bucket's terms are 0 at return. The work space,
+// 8,192 places for each, is all 0 at return."
 use crate::state::head_of;
 use crate::state::len_of;
 use limits::WORK_PLACES;

@@ -1,5 +1,6 @@
 // Decimal numbers.
 ghost use mathlib.Core.Path.{_≡_};
+ghost use Prim.Native.Nat.{min};
 ghost use Rattle.text.specs.Numbers.{isDigit, withDigit, numberOf, found};
 
 // A number of at most 32 bits, or none.
@@ -56,4 +57,11 @@ pub fn read_number(s: &[u8]) -> Number
         i += 1;
     }
     Number::Value(v)
+}
+
+// The number v as a byte, 255 where it is larger.
+pub fn byte_of(v: u32) -> u8
+    ensures { λ r. ⌜ r ≡ min v 255 ⌝ }
+{
+    if v < 255 { v as u8 } else { 255 }
 }

@@ -45,7 +45,7 @@ use Rattle.call.specs.declared.answer.Tally.{Tally}
 use Rattle.call.specs.declared.answer.Returned.{Returned}
 use Rattle.call.specs.Answers.{stated, Outcome}
 use Rattle.polynomial.specs.Settings.{settingOf}
-use Rattle.reductions.specs.Outcome.{reductionOutcome}
+use Rattle.reduction_outcome.specs.Outcome.{reductionOutcome}
 use Rattle.call.proofs.Said.{rest-of, all-said, all-go}
 use Rattle.call.proofs.answer.Answer as A
 use Rattle.call.proofs.answer.Answer.Laws as A′

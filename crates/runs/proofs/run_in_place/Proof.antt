@@ -53,7 +53,7 @@ use Rattle.call.proofs.answer.Tally as T
 use Rattle.call.proofs.answer.Tally.Laws as T′
 use Rattle.call.proofs.answer.Returned as R
 use Rattle.call.proofs.answer.Returned.Laws as R′
-use Rattle.runs.specs.Outcome.{runOutcome}
+use Rattle.run_outcome.specs.Outcome.{runOutcome}
 use Rattle.runs.proofs.run as core
 use Rattle.runs.proofs.run.Symbol as core-def
 use Rattle.runs.proofs.run.Symbol.{name as #runs·run}

@@ -40,7 +40,7 @@ use denote.Triple.Call.{calls-at}
 use denote.Triple.Clauses.{Lasts, ensured, lasts}
 use denote.Triple.Table.{entered, cited}
 use denote.Triple.Walked.{says, Stays, stay-ref, walkOf, AllGo, goes-ref, Walks, ends-at, walked, walk-meets}
-use Rattle.reductions.specs.Outcome.{reductionOutcome}
+use Rattle.reduction_outcome.specs.Outcome.{reductionOutcome}
 use Rattle.answers.specs.Course.{reductionStated}
 use Rattle.call.specs.Answers.{Outcome}
 use Rattle.polynomial.specs.Settings.{settingOf}

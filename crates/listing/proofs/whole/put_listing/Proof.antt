@@ -1,4 +1,4 @@
-use Rattle.limits.specs.Limits.{scriptNumbers, scriptTerms}
+use Rattle.limits.specs.Limits.{scriptNumbers, scriptStarts, scriptTerms}
 use Rattle.listing.proofs.SizeLaws.{prefix-in}
 use Rattle.listing.proofs.SizeLaws.{bad-listing, good-read, good-listing, prefix-long, prefix-most}
 use native.Mathlib.Omega.{arith}
@@ -10,7 +10,7 @@ use Rattle.listing.proofs.whole.put_listing.Statement.{statement}
 use Rattle.listing.proofs.whole.put_listing.Tie as tie
 use Rattle.listing.proofs.whole.put_listing.Reads as reads
 use Rattle.listing.proofs.whole.put_listing.Lts as lts
-use Rattle.listing.proofs.ending.put_refused.Reads as put-refused-reads
+use Rattle.listing_lines.proofs.ending.put_refused.Reads as put-refused-reads
 use Rattle.listing.proofs.whole.list_run.Reads as list-run-reads
 use Rattle.script.proofs.reader.read_script.Reads as read-script-reads
 
@@ -64,11 +64,11 @@ slice-aggregate-list-run-2 c = prefix-long (c .before .before .before .before .b
 
 -- src/whole.rt:103:51
 array-share-prefix-starts : tie.Need-array-share-prefix-starts
-array-share-prefix-starts c = prefix-in (c .before .before .before .before .before .before .found .given .0 .0 .counts .polynomials + 1) 4097 (c .before .before .before .before .before .before .before .before .before .before .before .before .read-script .last .1 .1 .1 .0) ((good-read (c .before .before .before .before .before .before .before .before .before .before .before .before .read-script .ensures) refl refl refl refl (c .before .before .before .before .before .before .found .given .0 .0) (c .before .before .before .before .before .before .found .given .1)) .starts-in) ((good-read (c .before .before .before .before .before .before .before .before .before .before .before .before .read-script .ensures) refl refl refl refl (c .before .before .before .before .before .before .found .given .0 .0) (c .before .before .before .before .before .before .found .given .1)) .starts-long)
+array-share-prefix-starts c = prefix-in (c .before .before .before .before .before .before .found .given .0 .0 .counts .polynomials + 1) scriptStarts (c .before .before .before .before .before .before .before .before .before .before .before .before .read-script .last .1 .1 .1 .0) ((good-read (c .before .before .before .before .before .before .before .before .before .before .before .before .read-script .ensures) refl refl refl refl (c .before .before .before .before .before .before .found .given .0 .0) (c .before .before .before .before .before .before .found .given .1)) .starts-in) ((good-read (c .before .before .before .before .before .before .before .before .before .before .before .before .read-script .ensures) refl refl refl refl (c .before .before .before .before .before .before .found .given .0 .0) (c .before .before .before .before .before .before .found .given .1)) .starts-long)
 
 -- src/whole.rt:103:51
 slice-aggregate-list-run-3 : tie.Need-slice-aggregate-list-run-3
-slice-aggregate-list-run-3 c = prefix-long (c .before .before .before .before .before .before .before .found .given .0 .0 .counts .polynomials + 1) 4097 (c .before .before .before .before .before .before .before .before .before .before .before .before .before .read-script .last .1 .1 .1 .0) ((good-read (c .before .before .before .before .before .before .before .before .before .before .before .before .before .read-script .ensures) refl refl refl refl (c .before .before .before .before .before .before .before .found .given .0 .0) (c .before .before .before .before .before .before .before .found .given .1)) .starts-in) ((good-read (c .before .before .before .before .before .before .before .before .before .before .before .before .before .read-script .ensures) refl refl refl refl (c .before .before .before .before .before .before .before .found .given .0 .0) (c .before .before .before .before .before .before .before .found .given .1)) .starts-long)
+slice-aggregate-list-run-3 c = prefix-long (c .before .before .before .before .before .before .before .found .given .0 .0 .counts .polynomials + 1) scriptStarts (c .before .before .before .before .before .before .before .before .before .before .before .before .before .read-script .last .1 .1 .1 .0) ((good-read (c .before .before .before .before .before .before .before .before .before .before .before .before .before .read-script .ensures) refl refl refl refl (c .before .before .before .before .before .before .before .found .given .0 .0) (c .before .before .before .before .before .before .before .found .given .1)) .starts-in) ((good-read (c .before .before .before .before .before .before .before .before .before .before .before .before .before .read-script .ensures) refl refl refl refl (c .before .before .before .before .before .before .before .found .given .0 .0) (c .before .before .before .before .before .before .before .found .given .1)) .starts-long)
 
 -- src/whole.rt:103:65
 array-share-prefix-ops : tie.Need-array-share-prefix-ops

@@ -1,5 +1,5 @@
 use Rattle.listing.proofs.WholeLaws.{places-done, ran-done, ran-refused}
-use Rattle.listing.proofs.PutLaws.{put-within}
+use Rattle.listing_lines.proofs.PutLaws.{put-within}
 use lib.Seq.{length-take-le}
 use native.Mathlib.Omega.{arith}
 use mathlib.Core.Path.{sym, ap, _∙_}
@@ -9,9 +9,9 @@ use Rattle.listing.proofs.whole.put_ran.Statement.{statement}
 use Rattle.listing.proofs.whole.put_ran.Tie as tie
 use Rattle.listing.proofs.whole.put_ran.Reads as reads
 use Rattle.listing.proofs.whole.put_ran.Lts as lts
-use Rattle.listing.proofs.answers.put_answers.Reads as put-answers-reads
-use Rattle.listing.proofs.ending.put_cost.Reads as put-cost-reads
-use Rattle.listing.proofs.ending.put_refused.Reads as put-refused-reads
+use Rattle.listing_lines.proofs.answers.put_answers.Reads as put-answers-reads
+use Rattle.listing_lines.proofs.ending.put_cost.Reads as put-cost-reads
+use Rattle.listing_lines.proofs.ending.put_refused.Reads as put-refused-reads
 use Rattle.refusal.proofs.number_of.Reads as number-of-reads
 
 -- src/whole.rt:28:39

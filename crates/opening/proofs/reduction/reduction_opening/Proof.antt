@@ -3,6 +3,7 @@ use mathlib.Core.Path.{sym, _∙_}
 use Rattle.opening.specs.Reduction.{reductionRefusal}
 use Rattle.opening.proofs.Tests.{yes, no}
 use Rattle.opening.proofs.SettingLaws.{setting-passes}
+use Rattle.opening.proofs.StartsJudged.{good-starts}
 use Rattle.opening.proofs.ReductionLaws.{reduction-shape-passes, reduction-setting, reduction-later, reduction-last}
 use borrow.Author.Needs.{needs}
 use Rattle.opening.proofs.reduction.reduction_opening.Statement.{statement}
@@ -10,7 +11,7 @@ use Rattle.opening.proofs.reduction.reduction_opening.Tie as tie
 use Rattle.opening.proofs.reduction.reduction_opening.Reads as reads
 use Rattle.opening.proofs.reduction.reduction_opening.Lts as lts
 use Rattle.opening.proofs.polynomials.polynomials_refusal.Reads as polynomials-refusal-reads
-use Rattle.opening.proofs.reduction.divisors_good.Reads as divisors-good-reads
+use Rattle.conditions.proofs.divisors.divisors_good.Reads as divisors-good-reads
 use Rattle.opening.proofs.reduction.reduction_shape.Reads as reduction-shape-reads
 use Rattle.opening.proofs.setting.setting.Reads as setting-reads
 
@@ -28,7 +29,7 @@ unfolding reductionRefusal
 returns-2 c = simp (sym (c .before .before .before .setting .ensures) ∙ c .before .before .if1 .left, no (c .before .reduction-shape .ensures) (c .if2 .taken))
 
 polynomials-refusal-requires : tie.Need-polynomials-refusal-requires
-polynomials-refusal-requires c κs = let s = reduction-shape-passes (yes (c .before .reduction-shape .ensures) (c .if2 .left)) in (setting-passes _ (sym (c .before .before .before .setting .ensures) ∙ c .before .before .if1 .left) .n-high, s .lent .lent, s .starts)
+polynomials-refusal-requires c κs = let s = reduction-shape-passes (yes (c .before .reduction-shape .ensures) (c .if2 .left)) in (setting-passes _ (sym (c .before .before .before .setting .ensures) ∙ c .before .before .if1 .left) .n-high, s .lent .lent, good-starts _ _ (s .starts))
 
 returns-3 : tie.Need-returns-3
 returns-3 c = reduction-later _ _ _ _ _ _ _ _ _ _ _ (sym (c .before .before .before .before .before .setting .ensures) ∙ c .before .before .before .before .if1 .left) (yes (c .before .before .before .reduction-shape .ensures) (c .before .before .if2 .left)) (c .before .polynomials-refusal .ensures) (c .if3 .taken)

@@ -1,5 +1,5 @@
 -- `opening::reduction::reduction_shape` meets its contract, test by test. Assumes nothing.
-use mathlib.Core.Path.{sym, _∙_}
+use mathlib.Core.Path.{sym}
 use borrow.Author.Needs.{needs}
 use Rattle.opening.proofs.Tests.{yes, no}
 use Rattle.opening.proofs.ReductionLaws.{few-starts, some-starts, reduction-off, reduction-on}

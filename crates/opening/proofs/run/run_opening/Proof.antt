@@ -11,7 +11,7 @@ use Rattle.opening.proofs.run.run_opening.Statement.{statement}
 use Rattle.opening.proofs.run.run_opening.Tie as tie
 use Rattle.opening.proofs.run.run_opening.Reads as reads
 use Rattle.opening.proofs.run.run_opening.Lts as lts
-use Rattle.opening.proofs.operations.operations_good.Reads as operations-good-reads
+use Rattle.conditions.proofs.operations.operations_good.Reads as operations-good-reads
 use Rattle.opening.proofs.polynomials.polynomials_refusal.Reads as polynomials-refusal-reads
 use Rattle.opening.proofs.setting.setting.Reads as setting-reads
 use Rattle.opening.proofs.shape.shape_good.Reads as shape-good-reads

@@ -1,8 +1,8 @@
 use mathlib.Core.Option.{some}
 use lib.ListN.{take}
-use Rattle.script.specs.Grammar.{Entry}
-use Rattle.script.specs.Reading.{entryOf}
-use Rattle.script.specs.Loading.{entryWord, entryCoef}
+use Rattle.grammar.specs.Grammar.{Entry}
+use Rattle.grammar.specs.Reading.{entryOf}
+use Rattle.grammar.specs.Parts.{entryWord, entryCoef}
 -- `script::line::read_entries` meets its contract: the terms put so far, before what is left, are what the whole text gives. Assumes nothing.
 use Prim.Native.Nat.{ℕ, _+_, _-_, _*_, _≤_}
 use mathlib.Core.Path.{_≡_, refl, sym, ap, _∙_}
@@ -14,7 +14,7 @@ use Rattle.script.proofs.line.read_entries.Statement.{statement}
 use Rattle.script.proofs.line.read_entries.Tie as tie
 use Rattle.script.proofs.line.read_entries.Reads as reads
 use Rattle.script.proofs.line.read_entries.Lts as lts
-use Rattle.script.proofs.entry.read_entry.Reads as read-entry-reads
+use Rattle.grammar.proofs.entry.read_entry.Reads as read-entry-reads
 use Rattle.text.proofs.bytes.find.Reads as find-reads
 
 abbrev Inv-loop : tie.InvT-loop

@@ -1,4 +1,5 @@
-use Rattle.script.proofs.LineLaws.{so, is-lead, is-sum, is-none, is-add, lead-long, sum-long, add-long, pair-room, few-pairs, add-room}
+use Rattle.grammar.proofs.Prefix.{so}
+use Rattle.script.proofs.LineLaws.{is-lead, is-sum, is-none, is-add, lead-long, sum-long, add-long, pair-room, few-pairs, add-room}
 use Rattle.merge_common.proofs.Lists.{part-from}
 use Rattle.text.proofs.NumberLaws.{yes, no}
 use native.Mathlib.Omega.{arith}

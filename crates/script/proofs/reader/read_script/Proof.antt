@@ -8,7 +8,7 @@ use Rattle.script.proofs.reader.read_script.Tie as tie
 use Rattle.script.proofs.reader.read_script.Reads as reads
 use Rattle.script.proofs.reader.read_script.Lts as lts
 use Rattle.monomial.proofs.order.order_of.Reads as order-of-reads
-use Rattle.script.proofs.header.read_header.Reads as read-header-reads
+use Rattle.grammar.proofs.header.read_header.Reads as read-header-reads
 use Rattle.script.proofs.lines.read_lines.Reads as read-lines-reads
 
 -- src/reader.rt:36:9

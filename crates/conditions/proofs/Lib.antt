@@ -1,0 +1,5 @@
+pub mod Tests
+pub mod LengthLaws
+pub mod OperationLaws
+pub mod OperationsJudged
+pub mod DivisorLaws

@@ -1,0 +1,63 @@
+-- What document 01 asks of a script and of a call for its listing, in its words and its order, and the refusal that a listing prints. Assumes nothing.
+use Prim.Native.Nat.{ℕ, _<_, _≤_}
+use mathlib.Core.Path.{_≡_}
+use mathlib.Core.List.{List, [], _∷_, _++_, map}
+use mathlib.Core.Option.{Option, none, some}
+use Rattle.limits.specs.Limits.{listingBytes, mostVariables}
+use Rattle.refusal.specs.Judgement.{Condition, condition}
+use Rattle.monomial.specs.Exponents.{compareIn}
+use Rattle.monomial.specs.Layout.{Below}
+use Rattle.polynomial.specs.Terms.{term, Falling}
+use Rattle.opening.specs.Judgement.{GoodPrime, Between}
+use Rattle.grammar.specs.Grammar.{Entry, Line, addLine, leadLine, sumLine, Script, GoodScript, scriptText}
+use Rattle.grammar.specs.Reading.{scriptOf}
+use Rattle.listing.specs.Whole.{scriptOutcome}
+
+-- ---- the call: "10: too little output", which is less than the bytes that hold every listing
+abbrev pub callConditions : (room : ℕ) → List Condition
+callConditions room = condition 10 (listingBytes ≤ room) ∷ []
+
+-- ---- the script
+
+-- "17: script not of the form below.": the bytes are the text of a script of the grammar
+pub record IsScript (bytes : List ℕ) : Type 0 where
+  pub script : Script
+  pub good : GoodScript script
+  pub text : bytes ≡ scriptText script
+
+module _ (s : Script) where
+  -- 4 and 5, term by term: "4: coefficient 0 or ≥ p."; "an exponent over 127 gives 5"
+  abbrev pub entriesConditions : List Entry → List Condition
+  entriesConditions [] = []
+  entriesConditions (e ∷ es) = condition 4 ((0 < e .coef) × (e .coef < s .prime)) ∷ (condition 5 (Below 128 (e .exps)) ∷ entriesConditions es)
+
+  -- "6: terms do not fall strictly.", by their exponents under the script's order
+  abbrev pub EntriesFall : List Entry → Type 0
+  EntriesFall es = Falling (compareIn (s .order)) (map (λ e. term (e .exps) (e .coef)) es)
+
+  -- addition by addition, "the first place with 4 or 5 (4 first at one place), then 6"
+  abbrev pub linesConditions : List Line → List Condition
+  linesConditions [] = []
+  linesConditions (addLine es ∷ ls) = (entriesConditions es ++ (condition 6 (EntriesFall es) ∷ [])) ++ linesConditions ls
+  linesConditions (leadLine ∷ ls) = linesConditions ls
+  linesConditions (sumLine ∷ ls) = linesConditions ls
+
+  -- "1: p is not a prime from 2 to 65,521."; "3: n not 1 to 6."; what else a run asks, every script has
+  abbrev pub scriptConditions : List Condition
+  scriptConditions = condition 1 (GoodPrime (s .prime)) ∷ (condition 3 (Between 1 mostVariables (s .vars)) ∷ linesConditions (s .lines))
+
+abbrev pub conditionsBy : Option Script → List Condition
+conditionsBy none = []
+conditionsBy (some s) = scriptConditions s
+
+-- "17 is judged first, over the whole script, with 0 operations finished"
+abbrev pub listingConditions : (bytes : List ℕ) → List Condition
+listingConditions bytes = condition 17 (IsScript bytes) ∷ conditionsBy (scriptOf bytes)
+
+-- ---- the number of the refusal that the listing of these bytes prints, 0 for none (theorems `demand-1-printed` and `demand-2-printed`)
+abbrev pub refusalBy : Option Script → ℕ
+refusalBy none = 17
+refusalBy (some s) = scriptOutcome s .answer .number
+
+abbrev pub printedRefusal : (bytes : List ℕ) → ℕ
+printedRefusal bytes = refusalBy (scriptOf bytes)

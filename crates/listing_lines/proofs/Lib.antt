@@ -1,0 +1,4 @@
+pub mod PutLaws
+pub mod PlaceLaws
+pub mod AnswerLaws
+pub mod EndingLaws

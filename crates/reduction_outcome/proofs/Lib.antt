@@ -1,0 +1,3 @@
+pub mod OpenedLaws
+pub mod Demands
+pub mod Bars

@@ -1,0 +1,5 @@
+pub mod Runs
+pub mod Demanded
+pub mod GivenOut
+pub mod Ending
+pub mod Outcome
