@@ -6,13 +6,17 @@
  * in the static library libdamselbuckle.a, which `rt staticlib damselbuckle` proves and makes. Its code is
  * for x86-64, where size_t has 64 bits.
  *
- * Lent memory. Each array is a pointer and, right behind it, its length in elements. The functions
+ * Lent memory. Each array is a pointer and, right after it, its length in elements. The functions
  * allocate nothing, keep no pointer and have no state: calls in several threads at once are fine, so
- * long as what one call may write is not used by another. What the caller must see to:
+ * long as what one call may write is not used by another. What the caller must ensure:
  *   - a pointer is aligned for its type and points to at least as many elements as its length says,
  *     all of them set to something; it is not NULL, not even where the length is 0;
- *   - an array that is not const, and the tally, overlap no other argument of the call.
+ *   - an array that is not const, and the tally, can be written, and overlap no other argument of the
+ *     call. A refusal at the opening changes nothing, but it writes back the counts that the tally had.
  * Beyond that the functions ask nothing: any numbers and any lengths get an answer.
+ *
+ * Stack. 100,000 bytes are enough for a run, a reduction and the block store. For a listing 400,000 are
+ * enough, and 360,000 are too few.
  *
  * Terms. A polynomial is an array of words (monomials) and an array of coefficients of the same length,
  * 1 to p - 1 each; its terms fall strictly in the order; no terms are the polynomial zero. A word has
@@ -76,6 +80,12 @@ extern "C" {
  * answer says, the terms still held in the bucket space, the work space all 0, and the tally says what
  * was done. A run is stopped before the refused operation. A reduction is stopped before the lead is
  * removed: it stays in the buckets, like terms added up.
+ *
+ * Such a call can go on. The terms that it holds are read off the bucket space: bucket i, 1 to 6, has 4^i
+ * places from place (4^i - 4)/3 on, and its terms come before its places of coefficient 0. A run that adds
+ * the six buckets and gives the full sum makes one polynomial of them. A run goes on by adding that one
+ * first; a reduction goes on by reducing it by the same divisors, and the remainders follow one another.
+ * example.c does so.
  *
  * The opening checks go in the order 1, 2, 3, 8, 9, then for each polynomial in turn the first place with
  * 4 or 5, then 6, and at last 7.
@@ -141,6 +151,50 @@ extern "C" {
 #define DAMSELBUCKLE_BAD_BLOCK 16
 /* the script is not of the form. After it: the listing `refused 17 at 0`. */
 #define DAMSELBUCKLE_BAD_SCRIPT 17
+/* The text of a refusal, as above; that of 0 is `none`, and that of a number that no call gives `unknown`. */
+static inline const char *damselbuckle_refusal_text(uint64_t refusal)
+{
+    switch (refusal) {
+    case 0:
+        return "none";
+    case DAMSELBUCKLE_NOT_PRIME:
+        return "p is not a prime from 2 to 65,521";
+    case DAMSELBUCKLE_BAD_ORDER:
+        return "the order is not 1, 2 or 3";
+    case DAMSELBUCKLE_BAD_VARIABLES:
+        return "the number n of variables is not 1 to 6";
+    case DAMSELBUCKLE_BAD_COEFFICIENT:
+        return "a coefficient is 0, or not below p";
+    case DAMSELBUCKLE_BAD_LAYOUT:
+        return "a word is not of the layout: an exponent over 127, a wrong degree, or a variable past the n-th";
+    case DAMSELBUCKLE_NOT_FALLING:
+        return "the terms of a polynomial do not fall strictly in the order";
+    case DAMSELBUCKLE_ZERO_DIVISOR:
+        return "a divisor is zero";
+    case DAMSELBUCKLE_BAD_SHAPE:
+        return "lengths, sizes, starts, number of operations or step limit are wrong, or a reduction has no polynomial 0";
+    case DAMSELBUCKLE_BAD_OPERATION:
+        return "an operation is unknown, names a polynomial that is not there, or has a second number that is not 0";
+    case DAMSELBUCKLE_NO_OUTPUT:
+        return "there is too little room for the output";
+    case DAMSELBUCKLE_TOO_MANY_TERMS:
+        return "over 4,096 terms would be held, or are to be written";
+    case DAMSELBUCKLE_EXPONENT_OVER:
+        return "a product has an exponent over 127";
+    case DAMSELBUCKLE_STEP_LIMIT:
+        return "the step limit is reached, and a lead is left";
+    case DAMSELBUCKLE_NOT_BLOCKS:
+        return "the bytes are not 1 to 100 whole blocks";
+    case DAMSELBUCKLE_BAD_CHECK:
+        return "the check of a block is wrong";
+    case DAMSELBUCKLE_BAD_BLOCK:
+        return "a block's numbers or filler are not what writing would put there";
+    case DAMSELBUCKLE_BAD_SCRIPT:
+        return "the script is not of the form";
+    default:
+        return "unknown";
+    }
+}
 /* made from refusals.txt by make_refusals: end */
 
 /* ---- What the functions answer and set */
@@ -197,11 +251,11 @@ typedef struct damselbuckle_listing_answer {
  * elsewhere; the work space is all 0; output past the places written is as it was.
  */
 damselbuckle_run_answer damselbuckle_run(
-    damselbuckle_tally *tally, /* the counts, in memory that can be written: a refusal at the opening writes back those that came */
+    damselbuckle_tally *tally, /* the counts; a refusal at the opening writes back those that came */
     uint32_t p, /* a prime, at most DAMSELBUCKLE_LARGEST_PRIME */
     uint32_t order, /* 1, 2 or 3 */
     uint32_t n, /* the number of variables, 1 to DAMSELBUCKLE_MOST_VARIABLES */
-    const uint64_t *words, size_t words_len, /* the words of all polynomials, one behind the other */
+    const uint64_t *words, size_t words_len, /* the words of all polynomials, one after the other */
     const uint32_t *coefs, size_t coefs_len, /* their coefficients; as many */
     const size_t *starts, size_t starts_len, /* polynomial k runs from start k to before start k + 1 */
     const size_t *ops, size_t ops_len, /* the operations: two numbers each */
@@ -218,15 +272,15 @@ damselbuckle_run_answer damselbuckle_run(
  * answer, exactly where the division algorithm's is. In a step 13 is judged first; then 12 and 11, where
  * a divisor fits, or else 10.
  *
- * The remainder goes to the first output places, with no zero place behind it. Spaces and output are
+ * The remainder goes to the first output places, with no zero place after it. Spaces and output are
  * left as by a run.
  */
 damselbuckle_reduction_answer damselbuckle_reduce(
-    damselbuckle_tally *tally, /* the counts, in memory that can be written: a refusal at the opening writes back those that came */
+    damselbuckle_tally *tally, /* the counts; a refusal at the opening writes back those that came */
     uint32_t p, /* a prime, at most DAMSELBUCKLE_LARGEST_PRIME */
     uint32_t order, /* 1, 2 or 3 */
     uint32_t n, /* the number of variables, 1 to DAMSELBUCKLE_MOST_VARIABLES */
-    const uint64_t *words, size_t words_len, /* the words of all polynomials, one behind the other */
+    const uint64_t *words, size_t words_len, /* the words of all polynomials, one after the other */
     const uint32_t *coefs, size_t coefs_len, /* their coefficients; as many */
     const size_t *starts, size_t starts_len, /* polynomial k runs from start k to before start k + 1 */
     uint64_t limit, /* the most leads to remove, at most DAMSELBUCKLE_MOST_STEPS */
@@ -255,13 +309,13 @@ damselbuckle_write_answer damselbuckle_write_blocks(
  * 1 to 6, 10.
  */
 damselbuckle_read_answer damselbuckle_read_blocks(
-    const uint8_t *bytes, size_t bytes_len, /* the blocks, and nothing behind them */
+    const uint8_t *bytes, size_t bytes_len, /* the blocks, and nothing after them */
     uint64_t *words, size_t words_len, /* where the words go; DAMSELBUCKLE_MOST_TERMS are always enough */
     uint32_t *coefs, size_t coefs_len); /* where the coefficients go; as many */
 
 /*
  * Writes the listing of a script, as the program bucketlist prints it. A script that is refused has a
- * listing too, the line `refused R at K`. Give it 400,000 bytes of stack: 360,000 are too few.
+ * listing too, the line `refused R at K`. Mind the stack, as above.
  */
 damselbuckle_listing_answer damselbuckle_listing(
     const uint8_t *script, size_t script_len, /* the script, any bytes */

@@ -1,6 +1,6 @@
 /*
- * The library called from C: two reductions, a run, blocks written and read back, and a listing.
- * `library/example` builds and runs it.
+ * The library called from C: two reductions, one that is stopped and goes on, a run, blocks written and
+ * read back, and a listing. `library/example` builds and runs it.
  */
 #include "damselbuckle.h"
 
@@ -10,6 +10,7 @@
 #define P 32003
 #define MINUS_1 (P - 1)
 #define PLACES 100
+#define BUCKETS 6
 
 /* What every run and every reduction is lent. */
 static uint64_t bucket_words[DAMSELBUCKLE_BUCKET_PLACES], work_words[DAMSELBUCKLE_WORK_PLACES];
@@ -38,13 +39,19 @@ static void print(const char *name, const uint64_t *words, const uint32_t *coefs
     printf("\n");
 }
 
-/* Reduces the closing condition of an arm, so many terms, by the joint equation x1^2 + x2^2 - 1. */
-static void reduce(const char *name, const uint64_t *condition, const uint32_t *condition_coefs, size_t count)
+/* Prints a refusal, with what was finished before it. */
+static void refused(const char *name, uint64_t refusal, uint64_t finished)
 {
-    uint64_t words[6];
-    uint32_t coefs[6];
+    printf("%s: refused %d after %d: %s\n", name, (int)refusal, (int)finished, damselbuckle_refusal_text(refusal));
+}
+
+/* Reduces a polynomial of at most PLACES terms by the joint equation x1^2 + x2^2 - 1. */
+static damselbuckle_reduction_answer by_joint(
+    const uint64_t *condition, const uint32_t *condition_coefs, size_t count, uint64_t limit)
+{
+    uint64_t words[PLACES + 3];
+    uint32_t coefs[PLACES + 3];
     size_t starts[3];
-    damselbuckle_reduction_answer answer;
 
     memcpy(words, condition, count * sizeof *words);
     memcpy(coefs, condition_coefs, count * sizeof *coefs);
@@ -57,18 +64,103 @@ static void reduce(const char *name, const uint64_t *condition, const uint32_t *
     starts[0] = 0;
     starts[1] = count;
     starts[2] = count + 3;
-    answer = damselbuckle_reduce(
-        &tally, P, DAMSELBUCKLE_DP_REV, 2, words, count + 3, coefs, count + 3, starts, 3, 1000,
+    return damselbuckle_reduce(
+        &tally, P, DAMSELBUCKLE_DP_REV, 2, words, count + 3, coefs, count + 3, starts, 3, limit,
         bucket_words, DAMSELBUCKLE_BUCKET_PLACES, bucket_coefs, DAMSELBUCKLE_BUCKET_PLACES,
         work_words, DAMSELBUCKLE_WORK_PLACES, work_coefs, DAMSELBUCKLE_WORK_PLACES,
         out_words, PLACES, out_coefs, PLACES);
+}
+
+/* Reduces the closing condition of an arm, and says what follows. */
+static void arm(const char *name, const uint64_t *condition, const uint32_t *coefs, size_t count)
+{
+    damselbuckle_reduction_answer answer = by_joint(condition, coefs, count, 1000);
+
     if (answer.refusal != 0) {
-        printf("%s: refused %d after %d leads\n", name, (int)answer.refusal, (int)answer.leads);
+        refused(name, answer.refusal, answer.leads);
         return;
     }
-    printf("%s: %s\n", name, answer.terms == 0 ? "the arm closes" : "the arm does not close");
-    print("  remainder", out_words, out_coefs, answer.terms);
+    printf("%s: %s\n", name, answer.terms == 0 ? "the arm closes" : "closing is not shown");
+    print(answer.terms == 0 ? "  remainder" : "  what is left is", out_words, out_coefs, answer.terms);
     printf("  %d leads, %d comparisons for %d terms\n", (int)answer.leads, (int)tally.comparisons, (int)tally.brought);
+}
+
+/*
+ * Puts the terms that a stopped call holds one after the other, a polynomial for each bucket: bucket i has
+ * 4^i places of the bucket space, from place (4^i - 4)/3 on, and its terms come before its places of
+ * coefficient 0. Words and coefficients have room for DAMSELBUCKLE_MOST_TERMS, which is always enough.
+ */
+static void read_held(uint64_t *words, uint32_t *coefs, size_t starts[BUCKETS + 1])
+{
+    size_t i, place, first, capacity = 1, terms = 0;
+
+    starts[0] = 0;
+    for (i = 1; i <= BUCKETS; i++) {
+        capacity *= 4;
+        first = (capacity - 4) / 3;
+        for (place = first; place < first + capacity && bucket_coefs[place] != 0; place++) {
+            words[terms] = bucket_words[place];
+            coefs[terms] = bucket_coefs[place];
+            terms++;
+        }
+        starts[i] = terms;
+    }
+}
+
+/*
+ * Adds up the terms that a stopped call holds, and answers how many are left: the first of the output,
+ * without the zero place that follows. The output must have room for one more than the terms held, and what
+ * the stopped call gave out there is lost.
+ */
+static size_t add_held(void)
+{
+    static uint64_t words[DAMSELBUCKLE_MOST_TERMS];
+    static uint32_t coefs[DAMSELBUCKLE_MOST_TERMS];
+    const size_t operations[] = {
+        DAMSELBUCKLE_ADD, 0, DAMSELBUCKLE_ADD, 1, DAMSELBUCKLE_ADD, 2, DAMSELBUCKLE_ADD, 3,
+        DAMSELBUCKLE_ADD, 4, DAMSELBUCKLE_ADD, 5, DAMSELBUCKLE_SUM, 0};
+    size_t starts[BUCKETS + 1];
+    damselbuckle_run_answer answer;
+
+    read_held(words, coefs, starts);
+    answer = damselbuckle_run(
+        &tally, P, DAMSELBUCKLE_DP_REV, 2, words, starts[BUCKETS], coefs, starts[BUCKETS], starts, BUCKETS + 1,
+        operations, sizeof operations / sizeof *operations,
+        bucket_words, DAMSELBUCKLE_BUCKET_PLACES, bucket_coefs, DAMSELBUCKLE_BUCKET_PLACES,
+        work_words, DAMSELBUCKLE_WORK_PLACES, work_coefs, DAMSELBUCKLE_WORK_PLACES,
+        out_words, PLACES, out_coefs, PLACES);
+    return answer.places - 1;
+}
+
+/*
+ * A reduction that its step limit stops goes on from what it holds, and comes to the same remainder: that of
+ * x1^2*x2^2 + x2^4 + x1^2*x2 + x1*x2 + x2^2 + 1. After three leads x2^2 is held in two buckets.
+ */
+static void go_on(void)
+{
+    const uint32_t coefs[6] = {1, 1, 1, 1, 1, 1};
+    uint64_t condition[6], held_words[PLACES];
+    uint32_t held_coefs[PLACES];
+    size_t held;
+    damselbuckle_reduction_answer answer;
+
+    condition[0] = word(2, 2);
+    condition[1] = word(0, 4);
+    condition[2] = word(2, 1);
+    condition[3] = word(1, 1);
+    condition[4] = word(0, 2);
+    condition[5] = word(0, 0);
+    answer = by_joint(condition, coefs, 6, 3);
+    refused("third arm", answer.refusal, answer.leads);
+    print("  remainder so far", out_words, out_coefs, answer.terms);
+    held = add_held();
+    print("  held", out_words, out_coefs, held);
+    memcpy(held_words, out_words, held * sizeof *held_words);
+    memcpy(held_coefs, out_coefs, held * sizeof *held_coefs);
+    answer = by_joint(held_words, held_coefs, held, 1000);
+    print("  the rest of the remainder", out_words, out_coefs, answer.terms);
+    answer = by_joint(condition, coefs, 6, 1000);
+    print("  all of it at once", out_words, out_coefs, answer.terms);
 }
 
 /* Adds x1 - x2 twice, takes the lead and gives the rest. Then asks for a polynomial that is not there. */
@@ -96,8 +188,8 @@ static void run(void)
         bucket_words, DAMSELBUCKLE_BUCKET_PLACES, bucket_coefs, DAMSELBUCKLE_BUCKET_PLACES,
         work_words, DAMSELBUCKLE_WORK_PLACES, work_coefs, DAMSELBUCKLE_WORK_PLACES,
         out_words, PLACES, out_coefs, PLACES);
-    printf("wrong run: refusal %d, %d operations; the tally still has %d terms brought in\n",
-        (int)answer.refusal, (int)answer.finished, (int)tally.brought);
+    refused("wrong run", answer.refusal, answer.finished);
+    printf("  the tally still has %d terms brought in\n", (int)tally.brought);
 }
 
 /* Writes x1 - x2 to a block, reads it back, and reads it once more with a byte changed. */
@@ -118,7 +210,7 @@ static void blocks(void)
     print("  polynomial", out_words, out_coefs, read.terms);
     bytes[20] ^= 1;
     read = damselbuckle_read_blocks(bytes, sizeof bytes, out_words, PLACES, out_coefs, PLACES);
-    printf("read with a byte changed: refusal %d\n", (int)read.refusal);
+    refused("read with a byte changed", read.refusal, read.finished);
 }
 
 static void listing(void)
@@ -137,8 +229,9 @@ int main(void)
     const uint64_t condition[3] = {UINT64_C(3) << 48 | 1 << 8 | 2, UINT64_C(3) << 48 | 3 << 8, UINT64_C(1) << 48 | 1 << 8};
     const uint32_t coefs[3] = {1, 1, MINUS_1};
 
-    reduce("first arm", condition, coefs, 3);
-    reduce("second arm", condition, coefs, 2);
+    arm("first arm", condition, coefs, 3);
+    arm("second arm", condition, coefs, 2);
+    go_on();
     run();
     blocks();
     listing();

@@ -51,23 +51,14 @@ pub fn reduce(
 }
 
 fn polynomials(order: u32, given: &Given) -> raw::Given<'_> {
-    raw::Given {
-        p: given.p,
-        order,
-        n: given.n,
-        words: &given.terms.words,
-        coefs: &given.terms.coefs,
-        starts: &given.starts,
-    }
+    let numbers = raw::Numbers::new(given.p, order, given.n);
+    let terms = &given.terms;
+    raw::Given::new(numbers, &terms.words, &terms.coefs, &given.starts)
 }
 
 fn loan<'a>(tally: &'a mut Tally, memory: &'a mut Memory, output: &'a mut List) -> raw::Loan<'a> {
-    raw::Loan {
-        tally,
-        buckets: places(&mut memory.space),
-        work: places(&mut memory.work),
-        output: places(output),
-    }
+    let (buckets, work) = (places(&mut memory.space), places(&mut memory.work));
+    raw::Loan::new(tally, buckets, work, places(output))
 }
 
 fn places(list: &mut List) -> raw::Places<'_> {
@@ -76,7 +67,8 @@ fn places(list: &mut List) -> raw::Places<'_> {
 
 pub fn write(setting: Setting, terms: &List, bytes: &mut [u8]) -> WriteAnswer {
     let Setting { p, order, n } = setting;
-    raw::write_blocks([p, order, n], &terms.words, &terms.coefs, bytes)
+    let numbers = raw::Numbers::new(p, order, n);
+    raw::write_blocks(numbers, &terms.words, &terms.coefs, bytes)
 }
 
 pub fn read(bytes: &[u8], out: &mut List) -> ReadAnswer {

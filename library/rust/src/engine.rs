@@ -1,10 +1,12 @@
 //! Runs and reductions, with the spaces that they need.
+use crate::place;
 use crate::polynomials::{Polynomials, Setting, Term};
 use crate::raw::{self, Loan, Tally};
-use crate::{Refused, BUCKET_PLACES, WORK_PLACES};
+use crate::{Refused, BUCKET_PLACES, MOST_TERMS, WORK_PLACES};
 
 /// An operation of a run.
 #[derive(Clone, Copy, Debug, PartialEq, Eq, Hash)]
+#[non_exhaustive]
 pub enum Operation {
     /// Adds polynomial k.
     Add(usize),
@@ -26,6 +28,7 @@ impl Operation {
 
 /// What a lead or a sum gave.
 #[derive(Clone, Debug, PartialEq, Eq)]
+#[non_exhaustive]
 pub enum Output {
     /// Nothing where nothing was held.
     Lead(Option<Term>),
@@ -35,6 +38,7 @@ pub enum Output {
 
 /// A run that did all its operations.
 #[derive(Clone, Debug, PartialEq, Eq)]
+#[non_exhaustive]
 pub struct Run {
     /// What each lead and each sum gave, in turn.
     pub outputs: Vec<Output>,
@@ -43,6 +47,7 @@ pub struct Run {
 
 /// A reduction that came to its end.
 #[derive(Clone, Debug, PartialEq, Eq)]
+#[non_exhaustive]
 pub struct Reduction {
     /// The remainder of the division algorithm; no terms for zero.
     pub remainder: Vec<Term>,
@@ -53,11 +58,14 @@ pub struct Reduction {
 
 impl Reduction {
     /// Whether the remainder is zero: an arm whose closing condition was reduced by its equations
-    /// closes.
+    /// closes. Of a remainder that is not zero nothing follows: closing is not shown.
     pub fn is_zero(&self) -> bool {
         self.remainder.is_empty()
     }
 }
+
+/// The buckets of a bucket space, by the numbers from 1 up.
+const BUCKETS: u32 = 6;
 
 /// Owned places: words and coefficients.
 #[derive(Clone, Debug)]
@@ -77,6 +85,18 @@ impl Places {
     fn lent(&mut self) -> raw::Places<'_> {
         (&mut self.words, &mut self.coefs)
     }
+
+    /// The terms of each bucket of a bucket space: bucket i has 4^i places from (4^i − 4)/3 on, and its
+    /// terms come before its places of coefficient 0.
+    fn each_bucket(&self) -> impl Iterator<Item = (&[u64], &[u32])> {
+        let capacities = (1..=BUCKETS).map(|i| 4_usize.pow(i));
+        capacities.map(|capacity| {
+            let start = (capacity - 4) / 3;
+            let coefs = &self.coefs[start..start + capacity];
+            let terms = coefs.iter().take_while(|&&coef| coef != 0).count();
+            (&self.words[start..start + terms], &coefs[..terms])
+        })
+    }
 }
 
 /// Owns the bucket space, the work space and the output that runs and reductions need, and lends them to
@@ -85,8 +105,7 @@ impl Places {
 /// ```
 /// use damselbuckle::{Engine, Operation, Order, Output, Polynomials, Refusal, Setting};
 ///
-/// let setting = Setting { p: 7, order: Order::DegRevLex, n: 2 };
-/// let mut polynomials = Polynomials::new(setting);
+/// let mut polynomials = Polynomials::new(Setting::new(7, Order::DegRevLex, 2)?);
 /// polynomials.push(&[(3, [2, 0]), (1, [1, 1]), (1, [0, 2]), (1, [1, 0]), (1, [0, 1])])?;
 /// polynomials.push(&[(4, [2, 0])])?;
 ///
@@ -108,6 +127,15 @@ pub struct Engine {
     work: Places,
     output: Places,
     tally: Tally,
+    last: Option<Last>,
+}
+
+/// What is known of the last call that was not refused at its opening.
+#[derive(Clone, Copy, Debug)]
+struct Last {
+    setting: Setting,
+    /// Output places that it wrote.
+    places: usize,
 }
 
 impl Engine {
@@ -119,6 +147,7 @@ impl Engine {
             work: Places::new(WORK_PLACES),
             output: Places::new(output),
             tally: Tally::default(),
+            last: None,
         }
     }
 
@@ -131,10 +160,9 @@ impl Engine {
     ) -> Result<Run, Refused> {
         let pairs: Vec<usize> = operations.iter().flat_map(|o| o.pair()).collect();
         let answer = raw::run(polynomials.given(), &pairs, self.loan());
-        Refused::unless_0(answer.refusal, answer.finished, answer.places)?;
-        let outputs = self.outputs(polynomials.setting(), operations);
+        self.ended(polynomials, answer.refusal, answer.finished, answer.places)?;
         Ok(Run {
-            outputs,
+            outputs: self.outputs(operations),
             tally: self.tally,
         })
     }
@@ -147,8 +175,7 @@ impl Engine {
     /// ```
     /// use damselbuckle::{Engine, Order, Polynomials, Refusal, Setting};
     ///
-    /// let setting = Setting { p: 32003, order: Order::DegRevLex, n: 2 };
-    /// let mut polynomials = Polynomials::new(setting);
+    /// let mut polynomials = Polynomials::new(Setting::new(32003, Order::DegRevLex, 2)?);
     /// // The closing condition x1²·x2 + x2³ − x2, and the joint equation x1² + x2² − 1.
     /// polynomials.push(&[(1, [2, 1]), (1, [0, 3]), (32002, [0, 1])])?;
     /// polynomials.push(&[(1, [2, 0]), (1, [0, 2]), (32002, [0, 0])])?;
@@ -166,21 +193,142 @@ impl Engine {
     /// ```
     pub fn reduce(&mut self, polynomials: &Polynomials, limit: u64) -> Result<Reduction, Refused> {
         let answer = raw::reduce(polynomials.given(), limit, self.loan());
-        Refused::unless_0(answer.refusal, answer.leads, answer.terms)?;
-        let terms = answer.terms as usize;
-        let Places { words, coefs } = &self.output;
+        self.ended(polynomials, answer.refusal, answer.leads, answer.terms)?;
         Ok(Reduction {
-            remainder: polynomials
-                .setting()
-                .terms(&words[..terms], &coefs[..terms]),
+            remainder: self.given(),
             leads: answer.leads,
             tally: self.tally,
         })
     }
 
+    /// Keeps what is known of a call that has ended, and says where polynomials that it refused are at
+    /// fault.
+    fn ended(
+        &mut self,
+        polynomials: &Polynomials,
+        number: u64,
+        finished: u64,
+        places: u64,
+    ) -> Result<(), Refused> {
+        let ended = Refused::unless_0(number, finished, places);
+        if ended.is_ok() || ended.is_err_and(|refused| refused.refusal.stops()) {
+            self.last = Some(Last {
+                setting: polynomials.setting(),
+                places: places as usize,
+            });
+        }
+        ended.map_err(|refused| refused.at(place::of(polynomials, refused.refusal)))
+    }
+
     /// The counts of the last call that was not refused at its opening; all 0 before the first.
     pub fn tally(&self) -> Tally {
         self.tally
+    }
+
+    /// The terms that the last call gave out, in turn: of a run the leads and the sums, without the places
+    /// of zero; of a reduction the remainder, as far as it came. (A call that was refused at its opening
+    /// does not count.)
+    ///
+    /// A run that was stopped because its output is full goes on from what it holds:
+    ///
+    /// ```
+    /// use damselbuckle::{Engine, Operation, Order, Polynomials, Refusal, Setting, Term};
+    ///
+    /// let mut polynomials = Polynomials::new(Setting::new(7, Order::DegRevLex, 2)?);
+    /// polynomials.push(&[(1, [2, 0]), (3, [0, 1]), (5, [0, 0])])?; // x1² + 3·x2 + 5
+    ///
+    /// // There is room for one lead, and three are asked for.
+    /// let mut engine = Engine::new(1);
+    /// let mut operations = vec![Operation::Add(0), Operation::Lead, Operation::Lead, Operation::Lead];
+    /// let mut leads = Vec::new();
+    /// while let Err(refused) = engine.run(&polynomials, &operations) {
+    ///     assert_eq!(refused.refusal, Refusal::NoOutput);
+    ///     leads.extend(engine.given());
+    ///     // What is held is added first, and the operations that are left follow.
+    ///     let held = polynomials.push_terms(&engine.held())?;
+    ///     operations.splice(..refused.finished as usize, [Operation::Add(held)]);
+    /// }
+    /// leads.extend(engine.given());
+    /// assert_eq!(leads, [Term::new(1, [2, 0]), Term::new(3, [0, 1]), Term::new(5, [0, 0])]);
+    /// # Ok::<(), damselbuckle::Refused>(())
+    /// ```
+    pub fn given(&self) -> Vec<Term> {
+        self.places().flatten().collect()
+    }
+
+    /// What each lead and each sum of the last call gave, where it was a run of these operations; of a
+    /// stopped one, as far as it came.
+    pub fn outputs(&self, operations: &[Operation]) -> Vec<Output> {
+        let mut places = self.places();
+        let outputs = operations.iter().map_while(|operation| match operation {
+            Operation::Add(_) => Some(None),
+            Operation::Lead => places.next().map(|lead| Some(Output::Lead(lead))),
+            Operation::Sum => {
+                let first = places.next()?;
+                let terms = std::iter::once(first).chain(places.by_ref());
+                Some(Some(Output::Sum(terms.map_while(|term| term).collect())))
+            }
+        });
+        outputs.flatten().collect()
+    }
+
+    /// The terms that the last call still holds, like terms added up: a polynomial to go on with. The
+    /// buckets are added up by a run of their own, and stay as they are.
+    ///
+    /// A reduction that was stopped goes on from them, and comes to the remainder that it would have had:
+    ///
+    /// ```
+    /// use damselbuckle::{Engine, Order, Polynomials, Refusal, Setting};
+    ///
+    /// let setting = Setting::new(7, Order::DegRevLex, 2)?;
+    /// let mut whole = Polynomials::new(setting);
+    /// whole.push(&[(1, [2, 1]), (1, [1, 2]), (1, [0, 2])])?; // x1²·x2 + x1·x2² + x2²
+    /// whole.push(&[(1, [1, 1]), (6, [0, 0])])?; // by x1·x2 − 1
+    /// whole.push(&[(1, [0, 2]), (6, [0, 0])])?; // and x2² − 1
+    ///
+    /// let mut engine = Engine::new(100);
+    /// let refused = engine.reduce(&whole, 4).unwrap_err();
+    /// assert_eq!((refused.refusal, refused.finished), (Refusal::StepLimit, 4));
+    /// let mut remainder = engine.given();
+    ///
+    /// // What is held, by the same divisors.
+    /// let mut rest = Polynomials::new(setting);
+    /// rest.push_terms(&engine.held())?;
+    /// for k in 1..whole.count() {
+    ///     rest.push_terms(&whole.terms(k).expect("a divisor"))?;
+    /// }
+    /// let reduction = engine.reduce(&rest, 100)?;
+    /// remainder.extend(reduction.remainder);
+    ///
+    /// let at_once = engine.reduce(&whole, 100)?;
+    /// assert_eq!(remainder, at_once.remainder); // x1 + x2 + 1
+    /// assert_eq!(refused.finished + reduction.leads, at_once.leads);
+    /// # Ok::<(), damselbuckle::Refused>(())
+    /// ```
+    pub fn held(&self) -> Vec<Term> {
+        let Some(Last { setting, .. }) = self.last else {
+            return Vec::new();
+        };
+        let mut buckets = Polynomials::new(setting);
+        let mut operations = Vec::new();
+        for (words, coefs) in self.buckets.each_bucket() {
+            operations.push(Operation::Add(buckets.push_words(words, coefs)));
+        }
+        operations.push(Operation::Sum);
+        let mut summed = Engine::new(MOST_TERMS + 1);
+        let run = summed.run(&buckets, &operations);
+        run.expect("what is held can be added up");
+        summed.given()
+    }
+
+    /// The output places of the last call: a term, or none for zero.
+    fn places(&self) -> impl Iterator<Item = Option<Term>> + '_ {
+        let Places { words, coefs } = &self.output;
+        let written = self.last.iter().flat_map(move |&Last { setting, places }| {
+            let written = words[..places].iter().zip(&coefs[..places]);
+            written.map(move |(&word, &coef)| (coef != 0).then(|| setting.term(word, coef)))
+        });
+        written
     }
 
     /// The words and coefficients of the bucket space, as the last call left them: the terms that a
@@ -191,46 +339,16 @@ impl Engine {
 
     /// The words and coefficients of the output, as the calls so far left them. What a stopped call gave
     /// out are the first [`Refused::places`] of them.
-    ///
-    /// ```
-    /// use damselbuckle::{Engine, Order, Polynomials, Refusal, Setting};
-    ///
-    /// let setting = Setting { p: 7, order: Order::DegRevLex, n: 2 };
-    /// let mut polynomials = Polynomials::new(setting);
-    /// polynomials.push(&[(1, [2, 0]), (3, [0, 1]), (5, [0, 0])])?; // x1² + 3·x2 + 5, by nothing
-    ///
-    /// let mut engine = Engine::new(100);
-    /// let refused = engine.reduce(&polynomials, 2).unwrap_err();
-    /// assert_eq!((refused.refusal, refused.places), (Refusal::StepLimit, 2));
-    /// let (words, coefs) = engine.output();
-    /// let remainder = setting.terms(&words[..refused.places], &coefs[..refused.places]);
-    /// assert_eq!(remainder[1].coef, 3); // x1² + 3·x2 so far
-    /// # Ok::<(), damselbuckle::Refused>(())
-    /// ```
     pub fn output(&self) -> (&[u64], &[u32]) {
         (&self.output.words, &self.output.coefs)
     }
 
-    fn loan(&mut self) -> Loan<'_> {
-        Loan {
-            tally: &mut self.tally,
-            buckets: self.buckets.lent(),
-            work: self.work.lent(),
-            output: self.output.lent(),
-        }
-    }
-
-    /// What each lead and sum of a run gave. A coefficient 0 is a zero place: a lead of zero, or the end
-    /// of a sum.
-    fn outputs(&self, setting: Setting, operations: &[Operation]) -> Vec<Output> {
-        let Places { words, coefs } = &self.output;
-        let places = words.iter().zip(coefs);
-        let mut terms = places.map(|(&w, &c)| (c != 0).then(|| setting.term(w, c)));
-        let outputs = operations.iter().filter_map(|operation| match operation {
-            Operation::Add(_) => None,
-            Operation::Lead => Some(Output::Lead(terms.next().flatten())),
-            Operation::Sum => Some(Output::Sum(terms.by_ref().map_while(|t| t).collect())),
-        });
-        outputs.collect()
+    pub(crate) fn loan(&mut self) -> Loan<'_> {
+        Loan::new(
+            &mut self.tally,
+            self.buckets.lent(),
+            self.work.lent(),
+            self.output.lent(),
+        )
     }
 }

@@ -1,10 +1,11 @@
 //! The C functions as they are, and each of them on slices. They take any numbers and any slices, and
 //! answer with numbers; [`Engine`](crate::Engine) and the functions beside it are the same in types that say more.
-//! `library/damselbuckle.h` has what each parameter and each number means.
+//! `library/damselbuckle.h` has what each parameter and each number means; this module changes with it.
 
 /// The counts that a run or a reduction sets.
 #[repr(C)]
 #[derive(Clone, Copy, Debug, Default, PartialEq, Eq)]
+#[non_exhaustive]
 pub struct Tally {
     /// Comparisons of monomials.
     pub comparisons: u64,
@@ -161,15 +162,40 @@ extern "C" {
     ) -> ListingAnswer;
 }
 
-/// Polynomials with their setting, as a run or a reduction is given them.
-#[derive(Clone, Copy, Debug)]
-pub struct Given<'a> {
+/// A prime, an order and a number of variables, as the functions take them: any numbers.
+#[derive(Clone, Copy, Debug, PartialEq, Eq)]
+#[non_exhaustive]
+pub struct Numbers {
     pub p: u32,
     pub order: u32,
     pub n: u32,
+}
+
+impl Numbers {
+    pub fn new(p: u32, order: u32, n: u32) -> Self {
+        Numbers { p, order, n }
+    }
+}
+
+/// Polynomials with their numbers, as a run or a reduction is given them.
+#[derive(Clone, Copy, Debug)]
+#[non_exhaustive]
+pub struct Given<'a> {
+    pub numbers: Numbers,
     pub words: &'a [u64],
     pub coefs: &'a [u32],
     pub starts: &'a [usize],
+}
+
+impl<'a> Given<'a> {
+    pub fn new(numbers: Numbers, words: &'a [u64], coefs: &'a [u32], starts: &'a [usize]) -> Self {
+        Given {
+            numbers,
+            words,
+            coefs,
+            starts,
+        }
+    }
 }
 
 /// Lent places: words and coefficients.
@@ -177,11 +203,28 @@ pub type Places<'a> = (&'a mut [u64], &'a mut [u32]);
 
 /// What a run or a reduction is lent and sets.
 #[derive(Debug)]
+#[non_exhaustive]
 pub struct Loan<'a> {
     pub tally: &'a mut Tally,
     pub buckets: Places<'a>,
     pub work: Places<'a>,
     pub output: Places<'a>,
+}
+
+impl<'a> Loan<'a> {
+    pub fn new(
+        tally: &'a mut Tally,
+        buckets: Places<'a>,
+        work: Places<'a>,
+        output: Places<'a>,
+    ) -> Self {
+        Loan {
+            tally,
+            buckets,
+            work,
+            output,
+        }
+    }
 }
 
 // SAFETY of each call below: the function asks nothing of numbers or slices, stays within the length of
@@ -196,9 +239,9 @@ pub fn run(given: Given, ops: &[usize], loan: Loan) -> RunAnswer {
     unsafe {
         damselbuckle_run(
             loan.tally,
-            given.p,
-            given.order,
-            given.n,
+            given.numbers.p,
+            given.numbers.order,
+            given.numbers.n,
             given.words.as_ptr(),
             given.words.len(),
             given.coefs.as_ptr(),
@@ -231,9 +274,9 @@ pub fn reduce(given: Given, limit: u64, loan: Loan) -> ReductionAnswer {
     unsafe {
         damselbuckle_reduce(
             loan.tally,
-            given.p,
-            given.order,
-            given.n,
+            given.numbers.p,
+            given.numbers.order,
+            given.numbers.n,
             given.words.as_ptr(),
             given.words.len(),
             given.coefs.as_ptr(),
@@ -259,16 +302,16 @@ pub fn reduce(given: Given, limit: u64, loan: Loan) -> ReductionAnswer {
 
 /// Writes a polynomial, with its prime, order and number of variables, to blocks.
 pub fn write_blocks(
-    [p, order, n]: [u32; 3],
+    numbers: Numbers,
     words: &[u64],
     coefs: &[u32],
     bytes: &mut [u8],
 ) -> WriteAnswer {
     unsafe {
         damselbuckle_write_blocks(
-            p,
-            order,
-            n,
+            numbers.p,
+            numbers.order,
+            numbers.n,
             words.as_ptr(),
             words.len(),
             coefs.as_ptr(),

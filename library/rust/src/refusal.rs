@@ -4,6 +4,7 @@ use std::fmt;
 // made from refusals.txt by make_refusals: begin
 /// Why a call was refused or stopped. The numbers are those of the C functions.
 #[derive(Clone, Copy, Debug, PartialEq, Eq, Hash)]
+#[non_exhaustive]
 #[repr(u8)]
 pub enum Refusal {
     /// p is not a prime from 2 to 65,521
@@ -44,7 +45,7 @@ pub enum Refusal {
 
 impl Refusal {
     /// All of them, by number.
-    pub const ALL: [Refusal; 17] = [
+    pub const ALL: &'static [Refusal] = &[
         Refusal::NotPrime,
         Refusal::BadOrder,
         Refusal::BadVariables,
@@ -63,6 +64,12 @@ impl Refusal {
         Refusal::BadBlock,
         Refusal::BadScript,
     ];
+
+    /// Whether it stops a run or a reduction that has begun: what was given out and what is held stays.
+    #[rustfmt::skip]
+    pub fn stops(self) -> bool {
+        matches!(self, Refusal::NoOutput | Refusal::TooManyTerms | Refusal::ExponentOver | Refusal::StepLimit)
+    }
 
     /// What it means.
     #[rustfmt::skip]
@@ -98,7 +105,7 @@ impl Refusal {
 
     /// The refusal of a number; none for 0, and for a number that no call gives.
     pub fn from_number(number: u64) -> Option<Self> {
-        Self::ALL.into_iter().find(|r| r.number() == number)
+        Self::ALL.iter().copied().find(|r| r.number() == number)
     }
 }
 
@@ -108,18 +115,44 @@ impl fmt::Display for Refusal {
     }
 }
 
-/// A call that was refused at its opening, or stopped.
-///
-/// ```
-/// use damselbuckle::{Refusal, Refused};
-///
-/// let refused = Refused { refusal: Refusal::StepLimit, finished: 5, places: 2 };
-/// assert_eq!(
-///     refused.to_string(),
-///     "refused 13 after 5: the step limit is reached, and a lead is left"
-/// );
-/// ```
+/// The place of a fault: a polynomial, and one of its terms where that is at fault, both counted from 0.
+/// Where the terms do not fall, it is the first that is not below the one before it.
 #[derive(Clone, Copy, Debug, PartialEq, Eq, Hash)]
+#[non_exhaustive]
+pub struct Place {
+    pub polynomial: usize,
+    pub term: Option<usize>,
+}
+
+impl Place {
+    pub(crate) fn of_polynomial(polynomial: usize) -> Self {
+        Place {
+            polynomial,
+            term: None,
+        }
+    }
+
+    pub(crate) fn of_term(polynomial: usize, term: usize) -> Self {
+        Place {
+            polynomial,
+            term: Some(term),
+        }
+    }
+}
+
+impl fmt::Display for Place {
+    fn fmt(&self, f: &mut fmt::Formatter) -> fmt::Result {
+        write!(f, "polynomial {}", self.polynomial)?;
+        match self.term {
+            Some(term) => write!(f, ", term {term}"),
+            None => Ok(()),
+        }
+    }
+}
+
+/// A call that was refused at its opening, or stopped.
+#[derive(Clone, Copy, Debug, PartialEq, Eq, Hash)]
+#[non_exhaustive]
 pub struct Refused {
     /// Why.
     pub refusal: Refusal,
@@ -128,6 +161,8 @@ pub struct Refused {
     /// Output places that a run or a reduction wrote before: the first of
     /// [`Engine::output`](crate::Engine::output).
     pub places: usize,
+    /// Where one of the polynomials that the call was given is at fault.
+    pub at: Option<Place>,
 }
 
 impl Refused {
@@ -137,6 +172,7 @@ impl Refused {
             refusal,
             finished: 0,
             places: 0,
+            at: None,
         }
     }
 
@@ -150,14 +186,23 @@ impl Refused {
             refusal,
             finished,
             places: places as usize,
+            at: None,
         })
+    }
+
+    pub(crate) fn at(self, at: Option<Place>) -> Self {
+        Refused { at, ..self }
     }
 }
 
 impl fmt::Display for Refused {
     fn fmt(&self, f: &mut fmt::Formatter) -> fmt::Result {
         let (number, finished) = (self.refusal.number(), self.finished);
-        write!(f, "refused {number} after {finished}: {}", self.refusal)
+        write!(f, "refused {number} after {finished}: {}", self.refusal)?;
+        match self.at {
+            Some(place) => write!(f, " ({place})"),
+            None => Ok(()),
+        }
     }
 }
 

@@ -4,7 +4,7 @@
 mod declared;
 mod texts;
 
-use damselbuckle::raw::{self, Given, Loan, Tally};
+use damselbuckle::raw::{self, Given, Loan, Numbers, Tally};
 use damselbuckle::{
     Refusal, BLOCK_BYTES, BUCKET_PLACES, LISTING_BYTES, MOST_BLOCKS, MOST_TERMS, WORK_PLACES,
 };
@@ -131,14 +131,8 @@ fn layouts() -> String {
 fn calls() -> String {
     let x = 1 << 48 | 1 << 40;
     let (words, coefs) = (&[x, 0, x], &[1, 1, 1]);
-    let given = Given {
-        p: 5,
-        order: 1,
-        n: 1,
-        words,
-        coefs,
-        starts: &[0, 2, 3],
-    };
+    let numbers = Numbers::new(5, 1, 1);
+    let given = Given::new(numbers, words, coefs, &[0, 2, 3]);
     let (mut ow, mut oc, mut bytes) = ([0; 9], [0; 9], [0; BLOCK_BYTES]);
     let (ran, t) = lending((&mut ow, &mut oc), |loan| {
         raw::run(given, &[1, 0, 1, 1, 3, 0], loan)
@@ -151,7 +145,7 @@ fn calls() -> String {
         &[reduced.refusal, reduced.leads, reduced.terms],
         &counts(t),
     );
-    let w = raw::write_blocks([5, 1, 1], &words[..2], &coefs[..2], &mut bytes);
+    let w = raw::write_blocks(numbers, &words[..2], &coefs[..2], &mut bytes);
     lines += &line("write_blocks", &[w.refusal, w.finished, w.blocks], &[]);
     let r = raw::read_blocks(&bytes, &mut ow, &mut oc);
     lines += &line(
@@ -166,12 +160,12 @@ fn calls() -> String {
 /// What a call answers that is lent fresh spaces, and its tally.
 fn lending<A>(output: raw::Places, call: impl FnOnce(Loan) -> A) -> (A, Tally) {
     let mut tally = Tally::default();
-    let answer = call(Loan {
-        tally: &mut tally,
-        buckets: (&mut [0; BUCKET_PLACES], &mut [0; BUCKET_PLACES]),
-        work: (&mut [0; WORK_PLACES], &mut [0; WORK_PLACES]),
+    let answer = call(Loan::new(
+        &mut tally,
+        (&mut [0; BUCKET_PLACES], &mut [0; BUCKET_PLACES]),
+        (&mut [0; WORK_PLACES], &mut [0; WORK_PLACES]),
         output,
-    });
+    ));
     (answer, tally)
 }
 
@@ -180,10 +174,20 @@ fn line(name: &str, answer: &[u64], tally: &[u64]) -> String {
     format!("{name}{}\n", numbers.collect::<String>())
 }
 
+/// The text of each number.
+fn refusal_texts() -> String {
+    let text = |number| match Refusal::from_number(number) {
+        Some(refusal) => refusal.meaning(),
+        None if number == 0 => "none",
+        None => "unknown",
+    };
+    (0..100).map(|n| format!("{n} {}\n", text(n))).collect()
+}
+
 #[test]
 fn layouts_and_answers_are_the_same_in_c() {
     let c = printed("library/rust/tests/layout.c", "layout");
-    assert_eq!(c, layouts() + &calls());
+    assert_eq!(c, layouts() + &calls() + &refusal_texts());
     assert!(c.contains("\nreduce 0 2 1 "), "x1 + 1 by x1 leaves 1");
 }
 
@@ -192,7 +196,7 @@ fn header_and_rust_declare_what_rattle_exports() {
     let header = in_c(&text("library/damselbuckle.h"));
     let raw = text("library/rust/src/raw.rs");
     let (declarations, _) = raw
-        .split_once("\n}\n\n/// Polynomials")
+        .split_once("\n}\n\n/// A prime")
         .expect("the extern block ends");
     let rust = in_rust(declarations, "    pub fn ", ';');
     let mut rattle = in_rust(&text("crates/call/src/answer.rt"), "extern \"C\" fn ", '\n');
@@ -228,7 +232,7 @@ fn constants(text: &str) -> BTreeMap<&str, (&str, u64)> {
 }
 
 /// Limits of crates/limits that a caller does not need, and limits of blocks, which it does not have.
-const WITHIN: [&str; 2] = ["SCRIPT_TERMS", "SCRIPT_NUMBERS"];
+const WITHIN: [&str; 3] = ["SCRIPT_TERMS", "SCRIPT_STARTS", "SCRIPT_NUMBERS"];
 const OF_BLOCKS: [&str; 2] = ["BLOCK_BYTES", "MOST_BLOCKS"];
 
 #[test]
@@ -256,7 +260,8 @@ fn the_header_has_the_numbers() {
     let operations = [("ADD", 1), ("LEAD", 2), ("SUM", 3)];
     let numbers = limits.chain(orders).chain(operations);
     let numbers = numbers.map(|(name, number)| (name.to_string(), number));
-    let refusals = Refusal::ALL.map(|r| (snake(&format!("{r:?}")).to_uppercase(), r.number()));
+    let refusals = Refusal::ALL.iter();
+    let refusals = refusals.map(|r| (snake(&format!("{r:?}")).to_uppercase(), r.number()));
     let header = text("library/damselbuckle.h");
     let defined = defined(&header).into_iter();
     let defined: BTreeMap<String, u64> = defined.map(|(n, k)| (n.to_string(), k)).collect();

@@ -1,6 +1,7 @@
 /*
- * Prints the size of every struct of the header, where each of its fields lies, and what each function
- * answers to a small call; tests/header.rs makes the same lines from the declarations in Rust.
+ * Prints the size of every struct of the header, where each of its fields lies, what each function
+ * answers to a small call, and the text of each refusal; tests/header.rs makes the same lines from the
+ * declarations in Rust.
  */
 #include "damselbuckle.h"
 
@@ -102,9 +103,18 @@ static void calls(void)
     printf("\n");
 }
 
+static void texts(void)
+{
+    uint64_t refusal;
+
+    for (refusal = 0; refusal < 100; refusal++)
+        printf("%d %s\n", (int)refusal, damselbuckle_refusal_text(refusal));
+}
+
 int main(void)
 {
     layouts();
     calls();
+    texts();
     return 0;
 }

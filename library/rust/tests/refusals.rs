@@ -2,7 +2,7 @@
 //! wrapper and docs/INTEGRATION.md. A row too many or too few, in the file or in one of them, is found.
 mod texts;
 
-use damselbuckle::{Refusal, Refused};
+use damselbuckle::{Engine, Order, Polynomials, Refusal, Setting};
 use std::collections::BTreeSet;
 use std::process::Command;
 use texts::{defined, root, snake, text, with_commas};
@@ -85,24 +85,47 @@ fn rattle_has_the_rows() {
 
 #[test]
 fn the_wrapper_has_the_rows() {
-    let own = Refusal::ALL.map(|r| (r.number(), format!("{r:?}"), r.meaning().to_string()));
+    let own = Refusal::ALL.iter().map(|r| {
+        let (name, meaning) = (format!("{r:?}"), r.meaning().to_string());
+        (r.number(), name, meaning, r.stops())
+    });
+    let own: Vec<_> = own.collect();
     let rows = rows().into_iter();
-    let rows: Vec<_> = rows.map(|r| (r.number, r.name, r.meaning)).collect();
-    assert_eq!(own[..], rows);
-    for refusal in Refusal::ALL {
-        let error: Box<dyn std::error::Error> = Box::new(Refused {
-            refusal,
-            finished: 3,
-            places: 1,
-        });
-        let said = format!("refused {} after 3: {refusal}", refusal.number());
-        assert_eq!(error.to_string(), said);
-    }
+    let rows = rows.map(|r| (r.number, r.name, r.meaning, r.leaves.starts_with("stopped")));
+    assert_eq!(own, rows.collect::<Vec<_>>());
     for number in 0..1_000 {
         let named = own.iter().find(|row| row.0 == number).map(|row| &row.1);
         let found = Refusal::from_number(number).map(|r| format!("{r:?}"));
         assert_eq!(found.as_ref(), named);
     }
+}
+
+/// A refusal says its number, how much was finished and its meaning; and its place, where it has one.
+#[test]
+fn refusals_are_said() {
+    let setting = Setting::new(7, Order::Lex, 1).expect("a setting");
+    let mut polynomials = Polynomials::new(setting);
+    polynomials
+        .push(&[(1, [2]), (1, [1]), (1, [0])])
+        .expect("one exponent");
+    let said = |polynomials: &Polynomials| -> Box<dyn std::error::Error> {
+        Box::new(
+            Engine::new(2)
+                .reduce(polynomials, 9)
+                .expect_err("a refusal"),
+        )
+    };
+    let no_output = format!("refused 10 after 2: {}", Refusal::NoOutput);
+    assert_eq!(said(&polynomials).to_string(), no_output);
+    polynomials.push::<[u8; 1]>(&[]).expect("zero");
+    let zero = format!("refused 7 after 0: {} (polynomial 1)", Refusal::ZeroDivisor);
+    assert_eq!(said(&polynomials).to_string(), zero);
+    polynomials
+        .push(&[(1, [2]), (7, [1])])
+        .expect("one exponent");
+    let bad = Refusal::BadCoefficient;
+    let bad = format!("refused 4 after 0: {bad} (polynomial 2, term 1)");
+    assert_eq!(said(&polynomials).to_string(), bad);
 }
 
 /// What each call gives, as the header says it.
@@ -136,7 +159,9 @@ fn the_header_has_the_rows() {
         expected.push(format!("/* {}. After it: {}. */", r.meaning, r.leaves));
         expected.push(format!("#define DAMSELBUCKLE_{name} {}", r.number));
     }
-    assert_eq!(part.lines().collect::<Vec<_>>(), expected);
+    let (table, function) = part.split_at(part.find("/* The text").expect("the texts"));
+    assert_eq!(table.lines().collect::<Vec<_>>(), expected);
+    assert_eq!(function.matches("case ").count(), 1 + rows.len());
 }
 
 #[test]
@@ -154,7 +179,7 @@ fn the_guide_has_the_rows() {
 
 /// Where Python is installed. The tests above do without it.
 #[test]
-fn nothing_is_to_be_made_anew() {
+fn nothing_is_to_be_made_again() {
     let checked = Command::new("python3")
         .args(["library/make_refusals", "--check"])
         .current_dir(root())
