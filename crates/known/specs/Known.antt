@@ -1,4 +1,4 @@
--- Document 01, "Known results": the starred ones, as a table. Each row but those on monomials is about the outcome of a call. Assumes nothing.
+-- Document 01, "Known results": the starred ones, as a table, and forms of texts and bytes that it fixes in words. Each row but those on monomials is about the outcome of a call. Assumes nothing.
 use Prim.Native.Nat.{ℕ, _+_, _≤_, Ordering·gt}
 use Prim.Native.Char.{code}
 use Prim.Native.String.{String, [] as no-more, _∷_ as _then_}
@@ -84,6 +84,8 @@ pub data Result : Type 0 where
   stops : (limit : ℕ) → List (Term ℕ) → List (List (Term ℕ)) → (refusal leads : ℕ) → Result
   -- the polynomial is written as one block with this check
   stores : List (Term ℕ) → (check : ℕ) → Result
+  -- in its block, the first place holds these bytes
+  placed : List (Term ℕ) → (bytes : List ℕ) → Result
 
 -- the listing's entry writes this text, whatever its output held, and leaves what is past it
 abbrev pub Prints : (script text : List ℕ) → Type 0
@@ -100,6 +102,7 @@ Says (stops limit f gs refusal leads) = let o = reduction-of limit f gs in (o .a
 Says (stores f check) =
     let o = writeOutcome in-7 (T.words f) (T.coefs f) (zeros 512) in
     (o .answer .number ≡ 0) × (o .answer .blocks ≡ 1) × (length (o .bytes) ≡ 512) × (numberAt 4 508 (o .bytes) ≡ check)
+Says (placed f bytes) = take 12 (drop 16 (writeOutcome in-7 (T.words f) (T.coefs f) (zeros 512) .bytes)) ≡ bytes
 
 -- each result of a list holds
 abbrev pub Hold : List Result → Type 0
@@ -112,6 +115,19 @@ script = "prime 7" ∷ "order dp" ∷ "vars 2" ∷ "add 3:2.0 1:1.1 1:0.2 1:1.0 
 
 abbrev pub listing : List String
 listing = "lead 1:1.1" ∷ "sum 1:0.2 1:1.0 1:0.1" ∷ "cost 1 of 72" ∷ []
+
+-- a script that adds nothing, and one with a number that is no prime
+abbrev pub nothing-added : List String
+nothing-added = "prime 7" ∷ "order dp" ∷ "vars 2" ∷ "lead" ∷ "sum" ∷ []
+
+abbrev pub zero-lines : List String
+zero-lines = "lead zero" ∷ "sum zero" ∷ "cost 0 of 0" ∷ []
+
+abbrev pub bad-prime : List String
+bad-prime = "prime 8" ∷ "order dp" ∷ "vars 2" ∷ "sum" ∷ []
+
+abbrev pub refused-line : List String
+refused-line = "refused 1 at 0" ∷ []
 
 abbrev pub table : List Result
 table =
@@ -138,4 +154,10 @@ table =
     ∷ stops 2 (in-dp 1 (127 ∷ 2 ∷ []) ∷ []) (by-x1 ∷ []) 12 0
     -- "* Zero, p = 7, dp, n = 2: check 00080204 (hexadecimal)."
     ∷ stores [] 0x0008_0204
+    -- "Zero prints `lead zero` or `sum zero`."
+    ∷ prints nothing-added zero-lines
+    -- "A refusal prints `refused R at K` (number, operations finished) as the last line, without a cost."
+    ∷ prints bad-prime refused-line
+    -- "Numbers are little-endian."; "41 places of 12 bytes (word, coefficient)": 3·x1²·x2
+    ∷ placed (in-dp 3 (2 ∷ 1 ∷ []) ∷ []) (2 ∷ 1 ∷ 0 ∷ 0 ∷ 0 ∷ 0 ∷ 3 ∷ 0 ∷ 3 ∷ 0 ∷ 0 ∷ 0 ∷ [])
     ∷ []
