@@ -1,25 +1,25 @@
 -- The terms in blocks, place by place. Assumes nothing.
 use mathlib.Core.Path.{_≡_, refl, sym, ap, ap₂, _∙_}
-use mathlib.Core.Bool.{Bool}
+use mathlib.Core.Bool.{Bool, true, false}
 use mathlib.Core.List.{List, [], _∷_, _++_, map, map-append}
-use Prim.Native.Nat.{ℕ, zero, suc, _+_, _-_, _*_, _/_, _%_, _^_, _<_, _≤_, Ordering}
+use Prim.Native.Nat.{ℕ, zero, suc, _+_, _*_, _/_, _%_, _<_, _≤_}
 use native.Mathlib.Decide.{decLe}
 use native.Mathlib.Nat.{mul-add-mod-self-left, mod-eq-of-lt}
 use native.Mathlib.Numerals.{add-one}
 use native.Mathlib.Omega.{arith}
 use borrow.Author.Tests.{eq-eqb, ne-eqb}
-use lib.ListN.{length, getD, set, length-append, length-map, length-set, List·getD-map, List·getD-append}
-use lib.Seq.{sets, getD-at}
+use lib.ListN.{length, getD, set, drop, length-append, length-map, length-set, List·getD-append}
+use lib.Seq.{sets, getD-at, drop-cons}
 use Rattle.monomial.specs.declared.order.Order.{Order}
-use Rattle.monomial.specs.Words.{compareWords, keyOf}
-use Rattle.polynomial.specs.Terms.{Term, term, terms, words, coefs}
-use Rattle.polynomial.specs.Opening.{termRefusal, refusalOf, isLarger, orderNext, orderAfter}
-use Rattle.polynomial.proofs.TermLists.{terms-of}
-use Rattle.polynomial.proofs.OpeningLaws.{Looked, look-start, look-stop, look-next, look-ends, still-falls, no-fall}
+use Rattle.monomial.specs.Words.{compareWords}
+use Rattle.polynomial.specs.Terms.{Term, term, words, coefs}
+use Rattle.polynomial.specs.Opening.{termRefusal, refusalOf}
+use Rattle.polynomial.specs.Checking.{Carried, unseen, verdict, lateAfter}
+use Rattle.polynomial.proofs.CheckingLaws.{Looked, look-start, look-stop, look-next, look-ends, stop-first, carry-whole}
 use Rattle.merge_common.proofs.Lists.{sets-snoc}
 use Rattle.block.specs.Block.{numberAt}
 use Rattle.block_form.specs.Form.{Lying}
-use Rattle.blocks.specs.Reading.{placeAt, nextBy, nextPlace, termAt, firstTerms, orderStep}
+use Rattle.blocks.specs.Reading.{placeAt, nextBy, nextPlace, termAt, firstTerms}
 
 -- ---- places
 pub next-is : (i : ℕ) → nextPlace (placeAt i) ≡ placeAt (i + 1)
@@ -67,66 +67,44 @@ first-at s (suc k) i h = go (λ l. first-at s k i l) (decLe k i)
     go again (no l) = List·getD-append (firstTerms s k) (termAt s k ∷ []) (term 0 0) i (omega (arith, length-first s k)) ∙ again (omega arith)
 
 -- ---- the opening check over the places
-order-step : (cmp : ℕ → ℕ → Ordering) (ws : List ℕ) (i last word late : ℕ) → (0 < i → last ≡ getD ws (i - 1) 0) → word ≡ getD ws i 0 → orderStep cmp i last word late ≡ orderAfter cmp ws i late
-order-step cmp ws zero last word late e f = refl
-order-step cmp ws (suc i) last word late e f =
-    let z : suc i - 1 ≡ i = omega arith in
-    ap₂ (λ (x y : ℕ). orderNext (isLarger (cmp x y)) late) (e (omega arith) ∙ ap (λ (n : ℕ). getD ws n 0) z) f
-
-module _ (o : Order) (i last word late a b : ℕ) (later : i ≡ 0 → ⊥) (hw : word < 2 ^ 64) (hl : last < 2 ^ 64) (ea : a ≡ keyOf o word) (eb : b ≡ keyOf o last) where
-  step-some : (j : ℕ) → (j ≡ 0 → ⊥) → orderNext (isLarger (compareWords o last word)) late ≡ orderStep (compareWords o) j last word late
-  step-some zero f = absurd (f refl)
-  step-some (suc j) f = refl
-
-  pub step-falls : a < b → late ≡ orderStep (compareWords o) i last word late
-  step-falls h = still-falls o (last ∷ (word ∷ [])) 1 late a b (λ z. omega arith) hw hl ea eb h ∙ step-some i later
-
-  pub step-not : b ≤ a → 6 ≡ orderStep (compareWords o) i last word late
-  step-not h = no-fall o (last ∷ (word ∷ [])) 1 late a b (λ z. omega arith) hw hl ea eb h ∙ step-some i later
-
 module _ (o : Order) (n p : ℕ) (s : List ℕ) (total : ℕ) where
-  -- i terms are looked at, the next is at `at`, and the word before it is `last`
-  pub record Going (late last at i : ℕ) : Type 0 where
+  -- i terms are looked at, and the next is at `at`
+  pub record Going (late : ℕ) (seen : Bool) (last at i : ℕ) : Type 0 where
     pub place : at ≡ placeAt i
-    pub looked : Looked o n p (terms (words (firstTerms s total)) (coefs (firstTerms s total))) i late
-    pub before : 0 < i → last ≡ getD (words (firstTerms s total)) (i - 1) 0
+    pub looked : Looked (termRefusal o n p) (compareWords o) (unseen 0) (firstTerms s total) i late seen last
 
-  pub going-start : (last : ℕ) → Going 0 last 16 0
-  going-start last = record { place = refl; looked = look-start o n p (terms (words (firstTerms s total)) (coefs (firstTerms s total))); before = λ h. absurd (let z : ⊥ = omega arith in z) }
+  pub going-start : Going 0 false 0 16 0
+  going-start = record { place = refl; looked = look-start (termRefusal o n p) (compareWords o) 0 false 0 (firstTerms s total) }
 
-  long : length (coefs (firstTerms s total)) ≡ length (words (firstTerms s total))
-  long = length-map (firstTerms s total) (λ t. t .coef) ∙ sym (length-map (firstTerms s total) (λ t. t .mono))
+  module _ (late : ℕ) (seen : Bool) (last at i : ℕ) (g : Going late seen last at i) (h : i < total) (word coef : ℕ) (ew : word ≡ numberAt 8 at s) (ec : coef ≡ numberAt 4 (at + 8) s) where
+    term-is : termAt s i ≡ term word coef
+    term-is = sym (ap₂ term (ew ∙ ap (λ (k : ℕ). numberAt 8 k s) (g .place)) (ec ∙ ap (λ (k : ℕ). numberAt 4 (k + 8) s) (g .place)))
 
-  many : length (words (firstTerms s total)) ≡ total
-  many = length-map (firstTerms s total) (λ t. t .mono) ∙ length-first s total
+    lead : drop i (firstTerms s total) ≡ term word coef ∷ drop (i + 1) (firstTerms s total)
+    lead =
+        drop-cons (firstTerms s total) i (term 0 0) (omega (arith, length-first s total))
+        ∙ ap₂ (λ (t : Term ℕ) (k : ℕ). t ∷ drop k (firstTerms s total)) (first-at s total i h ∙ term-is) (sym (add-one i))
 
-  module _ (late last at i : ℕ) (g : Going late last at i) (h : i < total) (word coef : ℕ) (ew : word ≡ numberAt 8 at s) (ec : coef ≡ numberAt 4 (at + 8) s) where
-    word-is : word ≡ getD (words (firstTerms s total)) i 0
-    word-is = ew ∙ (ap (λ (k : ℕ). numberAt 8 k s) (g .place) ∙ sym (List·getD-map (λ (t : Term ℕ). t .mono) (firstTerms s total) i (term 0 0) ∙ ap (λ (t : Term ℕ). t .mono) (first-at s total i h)))
+    inside : i < length (firstTerms s total)
+    inside = omega (arith, length-first s total)
 
-    coef-is : coef ≡ getD (coefs (firstTerms s total)) i 0
-    coef-is = ec ∙ (ap (λ (k : ℕ). numberAt 4 (k + 8) s) (g .place) ∙ sym (List·getD-map (λ (t : Term ℕ). t .coef) (firstTerms s total) i (term 0 0) ∙ ap (λ (t : Term ℕ). t .coef) (first-at s total i h)))
+    module _ (r late' : ℕ) (e : r ≡ termRefusal o n p (term word coef)) (q : late' ≡ lateAfter (compareWords o) seen last word late) where
+      pub going-stop : (r ≡ 0 → ⊥) → r ≡ refusalOf (termRefusal o n p) (compareWords o) (firstTerms s total)
+      going-stop f =
+          stop-first r late' f
+          ∙ (ap (λ (c : Carried ℕ). verdict c) (look-stop (termRefusal o n p) (compareWords o) (unseen 0) (firstTerms s total) i late seen last (g .looked) inside (term word coef) lead r late' e q f)
+          ∙ carry-whole (termRefusal o n p) (compareWords o) 0 (firstTerms s total))
 
-    inside : i < length (words (firstTerms s total))
-    inside = omega (arith, many)
+      pub going-next : (at' : ℕ) → r ≡ 0 → at' ≡ nextPlace at → Going late' true word at' (i + 1)
+      going-next at' z w = record {
+        place = w ∙ (ap nextPlace (g .place) ∙ next-is i);
+        looked = look-next (termRefusal o n p) (compareWords o) (unseen 0) (firstTerms s total) i late seen last (g .looked) inside (term word coef) lead r late' e q z;
+      }
 
-    same-term : (r : ℕ) → r ≡ termRefusal o n p (term word coef) → r ≡ termRefusal o n p (term (getD (words (firstTerms s total)) i 0) (getD (coefs (firstTerms s total)) i 0))
-    same-term r e = e ∙ ap₂ (λ (x y : ℕ). termRefusal o n p (term x y)) word-is coef-is
-
-    pub going-stop : (r : ℕ) → r ≡ termRefusal o n p (term word coef) → (r ≡ 0 → ⊥) → r ≡ refusalOf o n p (firstTerms s total)
-    going-stop r e f = look-stop o n p (words (firstTerms s total)) (coefs (firstTerms s total)) long i late (g .looked) inside r (same-term r e) f ∙ ap (refusalOf o n p) (terms-of (firstTerms s total))
-
-    pub going-next : (r late' at' : ℕ) → r ≡ termRefusal o n p (term word coef) → r ≡ 0 → late' ≡ orderStep (compareWords o) i last word late → at' ≡ nextPlace at → Going late' word at' (i + 1)
-    going-next r late' at' e z q w = record {
-      place = w ∙ (ap nextPlace (g .place) ∙ next-is i);
-      looked = look-next o n p (words (firstTerms s total)) (coefs (firstTerms s total)) long i late (g .looked) inside r late' (same-term r e) z (q ∙ order-step (compareWords o) (words (firstTerms s total)) i last word late (g .before) word-is);
-      before = λ k. word-is ∙ (let f : i ≡ i + 1 - 1 = omega arith in ap (λ (j : ℕ). getD (words (firstTerms s total)) j 0) f);
-    }
-
-  pub going-ends : (late last at i : ℕ) → Going late last at i → total ≤ i → late ≡ refusalOf o n p (firstTerms s total)
-  going-ends late last at i g h =
-      let e = terms-of (firstTerms s total) in
-      look-ends o n p (terms (words (firstTerms s total)) (coefs (firstTerms s total))) i late (g .looked) (omega (arith, ap length e, length-first s total)) ∙ ap (refusalOf o n p) e
+  pub going-ends : (late : ℕ) (seen : Bool) (last at i : ℕ) → Going late seen last at i → total ≤ i → late ≡ refusalOf (termRefusal o n p) (compareWords o) (firstTerms s total)
+  going-ends late seen last at i g h =
+      ap (λ (c : Carried ℕ). verdict c) (look-ends (termRefusal o n p) (compareWords o) (unseen 0) (firstTerms s total) i late seen last (g .looked) (omega (arith, length-first s total)))
+      ∙ carry-whole (termRefusal o n p) (compareWords o) 0 (firstTerms s total)
 
 -- ---- the terms copied
 -- the first i terms are put

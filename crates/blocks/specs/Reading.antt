@@ -1,10 +1,10 @@
 -- The terms in blocks, and the refusal of reading (document 01, "Blocks" and "Refusals by cause"). Assumes nothing.
-use Prim.Native.Nat.{ℕ, zero, suc, _+_, _*_, _/_, _%_, Ordering}
+use Prim.Native.Nat.{ℕ, zero, suc, _+_, _*_, _/_, _%_}
 use mathlib.Core.Bool.{Bool, true, false}
 use mathlib.Core.List.{List, [], _∷_, _++_}
 use lib.Dec.{leb, eqb}
 use Rattle.polynomial.specs.Terms.{Term, term}
-use Rattle.polynomial.specs.Opening.{first, polynomialRefusal, isLarger, orderNext}
+use Rattle.polynomial.specs.Opening.{first, polynomialRefusal}
 use Rattle.opening.specs.Run.{unless, setting}
 use Rattle.block.specs.Block.{numberAt, settingIn}
 use Rattle.block_form.specs.Form.{totalIn, formRefusal}
@@ -46,8 +46,3 @@ nextBy false at = at + 12
 
 abbrev pub nextPlace : ℕ → ℕ
 nextPlace at = nextBy (eqb ((at + 12) % 512) 508) at
-
--- the refusal for the order once word i is looked at, after the word `last` and `late` for those before it
-abbrev pub orderStep : (ℕ → ℕ → Ordering) → (i last word late : ℕ) → ℕ
-orderStep cmp zero last word late = late
-orderStep cmp (suc i) last word late = orderNext (isLarger (cmp last word)) late

@@ -1,19 +1,19 @@
 // The terms in blocks: where they lie, their opening check, and their copies.
 use block::number::get_4;
 use block::number::get_8;
-use monomial::order::Order;
+use monomial::layout::beyond_bits;
 use monomial::order::order_of;
+use polynomial::check::check_fall;
 use polynomial::check::check_term;
 use polynomial::setting::Setting;
 ghost use mathlib.Core.Path.{_≡_};
 ghost use Prim.Native.Nat.{_+_, _≤_, _<_};
 ghost use lib.ListN.{length};
 ghost use lib.Seq.{sets};
-ghost use Rattle.monomial.specs.Words.{compareWords};
 ghost use Rattle.polynomial.specs.Terms.{words, coefs};
 ghost use Rattle.polynomial.specs.Opening.{polynomialRefusal};
 ghost use Rattle.block_form.specs.Form.{Lying};
-ghost use Rattle.blocks.specs.Reading.{nextPlace, firstTerms, orderStep};
+ghost use Rattle.blocks.specs.Reading.{nextPlace, firstTerms};
 
 // The place after the one at `at`.
 fn next_place(at: usize) -> usize
@@ -36,36 +36,25 @@ pub fn check_terms(t: Setting, s: &[u8], total: usize) -> u32
     let order = order_of(t.order);
     let n = t.n;
     let p = t.p;
+    let beyond = beyond_bits(order, n);
     let mut late: u32 = 0;
+    let mut seen = false;
     let mut last: u64 = 0;
     let mut at = 16;
     let mut i = 0;
     while i < total {
         let word = get_8(s, at);
-        let refusal = check_term(order, n, p, word, get_4(s, at + 8));
-        if refusal != 0 {
-            return refusal;
-        }
-        late = check_step(order, i, last, word, late);
+        late = check_fall(order, seen, last, word, late);
+        seen = true;
         last = word;
+        let stop = check_term(beyond, p, word, get_4(s, at + 8));
+        if stop != 0 {
+            return stop;
+        }
         at = next_place(at);
         i += 1;
     }
     late
-}
-
-// 6 where word i is not smaller than the last one, and else what came so far.
-fn check_step(order: Order, i: usize, last: u64, word: u64, late: u32) -> u32
-    ensures { λ r. ⌜ r ≡ orderStep (compareWords order) i last word late ⌝ }
-{
-    if i == 0 {
-        return late;
-    }
-    if order.key(word) < order.key(last) {
-        late
-    } else {
-        6
-    }
 }
 
 // Puts the terms into the lent words and coefficients.

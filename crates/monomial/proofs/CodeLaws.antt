@@ -2,22 +2,22 @@
 use mathlib.Core.Path.{_≡_, refl, sym, ap, ap₂, _∙_}
 use mathlib.Core.Bool.{Bool, true, false}
 use mathlib.Core.List.{List, [], reverse}
-use Prim.Native.Nat.{ℕ, _+_, _-_, _*_, _/_, _%_, _^_, _<_, _≤_, zero-le, compare}
-use native.Mathlib.Nat.{mod-eq-of-lt, div-mul-le-self, div-add-mod', div-div-eq-div-mul, mul-le-mul}
+use Prim.Native.Nat.{ℕ, zero, suc, _+_, _-_, _*_, _/_, _%_, _^_, _<_, _≤_, zero-le, compare}
+use native.Mathlib.Nat.{mul-pos, zero-mul, mod-eq-of-lt, div-mul-le-self, div-add-mod', div-div-eq-div-mul, mul-le-mul}
 use native.Mathlib.Decide.{decLe}
 use native.Mathlib.Numerals.{add-one}
 use native.Mathlib.Omega.{arith}
 use borrow.Author.Tests.{eq-eqb, ne-eqb}
 use lib.Dec.{eqb, lit<}
-use lib.Bits.{bitAnd, bitXor, xor-block, xor-zero-r, xor-add-and, and-mask}
-use lib.Pow.{pow-mono}
+use lib.Bits.{bitAnd, bitXor, xor-block, xor-zero-r, xor-add-and, and-mask, and-high}
+use lib.Pow.{pow-mono, pow-pos, mod-mod-pow, field}
 use lib.ListN.{length, getD, take, drop, take-append-drop}
 use lib.Seq.{take-suc, take-all, length-take-le}
 use Rattle.monomial.specs.declared.order.Order.{Order}
 use Rattle.monomial.specs.declared.order.Order.the-variants.{Lex, DegLex, DegRevLex}
 use Rattle.monomial.specs.declared.order.Comparison.the-variants.{Smaller, Same, Larger}
 use Rattle.monomial.specs.Exponents.{degree, orderBy, orderOf}
-use Rattle.monomial.specs.Layout.{bytes, ofBytes, six, upward, lowBit, wordOf, fields, below, inLayout}
+use Rattle.monomial.specs.Layout.{bytes, ofBytes, six, upward, lowBit, wordOf, fields, below, inLayout, beyondBits}
 use Rattle.monomial.specs.Words.{low, high, compareWords, keyOf, answer, Packed, dividesWord}
 use Rattle.monomial.proofs.Comparing.{lt-compare, eq-compare, gt-compare}
 use Rattle.monomial.proofs.Places.{length-each, below-reverse, degree-append, degree-upward, degree-zeros, true-below, zeros}
@@ -89,14 +89,6 @@ module _ (x y : ℕ) (hx : Packed x) (hy : Packed y) where
       ∙ apart-full (bytes 6 x) (bytes 6 y) long (hy .tops)))
 
 -- ---- the layout
-pub lowest-zero : (x m : ℕ) → x < 2 ^ 64 → eqb (x / m * m % 2 ^ 64) x ≡ eqb (x % m) 0
-lowest-zero x m h =
-    ap (λ (n : ℕ). eqb n x) (mod-eq-of-lt (let l : x / m * m < 2 ^ 64 = omega (arith, div-mul-le-self x m) in l)) ∙ go (decLe (x % m) 0)
-  where
-    go : Dec (x % m ≤ 0) → eqb (x / m * m) x ≡ eqb (x % m) 0
-    go (yes k) = eq-eqb (x / m * m) x (omega (arith, div-add-mod' x m)) ∙ sym (eq-eqb (x % m) 0 (omega arith))
-    go (no k) = ne-eqb (x / m * m) x (λ e. omega (arith, div-add-mod' x m)) ∙ sym (ne-eqb (x % m) 0 (λ e. omega arith))
-
 ends-down : (n w : ℕ) → n ≤ 6 → eqb (w % 2 ^ 48 % 2 ^ (48 - 8 * n)) 0 ≡ below 1 (drop n (reverse (bytes 6 w)))
 ends-down n w h =
     let m : 2 ^ (48 - 8 * n) ≡ 256 ^ (6 - n) = ap (λ (k : ℕ). 2 ^ k) (let e : 48 - 8 * n ≡ 8 * (6 - n) = omega arith in e) ∙ pow-bytes (6 - n) in
@@ -106,20 +98,68 @@ ends-down n w h =
     ∙ (sym (below-reverse 1 (take (6 - n) (bytes 6 w)))
     ∙ (ap (λ (k : ℕ). below 1 (reverse (take (k - n) (bytes 6 w)))) (sym (length-bytes 6 w)) ∙ ap (below 1) (sym (drop-reverse (bytes 6 w) n (omega (arith, length-bytes 6 w))))))))
 
-pub ends-lex : (o : Order) (n w : ℕ) (r : Bool) → o ≡ Lex → n ≤ 6 → r ≡ eqb (w % 2 ^ 48 % 2 ^ (48 - 8 * n)) 0 → r ≡ below 1 (drop n (fields o w))
-unfolding fields
-ends-lex o n w r e h k = rw e (k ∙ ends-down n w h)
+ends-up : (n w : ℕ) → eqb (w % 2 ^ 48 / 2 ^ (8 * n)) 0 ≡ below 1 (drop n (bytes 6 w))
+ends-up n w =
+    ap₂ (λ (i j : ℕ). eqb (i / j) 0) (sym (ofBytes-bytes 6 w)) (pow-bytes n)
+    ∙ (ap (λ (i : ℕ). eqb i 0) (sym (ofBytes-drop n (bytes 6 w) (bytes-below 6 w))) ∙ zero-bytes (drop n (bytes 6 w)))
 
-pub ends-deg : (o : Order) (n w : ℕ) (r : Bool) → o ≡ DegLex → n ≤ 6 → r ≡ eqb (w % 2 ^ 48 % 2 ^ (48 - 8 * n)) 0 → r ≡ below 1 (drop n (fields o w))
-unfolding fields
-ends-deg o n w r e h k = rw e (k ∙ ends-down n w h)
+-- the bits beyond are made by shifts
+low-bits : (n : ℕ) → n ≤ 6 → (2 ^ 48 - 1) / 2 ^ (8 * n) ≡ 2 ^ (48 - 8 * n) - 1
+low-bits zero h = refl
+low-bits (suc zero) h = refl
+low-bits (suc (suc zero)) h = refl
+low-bits (suc (suc (suc zero))) h = refl
+low-bits (suc (suc (suc (suc zero)))) h = refl
+low-bits (suc (suc (suc (suc (suc zero))))) h = refl
+low-bits (suc (suc (suc (suc (suc (suc zero)))))) h = refl
+low-bits (suc (suc (suc (suc (suc (suc (suc n))))))) h = absurd (let z : ⊥ = omega arith in z)
 
-pub ends-rev : (o : Order) (n w : ℕ) → o ≡ DegRevLex → eqb (w % 2 ^ 48 / 2 ^ (8 * n)) 0 ≡ below 1 (drop n (fields o w))
+high-bits : (n : ℕ) → n ≤ 6 → (2 ^ 48 - 1) / 2 ^ (8 * n) * 2 ^ (8 * n) % 2 ^ 64 ≡ 2 ^ 48 - 2 ^ (8 * n)
+high-bits zero h = refl
+high-bits (suc zero) h = refl
+high-bits (suc (suc zero)) h = refl
+high-bits (suc (suc (suc zero))) h = refl
+high-bits (suc (suc (suc (suc zero)))) h = refl
+high-bits (suc (suc (suc (suc (suc zero))))) h = refl
+high-bits (suc (suc (suc (suc (suc (suc zero)))))) h = refl
+high-bits (suc (suc (suc (suc (suc (suc (suc n))))))) h = absurd (let z : ⊥ = omega arith in z)
+
+pub beyond-lex : (o : Order) (n : ℕ) → o ≡ Lex → n ≤ 6 → (2 ^ 48 - 1) / 2 ^ (8 * n) ≡ beyondBits o n
+beyond-lex o n e h = rw e (low-bits n h)
+
+pub beyond-deg : (o : Order) (n : ℕ) → o ≡ DegLex → n ≤ 6 → (2 ^ 48 - 1) / 2 ^ (8 * n) ≡ beyondBits o n
+beyond-deg o n e h = rw e (low-bits n h)
+
+pub beyond-rev : (o : Order) (n : ℕ) → o ≡ DegRevLex → n ≤ 6 → (2 ^ 48 - 1) / 2 ^ (8 * n) * 2 ^ (8 * n) % 2 ^ 64 ≡ beyondBits o n
+beyond-rev o n e h = rw e (high-bits n h)
+
+times-zero : (q c : ℕ) → 0 < c → eqb (q * c) 0 ≡ eqb q 0
+times-zero zero c h = eq-eqb (0 * c) 0 (zero-mul c)
+times-zero (suc q) c h = ne-eqb (suc q * c) 0 (λ z. let p : 0 < suc q * c = mul-pos (omega arith) h in omega arith) ∙ sym (ne-eqb (suc q) 0 (λ z. omega arith))
+
+-- the bits below the n highest fields, and those above the n lowest
+below-bits : (n w : ℕ) → n ≤ 6 → eqb (bitAnd w (2 ^ (48 - 8 * n) - 1)) 0 ≡ below 1 (drop n (reverse (bytes 6 w)))
+below-bits n w h =
+    ap (λ (i : ℕ). eqb i 0)
+    (and-mask w (48 - 8 * n)
+    ∙ (sym (mod-mod-pow w (8 * n) (48 - 8 * n)) ∙ ap (λ (k : ℕ). w % 2 ^ k % 2 ^ (48 - 8 * n)) (let e : 8 * n + (48 - 8 * n) ≡ 48 = omega arith in e)))
+    ∙ ends-down n w h
+
+above-bits : (n w : ℕ) → n ≤ 6 → eqb (bitAnd w (2 ^ 48 - 2 ^ (8 * n))) 0 ≡ below 1 (drop n (bytes 6 w))
+above-bits n w h =
+    let e : 48 ≡ 48 - 8 * n + 8 * n = omega arith in
+    let q = w / 2 ^ (8 * n) % 2 ^ (48 - 8 * n) in
+    ap (λ (i : ℕ). eqb i 0) (ap (λ (k : ℕ). bitAnd w (2 ^ k - 2 ^ (8 * n))) e ∙ and-high w (48 - 8 * n) (8 * n))
+    ∙ (times-zero q (2 ^ (8 * n)) (pow-pos (8 * n))
+    ∙ (ap (λ (i : ℕ). eqb i 0) (sym (ap (λ (k : ℕ). w % 2 ^ k / 2 ^ (8 * n)) e ∙ field w (48 - 8 * n) (8 * n)))
+    ∙ ends-up n w))
+
+-- the fields beyond n are 0 where the bits beyond are
+beyond-clear : (o : Order) (n w : ℕ) → n ≤ 6 → eqb (bitAnd w (beyondBits o n)) 0 ≡ below 1 (drop n (fields o w))
 unfolding fields
-ends-rev o n w e =
-    rw e
-    (ap₂ (λ (i j : ℕ). eqb (i / j) 0) (sym (ofBytes-bytes 6 w)) (pow-bytes n)
-    ∙ (ap (λ (i : ℕ). eqb i 0) (sym (ofBytes-drop n (bytes 6 w) (bytes-below 6 w))) ∙ zero-bytes (drop n (bytes 6 w))))
+beyond-clear Lex n w h = below-bits n w h
+beyond-clear DegLex n w h = below-bits n w h
+beyond-clear DegRevLex n w h = above-bits n w h
 
 grouped : (a b c d e f : ℕ) → a + b + c + d + e + f ≡ a + (b + (c + (d + (e + (f + 0)))))
 grouped a b c d e f = omega arith
@@ -143,13 +183,19 @@ module _ (o : Order) (n w : ℕ) where
   unfolding inLayout
   top-refused h = rw (clear ∙ ne-eqb (bitAnd w (tops 6)) 0 h)
 
-  pub beyond-refused : bitAnd w (tops 6) ≡ 0 → below 1 (drop n (fields o w)) ≡ false → false ≡ inLayout o n w
-  unfolding inLayout
-  beyond-refused h k = rw (clear ∙ eq-eqb (bitAnd w (tops 6)) 0 h, k)
+  module _ (few : n ≤ 6) (b : ℕ) (is : b ≡ beyondBits o n) where
+    beyond-is : below 1 (drop n (fields o w)) ≡ eqb (bitAnd w b) 0
+    beyond-is = sym (ap (λ (m : ℕ). eqb (bitAnd w m) 0) is ∙ beyond-clear o n w few)
 
-  pub by-degree : bitAnd w (tops 6) ≡ 0 → below 1 (drop n (fields o w)) ≡ true → (s : ℕ) → s ≡ degree (bytes 6 w) → eqb (w / 2 ^ 48) s ≡ inLayout o n w
-  unfolding inLayout fields
-  by-degree h k s e = rw (clear ∙ eq-eqb (bitAnd w (tops 6)) 0 h, k) (ap (eqb (w / 2 ^ 48)) (e ∙ (sym (degree-upward o (bytes 6 w)) ∙ sym (degree-enough n (fields o w) k))))
+    pub beyond-refused : bitAnd w (tops 6) ≡ 0 → (bitAnd w b ≡ 0 → ⊥) → false ≡ inLayout o n w
+    unfolding inLayout
+    beyond-refused h k = rw (clear ∙ eq-eqb (bitAnd w (tops 6)) 0 h, beyond-is ∙ ne-eqb (bitAnd w b) 0 k)
+
+    pub by-degree : bitAnd w (tops 6) ≡ 0 → bitAnd w b ≡ 0 → (s : ℕ) → s ≡ degree (bytes 6 w) → eqb (w / 2 ^ 48) s ≡ inLayout o n w
+    unfolding inLayout fields
+    by-degree h k s e =
+        let z = beyond-is ∙ eq-eqb (bitAnd w b) 0 k in
+        rw (clear ∙ eq-eqb (bitAnd w (tops 6)) 0 h, z) (ap (eqb (w / 2 ^ 48)) (e ∙ (sym (degree-upward o (bytes 6 w)) ∙ sym (degree-enough n (fields o w) z))))
 
 -- ---- bits of a field
 pub bit-lex : (o : Order) (i : ℕ) → o ≡ Lex → 40 - 8 * i ≡ lowBit o i

@@ -1,5 +1,5 @@
 -- A monomial as one 64-bit word (document 01, "Terms"): the word of given exponents, the exponents of a word, and which words are of the layout. Assumes nothing.
-use Prim.Native.Nat.{ℕ, zero, suc, _+_, _-_, _*_, _/_, _%_, _^_, _<_}
+use Prim.Native.Nat.{ℕ, zero, suc, _+_, _-_, _*_, _/_, _%_, _^_, _<_, _≤_}
 use mathlib.Core.Path.{_≡_}
 use mathlib.Core.Bool.{Bool, true, _&&_}
 use mathlib.Core.List.{List, [], _∷_, _++_, reverse}
@@ -68,3 +68,13 @@ pub record Layout (o : Order) (n w : ℕ) : Type 0 where
 -- the same as a test: refusal 5 where it is false
 unfoldable pub inLayout : Order → ℕ → ℕ → Bool
 inLayout o n w = below 128 (fields o w) && (below 1 (drop n (fields o w)) && eqb (w / 2 ^ 48) (degree (exponents o n w)))
+
+-- the bits of the fields of variables beyond n: under orders 1 and 2 they lie below the others, under order 3 above
+abbrev pub beyondBits : Order → (n : ℕ) → ℕ
+beyondBits Lex n = 2 ^ (48 - 8 * n) - 1
+beyondBits DegLex n = 2 ^ (48 - 8 * n) - 1
+beyondBits DegRevLex n = 2 ^ 48 - 2 ^ (8 * n)
+
+-- r is whether w is of the layout, for each order and number of variables that have these bits beyond
+abbrev pub TestsLayout : (beyond w : ℕ) (r : Bool) → Type 0
+TestsLayout beyond w r = (o : Order) (n : ℕ) → n ≤ 6 → beyond ≡ beyondBits o n → r ≡ inLayout o n w

@@ -2,46 +2,39 @@
 use crate::order::Order;
 use crate::word::TOPS;
 ghost use mathlib.Core.Path.{_≡_};
-ghost use Prim.Native.Nat.{_≤_, _<_, _%_, _^_};
-ghost use lib.Dec.{eqb};
-ghost use lib.ListN.{drop};
+ghost use Prim.Native.Nat.{_≤_};
 ghost use Rattle.monomial.specs.Exponents.{degree};
-ghost use Rattle.monomial.specs.Layout.{bytes, fields, below, inLayout};
+ghost use Rattle.monomial.specs.Layout.{bytes, beyondBits, TestsLayout};
 
-// Whether w is of the layout in n variables: refusal 5 where it is not.
-pub fn in_layout(order: Order, n: u32, w: u64) -> bool
+// The six fields.
+const FIELDS: u64 = 0xffff_ffff_ffff;
+
+// The bits of the fields of variables beyond n: in lp and Dp they lie below the others, in dp above.
+// They depend on no word, and are made once for many.
+pub fn beyond_bits(order: Order, n: u32) -> u64
     requires { ⌜ n ≤ 6 ⌝ }
-    ensures { λ r. ⌜ r ≡ inLayout order n w ⌝ }
+    ensures { λ r. ⌜ r ≡ beyondBits order n ⌝ }
+{
+    let low = FIELDS >> (8 * n);
+    match order {
+        Order::Lex => low,
+        Order::DegLex => low,
+        Order::DegRevLex => low << (8 * n),
+    }
+}
+
+// Whether w is of the layout: refusal 5 where it is not. `beyond` is what `beyond_bits` gives for the
+// order and number of variables; of other bits nothing is promised.
+pub fn in_layout(beyond: u64, w: u64) -> bool
+    ensures { λ r. ⌜ TestsLayout beyond w r ⌝ }
 {
     if w & TOPS != 0 {
         return false;
     }
-    if !ends_with(order, n, w) {
+    if w & beyond != 0 {
         return false;
     }
     w / 0x1_0000_0000_0000 == field_sum(w)
-}
-
-// Whether the fields of variables beyond n are 0: in dp they lie above the n lowest, in lp and Dp
-// below the n highest.
-fn ends_with(order: Order, n: u32, w: u64) -> bool
-    requires { ⌜ n ≤ 6 ⌝ }
-    ensures { λ r. ⌜ r ≡ below 1 (drop n (fields order w)) ⌝ }
-{
-    let low = w % 0x1_0000_0000_0000;
-    match order {
-        Order::Lex => lowest_are_zero(low, 48 - 8 * n),
-        Order::DegLex => lowest_are_zero(low, 48 - 8 * n),
-        Order::DegRevLex => low >> (8 * n) == 0,
-    }
-}
-
-// Whether the lowest bits of x, as many as count says, are 0.
-fn lowest_are_zero(x: u64, count: u32) -> bool
-    requires { ⌜ count < 64 ⌝ }
-    ensures { λ r. ⌜ r ≡ eqb (x % 2 ^ count) 0 ⌝ }
-{
-    x >> count << count == x
 }
 
 // The sum of the six fields.

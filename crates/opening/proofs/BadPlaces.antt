@@ -46,7 +46,7 @@ module _ (t : Setting) where
   all-places (u ∷ us) a zero l = (a .0, a .1 .0)
   all-places (u ∷ us) a (suc j) l = all-places us (a .1 .1) j (omega arith)
 
-  places-all : (us : List (Term ℕ)) → ((j : ℕ) → j < length us → GoodCoef t (placeOf t us j) × GoodWord t (placeOf t us j)) → AllHold (placesConditions t us)
+  pub places-all : (us : List (Term ℕ)) → ((j : ℕ) → j < length us → GoodCoef t (placeOf t us j) × GoodWord t (placeOf t us j)) → AllHold (placesConditions t us)
   places-all [] b = tt
   places-all (u ∷ us) b = let g = b 0 (omega arith) in (g .0, (g .1, places-all us (λ j m. b (suc j) (omega (arith, m)))))
 

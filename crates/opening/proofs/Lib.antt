@@ -2,6 +2,7 @@ pub mod Judging
 pub mod StartsJudged
 pub mod PolynomialsJudged
 pub mod BadPlaces
+pub mod Parts
 pub mod Tests
 pub mod SettingLaws
 pub mod PolynomialLaws

@@ -16,7 +16,7 @@ use Rattle.monomial.specs.Words.{compareWords}
 use Rattle.conditions.specs.Operations.{GoodOperations}
 use Rattle.polynomial.specs.declared.setting.Setting.{Setting}
 use Rattle.polynomial.specs.Terms.{Term, terms}
-use Rattle.polynomial.specs.Opening.{first, termBy, termsRefusal, fall, orderBy, refusalOf, polynomialRefusal, partOf}
+use Rattle.polynomial.specs.Opening.{first, termBy, termRefusal, termsRefusal, fall, orderBy, refusalOf, polynomialRefusal, partOf}
 use Rattle.opening.specs.Run.{unless, between, setting, runRefusal}
 use Rattle.refusal.specs.Judgement.{condition, OneOf, oneOf, NumberedBy}
 use Rattle.refusal.proofs.JudgementLaws.{judged-numbers, numbered-then, numbers-listed}
@@ -113,7 +113,7 @@ term-numbered false w = inr refl
 term-numbered true false = inr refl
 term-numbered true true = inl refl
 
-terms-numbered : (o : Order) (n p : ℕ) (ts : List (Term ℕ)) → Numbered (termsRefusal o n p ts)
+terms-numbered : (o : Order) (n p : ℕ) (ts : List (Term ℕ)) → Numbered (termsRefusal (termRefusal o n p) ts)
 unfolding termsRefusal
 terms-numbered o n p [] = inl refl
 terms-numbered o n p (t ∷ ts) = first-numbered _ _ (term-numbered (ltb 0 (t .coef) && ltb (t .coef) p) (inLayout o n (t .mono))) (terms-numbered o n p ts)

@@ -21,7 +21,7 @@ use Rattle.monomial.proofs.OrderLaws.{words-order}
 use Rattle.monomial.proofs.Places.{and-both}
 use Rattle.polynomial.specs.declared.setting.Setting.{Setting}
 use Rattle.polynomial.specs.Terms.{Term, terms, All, Under, Falling}
-use Rattle.polynomial.specs.Opening.{partOf, first, termBy, termsRefusal, fall, orderBy, refusalOf, polynomialRefusal}
+use Rattle.polynomial.specs.Opening.{partOf, first, termBy, termRefusal, termsRefusal, fall, orderBy, refusalOf, polynomialRefusal}
 use Rattle.polynomial.proofs.OpeningLaws.{fall-falling, falling-fall}
 use Rattle.opening.specs.Run.{refusalAt, refusalFrom, polynomialsRefusal}
 use Rattle.opening.specs.Judgement.{byExponents, GoodCoef, GoodWord, GoodOrder, placesConditions, polynomialConditions, conditionsBelow, polynomialsConditions}
@@ -45,10 +45,10 @@ module _ (t : Setting) where
   good-coef : (u : Term ℕ) → GoodCoef t u → (ltb 0 (u .coef) && ltb (u .coef) (t .p)) ≡ true
   good-coef u g = both (ltb 0 (u .coef)) (ltb (u .coef) (t .p)) (lt-ltb 0 (u .coef) (g .0)) (lt-ltb (u .coef) (t .p) (g .1))
 
-  pub places-judged : (us : List (Term ℕ)) → Judged (placesConditions t us) (termsRefusal (orderOf (t .order)) (t .n) (t .p) us)
+  pub places-judged : (us : List (Term ℕ)) → Judged (placesConditions t us) (termsRefusal (termRefusal (orderOf (t .order)) (t .n) (t .p)) us)
   unfolding termsRefusal
   places-judged [] = refl
-  places-judged (u ∷ us) = by (ltb 0 (u .coef) && ltb (u .coef) (t .p)) (inLayout (orderOf (t .order)) (t .n) (u .mono)) refl refl (termsRefusal (orderOf (t .order)) (t .n) (t .p) us) (places-judged us)
+  places-judged (u ∷ us) = by (ltb 0 (u .coef) && ltb (u .coef) (t .p)) (inLayout (orderOf (t .order)) (t .n) (u .mono)) refl refl (termsRefusal (termRefusal (orderOf (t .order)) (t .n) (t .p)) us) (places-judged us)
     where
       by : (a b : Bool) → (ltb 0 (u .coef) && ltb (u .coef) (t .p)) ≡ a → inLayout (orderOf (t .order)) (t .n) (u .mono) ≡ b → (r : ℕ) → Judged (placesConditions t us) r → Judged (placesConditions t (u ∷ us)) (first (termBy a b) r)
       by false b e f r j = inl ((λ g. clash e (good-coef u g)), refl)
@@ -89,11 +89,11 @@ module _ (t : Setting) where
     unfolding refusalOf
     polynomial-judged us =
         let falls = fall (compareWords (orderOf (t .order))) us in
-        judged-first (placesConditions t us) (condition 6 (GoodOrder t us) ∷ []) (termsRefusal (orderOf (t .order)) (t .n) (t .p) us) (orderBy falls) (places-counted us) (places-judged us)
+        judged-first (placesConditions t us) (condition 6 (GoodOrder t us) ∷ []) (termsRefusal (termRefusal (orderOf (t .order)) (t .n) (t .p)) us) (orderBy falls) (places-counted us) (places-judged us)
         (λ a. order-judged us (words-good us a) falls refl)
 
 -- ---- one polynomial after the other
-first-zero : (r : ℕ) → first r 0 ≡ r
+pub first-zero : (r : ℕ) → first r 0 ≡ r
 first-zero zero = refl
 first-zero (suc r) = refl
 

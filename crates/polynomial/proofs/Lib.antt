@@ -3,4 +3,5 @@ pub mod CoefLaws
 pub mod MultipleLaws
 pub mod TermLists
 pub mod OpeningLaws
+pub mod CheckingLaws
 pub mod StartLaws

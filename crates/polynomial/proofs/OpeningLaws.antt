@@ -1,15 +1,11 @@
 -- The opening check of a polynomial: what its steps come to, and what a polynomial that passes it is. Assumes nothing.
 use mathlib.Core.Path.{_≡_, refl, sym, ap, ap₂, _∙_}
-use mathlib.Core.Bool.{Bool, true, false, _&&_, and-assoc, and-true, and-false}
-use mathlib.Core.List.{List, [], _∷_, _++_, append-assoc}
-use Prim.Native.Nat.{ℕ, zero, suc, _+_, _-_, _^_, _<_, _≤_, zero-le, compare, Ordering, Ordering·lt, Ordering·eq, Ordering·gt}
-use native.Mathlib.Numerals.{add-one}
+use mathlib.Core.Bool.{Bool, true, false, _&&_}
+use mathlib.Core.List.{List, [], _∷_}
+use Prim.Native.Nat.{ℕ, zero, suc, _^_, _<_, _≤_, compare, Ordering, Ordering·lt, Ordering·eq, Ordering·gt}
 use native.Mathlib.Omega.{arith}
 use borrow.Author.Tests.{lt-ltb, le-ltb, ltb-true}
 use lib.Dec.{ltb}
-use lib.ListN.{length, getD, take, drop}
-use lib.Seq.{take-suc, take-all}
-use lib.ListN.{drop-of-length-le}
 use Rattle.monomial.specs.declared.order.Order.{Order}
 use Rattle.monomial.specs.Layout.{Layout, inLayout}
 use Rattle.monomial.specs.TotalOrder.{TotalOrder}
@@ -20,9 +16,9 @@ use Rattle.monomial.proofs.LayoutLaws.{test-layout}
 use Rattle.monomial.proofs.KeyLaws.{key-compare}
 use Rattle.monomial.proofs.Places.{and-both}
 use Rattle.polynomial.specs.Terms.{Term, term, terms, All, Reduced, Falling, Canonical}
-use Rattle.polynomial.specs.Opening.{first, termBy, termRefusal, termsRefusal, isLarger, fall, orderBy, refusalOf, orderNext, orderAfter}
+use Rattle.polynomial.specs.Opening.{first, termBy, termRefusal, termsRefusal, isLarger, fall, orderBy, refusalOf}
+use Rattle.polynomial.specs.Checking.{orderNext}
 use Rattle.polynomial.proofs.MergeLaws.{under-more}
-use Rattle.polynomial.proofs.TermLists.{length-terms, term-at, lead-at}
 
 -- ---- one term
 module _ (o : Order) (n p w c : ℕ) where
@@ -57,94 +53,16 @@ larger-key o x y hx hy = ap isLarger (sym (key-compare o x y hx hy)) ∙ go (tri
     go (same k e) = ap isLarger e ∙ sym (le-ltb (keyOf o y) (keyOf o x) (let l : keyOf o x ≤ keyOf o y = omega arith in l))
     go (more k e) = ap isLarger e ∙ sym (lt-ltb (keyOf o y) (keyOf o x) k)
 
-module _ (o : Order) (ws : List ℕ) (i late a b : ℕ) (later : i ≡ 0 → ⊥) (ha : getD ws i 0 < 2 ^ 64) (hb : getD ws (i - 1) 0 < 2 ^ 64) (ea : a ≡ keyOf o (getD ws i 0)) (eb : b ≡ keyOf o (getD ws (i - 1) 0)) where
-  after : (t : Bool) → ltb a b ≡ t → orderNext t late ≡ orderAfter (compareWords o) ws i late
-  after t e = go i later (sym (larger-key o (getD ws (i - 1) 0) (getD ws i 0) hb ha ∙ (ap₂ ltb (sym ea) (sym eb) ∙ e)))
-    where
-      go : (j : ℕ) → (j ≡ 0 → ⊥) → t ≡ isLarger (compareWords o (getD ws (j - 1) 0) (getD ws j 0)) → orderNext t late ≡ orderAfter (compareWords o) ws j late
-      go zero f q = absurd (f refl)
-      go (suc j) f q = ap (λ (s : Bool). orderNext s late) (q ∙ ap (λ (k : ℕ). isLarger (compareWords o (getD ws k 0) (getD ws (suc j) 0))) (let k : suc j - 1 ≡ j = omega arith in k))
+-- after the last word the next one is smaller, or it is not
+module _ (o : Order) (last word late a b : ℕ) (hl : last < 2 ^ 64) (hw : word < 2 ^ 64) (ea : a ≡ keyOf o word) (eb : b ≡ keyOf o last) where
+  after : (t : Bool) → ltb a b ≡ t → orderNext t late ≡ orderNext (isLarger (compareWords o last word)) late
+  after t e = ap (λ (s : Bool). orderNext s late) (sym (larger-key o last word hl hw ∙ (ap₂ ltb (sym ea) (sym eb) ∙ e)))
 
-  pub still-falls : a < b → late ≡ orderAfter (compareWords o) ws i late
+  pub still-falls : a < b → late ≡ orderNext (isLarger (compareWords o last word)) late
   still-falls h = after true (lt-ltb a b h)
 
-  pub no-fall : b ≤ a → 6 ≡ orderAfter (compareWords o) ws i late
+  pub no-fall : b ≤ a → 6 ≡ orderNext (isLarger (compareWords o last word)) late
   no-fall h = after false (le-ltb a b h)
-
--- ---- the loop
-fall-last : (cmp : ℕ → ℕ → Ordering) (ts : List (Term ℕ)) (t u : Term ℕ) → fall cmp (ts ++ (t ∷ (u ∷ []))) ≡ (fall cmp (ts ++ (t ∷ [])) && isLarger (cmp (t .mono) (u .mono)))
-unfolding fall
-fall-last cmp [] t u = and-true (isLarger (cmp (t .mono) (u .mono)))
-fall-last cmp (a ∷ []) t u = ap (λ (q : Bool). isLarger (cmp (a .mono) (t .mono)) && q) (and-true (isLarger (cmp (t .mono) (u .mono)))) ∙ ap (λ (q : Bool). q && isLarger (cmp (t .mono) (u .mono))) (sym (and-true (isLarger (cmp (a .mono) (t .mono)))))
-fall-last cmp (a ∷ (b ∷ ts)) t u =
-    ap (λ (q : Bool). isLarger (cmp (a .mono) (b .mono)) && q) (fall-last cmp (b ∷ ts) t u)
-    ∙ sym (and-assoc (isLarger (cmp (a .mono) (b .mono))) (fall cmp (b ∷ (ts ++ (t ∷ [])))) (isLarger (cmp (t .mono) (u .mono))))
-
-order-last : (b l : Bool) → orderBy (b && l) ≡ orderNext l (orderBy b)
-order-last b true = ap orderBy (and-true b)
-order-last b false = ap orderBy (and-false b)
-
--- i terms are looked at: none of them is refused, and `late` is the refusal for their order
-pub record Looked (o : Order) (n p : ℕ) (ts : List (Term ℕ)) (i late : ℕ) : Type 0 where
-  pub low : i ≤ length ts
-  pub rest : termsRefusal o n p (drop i ts) ≡ termsRefusal o n p ts
-  pub order : late ≡ orderBy (fall (compareWords o) (take i ts))
-
-pub look-start : (o : Order) (n p : ℕ) (ts : List (Term ℕ)) → Looked o n p ts 0 0
-unfolding fall
-look-start o n p ts = record { low = zero-le; rest = refl; order = refl }
-
-module _ (o : Order) (n p : ℕ) (ws cs : List ℕ) (long : length cs ≡ length ws) (i late : ℕ) (l : Looked o n p (terms ws cs) i late) (inside : i < length ws) where
-  -- the refusal of what is left, by the term at i
-  at-term : (r : ℕ) → r ≡ termRefusal o n p (term (getD ws i 0) (getD cs i 0)) → first r (termsRefusal o n p (drop (i + 1) (terms ws cs))) ≡ termsRefusal o n p (terms ws cs)
-  unfolding termsRefusal
-  at-term r e = ap (λ (k : ℕ). first k (termsRefusal o n p (drop (i + 1) (terms ws cs)))) e ∙ (sym (ap (termsRefusal o n p) (lead-at ws cs i long inside)) ∙ l .rest)
-
-  pub look-stop : (r : ℕ) → r ≡ termRefusal o n p (term (getD ws i 0) (getD cs i 0)) → (r ≡ 0 → ⊥) → r ≡ refusalOf o n p (terms ws cs)
-  unfolding refusalOf
-  look-stop r e f = go r f (at-term r e)
-    where
-      go : (k : ℕ) → (k ≡ 0 → ⊥) → first k (termsRefusal o n p (drop (i + 1) (terms ws cs))) ≡ termsRefusal o n p (terms ws cs) → k ≡ first (termsRefusal o n p (terms ws cs)) (orderBy (fall (compareWords o) (terms ws cs)))
-      go zero g q = absurd (g refl)
-      go (suc k) g q = ap (λ (s : ℕ). first s (orderBy (fall (compareWords o) (terms ws cs)))) q
-
-  fall-next : orderBy (fall (compareWords o) (take (i + 1) (terms ws cs))) ≡ orderAfter (compareWords o) ws i (orderBy (fall (compareWords o) (take i (terms ws cs))))
-  unfolding fall
-  fall-next = ap (λ (k : ℕ). orderBy (fall (compareWords o) (take k (terms ws cs)))) (add-one i) ∙ go i inside
-    where
-      cmp : ℕ → ℕ → Ordering
-      cmp = compareWords o
-
-      ts : List (Term ℕ)
-      ts = terms ws cs
-
-      longer : (j : ℕ) → j < length ws → take (suc j) ts ≡ take j ts ++ (term (getD ws j 0) (getD cs j 0) ∷ [])
-      longer j h = take-suc ts j (term 0 0) (let k : j < length ts = omega (arith, length-terms ws cs long) in k) ∙ ap (λ (t : Term ℕ). take j ts ++ (t ∷ [])) (term-at ws cs j long)
-
-      go : (j : ℕ) → j < length ws → orderBy (fall cmp (take (suc j) ts)) ≡ orderAfter cmp ws j (orderBy (fall cmp (take j ts)))
-      go zero h = ap (λ (q : List (Term ℕ)). orderBy (fall cmp q)) (longer zero h)
-      go (suc j) h =
-          let k : j < length ws = omega arith in
-          let t : Term ℕ = term (getD ws j 0) (getD cs j 0) in
-          let u : Term ℕ = term (getD ws (suc j) 0) (getD cs (suc j) 0) in
-          ap (λ (q : List (Term ℕ)). orderBy (fall cmp q)) (longer (suc j) h ∙ (ap (λ (q : List (Term ℕ)). q ++ (u ∷ [])) (longer j k) ∙ append-assoc (take j ts) (t ∷ []) (u ∷ [])))
-          ∙ (ap orderBy (fall-last cmp (take j ts) t u)
-          ∙ (order-last (fall cmp (take j ts ++ (t ∷ []))) (isLarger (cmp (getD ws j 0) (getD ws (suc j) 0)))
-          ∙ ap (λ (q : List (Term ℕ)). orderNext (isLarger (cmp (getD ws j 0) (getD ws (suc j) 0))) (orderBy (fall cmp q))) (sym (longer j k))))
-
-  pub look-next : (r late' : ℕ) → r ≡ termRefusal o n p (term (getD ws i 0) (getD cs i 0)) → r ≡ 0 → late' ≡ orderAfter (compareWords o) ws i late → Looked o n p (terms ws cs) (i + 1) late'
-  look-next r late' e z q = record {
-    low = omega (arith, length-terms ws cs long);
-    rest = sym (ap (λ (k : ℕ). first k (termsRefusal o n p (drop (i + 1) (terms ws cs)))) z) ∙ at-term r e;
-    order = q ∙ (ap (orderAfter (compareWords o) ws i) (l .order) ∙ sym fall-next);
-  }
-
-pub look-ends : (o : Order) (n p : ℕ) (ts : List (Term ℕ)) (i late : ℕ) → Looked o n p ts i late → length ts ≤ i → late ≡ refusalOf o n p ts
-unfolding refusalOf termsRefusal
-look-ends o n p ts i late l h =
-    l .order
-    ∙ (ap (λ (q : List (Term ℕ)). orderBy (fall (compareWords o) q)) (take-all i ts h)
-    ∙ ap (λ (k : ℕ). first k (orderBy (fall (compareWords o) ts))) (sym (ap (termsRefusal o n p) (drop-of-length-le ts {i = i} h)) ∙ l .rest))
 
 -- ---- a polynomial that passes
 larger-gt : (t : Ordering) → isLarger t ≡ true → t ≡ Ordering·gt
@@ -182,20 +100,20 @@ order-none : (b : Bool) → orderBy b ≡ 0 → b ≡ true
 order-none true h = refl
 order-none false h = absurd (let z : ⊥ = omega arith in z)
 
-terms-pass : (o : Order) (n p : ℕ) (ts : List (Term ℕ)) → termsRefusal o n p ts ≡ 0 → Reduced p ts × All (λ t. Layout o n (t .mono)) ts
+terms-pass : (o : Order) (n p : ℕ) (ts : List (Term ℕ)) → termsRefusal (termRefusal o n p) ts ≡ 0 → Reduced p ts × All (λ t. Layout o n (t .mono)) ts
 unfolding termsRefusal
 terms-pass o n p [] h = (tt, tt)
 terms-pass o n p (t ∷ ts) h =
-    let a = first-none (termRefusal o n p t) (termsRefusal o n p ts) h in
+    let a = first-none (termRefusal o n p t) (termsRefusal (termRefusal o n p) ts) h in
     let b = by-none (ltb 0 (t .coef) && ltb (t .coef) p) (inLayout o n (t .mono)) (a .0) in
     let c = and-both (ltb 0 (t .coef)) (ltb (t .coef) p) (b .0) in
     let r = terms-pass o n p ts (a .1) in
     (((ltb-true 0 (t .coef) (c .0), ltb-true (t .coef) p (c .1)), r .0), (test-layout o n (t .mono) (b .1), r .1))
 
 -- a polynomial that no refusal meets is canonical, and its words are of the layout
-pub passes : (o : Order) (n p : ℕ) (ts : List (Term ℕ)) → refusalOf o n p ts ≡ 0 → Canonical (compareWords o) p ts × All (λ t. Layout o n (t .mono)) ts
+pub passes : (o : Order) (n p : ℕ) (ts : List (Term ℕ)) → refusalOf (termRefusal o n p) (compareWords o) ts ≡ 0 → Canonical (compareWords o) p ts × All (λ t. Layout o n (t .mono)) ts
 unfolding refusalOf
 passes o n p ts h =
-    let a = first-none (termsRefusal o n p ts) (orderBy (fall (compareWords o) ts)) h in
+    let a = first-none (termsRefusal (termRefusal o n p) ts) (orderBy (fall (compareWords o) ts)) h in
     let b = terms-pass o n p ts (a .0) in
     (record { falling = fall-falling (compareWords o) (words-order o) ts (order-none (fall (compareWords o) ts) (a .1)); reduced = b .0 }, b .1)

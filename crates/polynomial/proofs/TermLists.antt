@@ -1,7 +1,7 @@
 -- Terms of two slices, and back: a polynomial as a list of terms and as a list of words with a list of coefficients. Assumes nothing.
 use mathlib.Core.Path.{_≡_, refl, sym, ap, ap₂, _∙_}
-use mathlib.Core.List.{List, [], _∷_, map}
-use Prim.Native.Nat.{ℕ, zero, suc, _+_, _-_, _<_}
+use mathlib.Core.List.{List, [], _∷_, _++_, map}
+use Prim.Native.Nat.{ℕ, zero, suc, _+_, _<_}
 use native.Mathlib.Nat.{suc-inj}
 use native.Mathlib.Numerals.{add-one}
 use native.Mathlib.Omega.{arith}
@@ -27,6 +27,13 @@ pub lead-at : (ws cs : List ℕ) (i : ℕ) → length cs ≡ length ws → i < l
 lead-at ws cs i e h =
     drop-cons (terms ws cs) i (term 0 0) (let k : i < length (terms ws cs) = omega (arith, length-terms ws cs e) in k)
     ∙ ap₂ (λ (t : Term ℕ) (n : ℕ). t ∷ drop n (terms ws cs)) (term-at ws cs i e) (sym (add-one i))
+
+-- two parts of two slices, one after the other
+pub terms-append : (ws cs us ds : List ℕ) → length cs ≡ length ws → terms ws cs ++ terms us ds ≡ terms (ws ++ us) (cs ++ ds)
+terms-append [] [] us ds e = refl
+terms-append [] (c ∷ cs) us ds e = absurd (let z : ⊥ = omega arith in z)
+terms-append (w ∷ ws) [] us ds e = absurd (let z : ⊥ = omega arith in z)
+terms-append (w ∷ ws) (c ∷ cs) us ds e = ap (λ (ts : List (Term ℕ)). term w c ∷ ts) (terms-append ws cs us ds (suc-inj e))
 
 pub words-terms : (ws cs : List ℕ) → length cs ≡ length ws → words (terms ws cs) ≡ ws
 words-terms [] cs e = refl

@@ -3,3 +3,4 @@ pub mod Terms
 pub mod Merge
 pub mod Multiple
 pub mod Opening
+pub mod Checking

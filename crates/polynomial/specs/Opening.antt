@@ -43,9 +43,10 @@ termBy true true = 0
 abbrev pub termRefusal : Order → (n p : ℕ) → Term ℕ → ℕ
 termRefusal o n p t = termBy (ltb 0 (t .coef) && ltb (t .coef) p) (inLayout o n (t .mono))
 
-unfoldable pub termsRefusal : Order → (n p : ℕ) → List (Term ℕ) → ℕ
-termsRefusal o n p [] = 0
-termsRefusal o n p (t ∷ ts) = first (termRefusal o n p t) (termsRefusal o n p ts)
+-- the refusal of the first term that has one, by any judgement of a term
+unfoldable pub termsRefusal : {A : Type 0} → (judge : Term A → ℕ) → List (Term A) → ℕ
+termsRefusal judge [] = 0
+termsRefusal judge (t ∷ ts) = first (judge t) (termsRefusal judge ts)
 
 abbrev pub isLarger : Ordering → Bool
 isLarger Ordering·lt = false
@@ -63,24 +64,16 @@ abbrev pub orderBy : (falling : Bool) → ℕ
 orderBy true = 0
 orderBy false = 6
 
-unfoldable pub refusalOf : Order → (n p : ℕ) → List (Term ℕ) → ℕ
-refusalOf o n p ts = first (termsRefusal o n p ts) (orderBy (fall (compareWords o) ts))
+-- the refusal of a polynomial, by any judgement of a term and any comparison of monomials
+unfoldable pub refusalOf : {A : Type 0} → (judge : Term A → ℕ) → (A → A → Ordering) → List (Term A) → ℕ
+refusalOf judge cmp ts = first (termsRefusal judge ts) (orderBy (fall cmp ts))
 
--- the same in a setting
+-- that of words in a setting
 abbrev pub polynomialRefusal : Setting → List (Term ℕ) → ℕ
-polynomialRefusal t ts = refusalOf (orderOf (t .order)) (t .n) (t .p) ts
+polynomialRefusal t ts = refusalOf (termRefusal (orderOf (t .order)) (t .n) (t .p)) (compareWords (orderOf (t .order))) ts
 
 -- what the part of polynomial k asks: both of its starts are there, rise, and end within the slice
 pub record Within (starts : List ℕ) (k len : ℕ) : Type 0 where
   pub there : k + 1 < length starts
   pub rise : getD starts k 0 ≤ getD starts (k + 1) 0
   pub ends : getD starts (k + 1) 0 ≤ len
-
--- the refusal for the order once word i is looked at, after `late` for those before it
-abbrev pub orderNext : (larger : Bool) → ℕ → ℕ
-orderNext true late = late
-orderNext false late = 6
-
-abbrev pub orderAfter : (ℕ → ℕ → Ordering) → List ℕ → ℕ → ℕ → ℕ
-orderAfter cmp ws zero late = late
-orderAfter cmp ws (suc i) late = orderNext (isLarger (cmp (getD ws i 0) (getD ws (suc i) 0))) late

@@ -1,14 +1,48 @@
-// The opening check of one polynomial. Refusals are document 01's numbers, and 0 is none.
+// The opening check of one polynomial, whole or part by part. Refusals are document 01's numbers, and
+// 0 is none.
 use crate::setting::Setting;
+use monomial::layout::beyond_bits;
 use monomial::layout::in_layout;
 use monomial::order::Order;
 use monomial::order::order_of;
 ghost use mathlib.Core.Path.{_≡_};
-ghost use Prim.Native.Nat.{_<_, _≤_};
+ghost use Prim.Native.Nat.{_≤_};
 ghost use lib.ListN.{length};
 ghost use Rattle.monomial.specs.Words.{compareWords};
 ghost use Rattle.polynomial.specs.Terms.{term, terms};
-ghost use Rattle.polynomial.specs.Opening.{termRefusal, polynomialRefusal, orderAfter};
+ghost use Rattle.polynomial.specs.Opening.{polynomialRefusal};
+ghost use Rattle.polynomial.specs.Checking.{unseen, verdict, carriedBy, lateAfter, polynomialOn, JudgesTerm};
+
+// What the check carries from one part of a polynomial to the next: the first 4 or 5, or 0; 6 where
+// the terms so far do not fall, or else 0; whether a term has come, since the word 0 is a monomial;
+// and the last word. After a 4 or 5 no term is looked at, and nothing changes.
+pub struct Checking {
+    pub stop: u32,
+    pub late: u32,
+    pub seen: bool,
+    pub last: u64,
+}
+
+impl Checking {
+    // No term has come.
+    pub fn unseen() -> Self
+        ensures { λ r. ⌜ carriedBy r ≡ unseen 0 ⌝ }
+    {
+        Checking {
+            stop: 0,
+            late: 0,
+            seen: false,
+            last: 0,
+        }
+    }
+
+    // The refusal of the terms so far.
+    pub fn verdict(self) -> u32
+        ensures { λ r. ⌜ r ≡ verdict (carriedBy self) ⌝ }
+    {
+        if self.stop != 0 { self.stop } else { self.late }
+    }
+}
 
 // The refusal of a polynomial in a setting: the first place with 4 or 5, and else 6 where the terms do
 // not fall. One pass over the terms.
@@ -16,26 +50,54 @@ pub fn check(t: Setting, words: &[u64], coefs: &[u32]) -> u32
     requires { ⌜ (t .n ≤ 6) × (length (now coefs) ≡ length (now words)) ⌝ }
     ensures { λ r. ⌜ r ≡ polynomialRefusal t (terms (now (words .entry)) (now (coefs .entry))) ⌝ }
 {
+    check_on(t, words, coefs, Checking::unseen()).verdict()
+}
+
+// The check carried on over a further part of a polynomial. The loop keeps plain numbers, since a
+// struct made for each term is slower; so is judging a term before it is compared.
+pub fn check_on(t: Setting, words: &[u64], coefs: &[u32], from: Checking) -> Checking
+    requires { ⌜ (t .n ≤ 6) × (length (now coefs) ≡ length (now words)) ⌝ }
+    ensures { λ r. ⌜ carriedBy r ≡ polynomialOn t (carriedBy from) (terms (now (words .entry)) (now (coefs .entry))) ⌝ }
+{
+    if from.stop != 0 {
+        return from;
+    }
     let order = order_of(t.order);
     let n = t.n;
     let p = t.p;
-    let mut late: u32 = 0;
+    let beyond = beyond_bits(order, n);
+    let mut late = from.late;
+    let mut seen = from.seen;
+    let mut last = from.last;
     let mut i = 0;
     while i < words.len() {
-        let refusal = check_term(order, n, p, words[i], coefs[i]);
-        if refusal != 0 {
-            return refusal;
+        let word = words[i];
+        late = check_fall(order, seen, last, word, late);
+        seen = true;
+        last = word;
+        let stop = check_term(beyond, p, word, coefs[i]);
+        if stop != 0 {
+            return Checking {
+                stop,
+                late,
+                seen,
+                last,
+            };
         }
-        late = check_fall(order, words, i, late);
         i += 1;
     }
-    late
+    Checking {
+        stop: 0,
+        late,
+        seen,
+        last,
+    }
 }
 
-// The refusal of one term: 4 for its coefficient, 5 for its word.
-pub fn check_term(order: Order, n: u32, p: u32, word: u64, coef: u32) -> u32
-    requires { ⌜ n ≤ 6 ⌝ }
-    ensures { λ r. ⌜ r ≡ termRefusal order n p (term word coef) ⌝ }
+// The refusal of one term: 4 for its coefficient, 5 for its word. `beyond` is what `beyond_bits` gives;
+// of other bits nothing is promised.
+pub fn check_term(beyond: u64, p: u32, word: u64, coef: u32) -> u32
+    ensures { λ r. ⌜ JudgesTerm beyond p (term word coef) r ⌝ }
 {
     if coef == 0 {
         return 4;
@@ -43,18 +105,17 @@ pub fn check_term(order: Order, n: u32, p: u32, word: u64, coef: u32) -> u32
     if p <= coef {
         return 4;
     }
-    if in_layout(order, n, word) { 0 } else { 5 }
+    if in_layout(beyond, word) { 0 } else { 5 }
 }
 
-// 6 where word i is not smaller than the word before it, and else what came so far.
-fn check_fall(order: Order, words: &[u64], i: usize, late: u32) -> u32
-    requires { ⌜ i < length (now words) ⌝ }
-    ensures { λ r. ⌜ r ≡ orderAfter (compareWords order) (now (words .entry)) i late ⌝ }
+// 6 where a word came before that is not larger, and else what came so far.
+pub fn check_fall(order: Order, seen: bool, last: u64, word: u64, late: u32) -> u32
+    ensures { λ r. ⌜ r ≡ lateAfter (compareWords order) seen last word late ⌝ }
 {
-    if i == 0 {
+    if !seen {
         return late;
     }
-    if order.key(words[i]) < order.key(words[i - 1]) {
+    if order.key(word) < order.key(last) {
         late
     } else {
         6

@@ -6,12 +6,21 @@ use lib.Dec.{leb, ltb, eqb}
 use lib.ListN.{length, getD}
 use Rattle.residue.specs.Modular.{Modulus}
 use Rattle.monomial.specs.Words.{Packed}
+use Rattle.polynomial.specs.Checking.{Carried}
 use Rattle.merge_common.specs.Lent.{Poly}
 use Rattle.multiple.specs.Multiplying.{AllPacked}
+use Rattle.probe.specs.declared.polynomials.CheckNumbers.{CheckNumbers}
 
 -- at most 6 variables, and as many coefficients as words
 unfoldable pub checkable : (n words coefs : ℕ) → Bool
 checkable n words coefs = leb n 6 && eqb coefs words
+
+-- what a check carries, from its four numbers and from what is returned
+abbrev pub numbers : (stop late : ℕ) (seen : Bool) (last : ℕ) → Carried ℕ
+numbers stop late seen last = record { stop = stop; late = late; seen = seen; last = last }
+
+abbrev pub checkNumbers : CheckNumbers → Carried ℕ
+checkNumbers s = numbers (s .stop) (s .late) (s .seen) (s .last)
 
 -- polynomial k has both starts, which rise and end within the slice
 unfoldable pub partThere : List ℕ → ℕ → ℕ → Bool

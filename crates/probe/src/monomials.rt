@@ -2,6 +2,7 @@
 // slice has over 6 places, a word is not packed, or there is no quotient, the answer is REFUSED.
 use monomial::exponents::exponent;
 use monomial::exponents::word_of;
+use monomial::layout::beyond_bits;
 use monomial::layout::in_layout;
 use monomial::order::Comparison;
 use monomial::order::order_of;
@@ -53,7 +54,7 @@ pub extern "C" fn probe_in_layout(order: u32, n: u32, w: u64) -> bool
     if n > 6 {
         return false;
     }
-    in_layout(order_of(order), n, w)
+    in_layout(beyond_bits(order_of(order), n), w)
 }
 
 // Whether y divides x: 0 or 1, and 2 where a word is not packed.

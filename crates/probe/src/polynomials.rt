@@ -1,29 +1,33 @@
-// Polynomials in lent slices: their opening check, starts and parts, their merge, and the multiple
-// by a term. An order is its number, 1 to 3; any other number counts as 3. The merges and the
-// multiple ask what the functions that they call ask: whoever calls them tests it first.
+// Polynomials in lent slices: their opening check, whole and part by part, starts and parts, their
+// merge, and the multiple by a term. An order is its number, 1 to 3; any other number counts as 3.
+// The merges and the multiple ask what the functions that they call ask: whoever calls them tests it
+// first.
 use merge_by_order::merging::merge;
 use merge_by_order::within::merge_within;
 use monomial::order::order_of;
 use multiple::multiple::any_over;
 use multiple::multiple::put_multiple;
+use polynomial::check::Checking;
 use polynomial::check::check;
+use polynomial::check::check_on;
 use polynomial::part::coefs_of;
 use polynomial::part::words_of;
 use polynomial::setting::Setting;
 use polynomial::starts::starts_good;
 use residue::factor::Factor;
 ghost use mathlib.Core.Path.{_≡_};
-ghost use mathlib.Core.Bool.{cond};
+ghost use mathlib.Core.Bool.{cond, false};
 ghost use lib.ListN.{length, getD};
 ghost use Rattle.monomial.specs.Exponents.{orderOf};
 ghost use Rattle.monomial.specs.Words.{Packed, compareWords};
 ghost use Rattle.polynomial.specs.Settings.{settingOf};
 ghost use Rattle.polynomial.specs.Terms.{terms};
 ghost use Rattle.polynomial.specs.Opening.{polynomialRefusal, startsGood, partOf};
+ghost use Rattle.polynomial.specs.Checking.{polynomialOn};
 ghost use Rattle.merge_common.specs.Lent.{part};
 ghost use Rattle.merge_common.specs.Merging.{Sides, Within, Made};
 ghost use Rattle.multiple.specs.Multiplying.{AllPacked, anyOver, Multiplied};
-ghost use Rattle.probe.specs.Lending.{checkable, partThere, Factors};
+ghost use Rattle.probe.specs.Lending.{checkable, numbers, checkNumbers, partThere, Factors};
 
 const NO_WORD: u64 = 0xffff_ffff_ffff_ffff;
 
@@ -38,6 +42,15 @@ pub struct Counts {
     pub comparisons: u64,
 }
 
+// What a check carries from one part to the next.
+#[repr(C)]
+pub struct CheckNumbers {
+    pub stop: u32,
+    pub late: u32,
+    pub seen: bool,
+    pub last: u64,
+}
+
 // The refusal of a polynomial, 0 for none, or NOT_CHECKED where n is over 6 or the lengths differ.
 #[no_mangle]
 pub extern "C" fn probe_check(order: u32, n: u32, p: u32, words: &[u64], coefs: &[u32]) -> u32
@@ -47,6 +60,45 @@ pub extern "C" fn probe_check(order: u32, n: u32, p: u32, words: &[u64], coefs: 
         return NOT_CHECKED;
     }
     check(Setting { p, order, n }, words, coefs)
+}
+
+// The check carried on over a part from four numbers; NOT_CHECKED, 0, false and 0 where n is over 6 or
+// the lengths differ.
+#[no_mangle]
+pub extern "C" fn probe_check_on(
+    order: u32,
+    n: u32,
+    p: u32,
+    words: &[u64],
+    coefs: &[u32],
+    stop: u32,
+    late: u32,
+    seen: bool,
+    last: u64,
+) -> CheckNumbers
+    ensures { λ r. ⌜ checkNumbers r ≡ cond (checkable n (length (now (words .entry))) (length (now (coefs .entry)))) (polynomialOn (settingOf p order n) (numbers stop late seen last) (terms (now (words .entry)) (now (coefs .entry)))) (numbers 4294967295 0 false 0) ⌝ }
+{
+    if !is_checkable(n, words.len(), coefs.len()) {
+        return CheckNumbers {
+            stop: NOT_CHECKED,
+            late: 0,
+            seen: false,
+            last: 0,
+        };
+    }
+    let from = Checking {
+        stop,
+        late,
+        seen,
+        last,
+    };
+    let to = check_on(Setting { p, order, n }, words, coefs, from);
+    CheckNumbers {
+        stop: to.stop,
+        late: to.late,
+        seen: to.seen,
+        last: to.last,
+    }
 }
 
 // Whether a polynomial in n variables with so many words and coefficients can be checked.

@@ -1,6 +1,7 @@
 // Words read back: their exponents, and whether they are of the layout.
 use crate::text;
 use monomial::exponents::exponent;
+use monomial::layout::beyond_bits;
 use monomial::layout::in_layout;
 use monomial::order::Order;
 use monomial::order::order_of;
@@ -65,7 +66,7 @@ pub fn reading(order: Order, n: usize, w: u64)
     text::word(w);
     text::put(b" exponents ");
     back(order, n, w);
-    if in_layout(order, n as u32, w) {
+    if in_layout(beyond_bits(order, n as u32), w) {
         text::put(b" of the layout\n");
     } else {
         text::put(b" not of the layout\n");

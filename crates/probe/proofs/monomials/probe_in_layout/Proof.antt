@@ -15,11 +15,14 @@ returns c = let a = c .before .args in sym (ap (λ (t : Bool). t && inLayout (or
 order-of-requires : tie.Need-order-of-requires
 order-of-requires c κs = search needs
 
+beyond-bits-requires : tie.Need-beyond-bits-requires
+beyond-bits-requires c κs = search needs
+
 in-layout-requires : tie.Need-in-layout-requires
 in-layout-requires c κs = search needs
 
 returns-2 : tie.Need-returns-2
-returns-2 c = let a = c .before .before .before .args in c .in-layout .ensures ∙ (ap (λ (o : Order). inLayout o (a .n) (a .w)) (c .before .order-of .ensures) ∙ sym (ap (λ (t : Bool). t && inLayout (orderOf (a .order)) (a .n) (a .w)) (le-leb (a .n) 6 (c .before .before .if1 .left))))
+returns-2 c = let s = c .before .before .before .before in let a = s .args in let o = c .before .before .order-of in c .in-layout .ensures (o .result) (a .n) (c .before .before .before .if1 .left) (c .before .beyond-bits .ensures) ∙ (ap (λ (o : Order). inLayout o (a .n) (a .w)) (o .ensures) ∙ sym (ap (λ (t : Bool). t && inLayout (orderOf (a .order)) (a .n) (a .w)) (le-leb (a .n) 6 (c .before .before .before .if1 .left))))
 
 pub probe-in-layout-spec : {M : Type 1} → statement M
-probe-in-layout-spec = tie.close (tie.spec returns order-of-requires in-layout-requires returns-2)
+probe-in-layout-spec = tie.close (tie.spec returns order-of-requires beyond-bits-requires in-layout-requires returns-2)
