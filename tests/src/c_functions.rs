@@ -9,7 +9,40 @@ pub struct Counts {
     pub comparisons: u64,
 }
 
+/// What the opening check carries from one piece of a polynomial to the next: the first 4 or 5, 0 for
+/// none; 6 where a word did not fall, else 0; whether a term was looked at; and the last word.
+#[repr(C)]
+#[derive(Clone, Copy, Debug, Default, PartialEq, Eq)]
+pub struct Checking {
+    pub stop: u32,
+    pub late: u32,
+    pub seen: bool,
+    pub last: u64,
+}
+
 extern "C" {
+    fn probe_check(
+        order: u32,
+        n: u32,
+        p: u32,
+        words: *const u64,
+        words_len: usize,
+        coefs: *const u32,
+        coefs_len: usize,
+    ) -> u32;
+    fn probe_check_on(
+        order: u32,
+        n: u32,
+        p: u32,
+        words: *const u64,
+        words_len: usize,
+        coefs: *const u32,
+        coefs_len: usize,
+        stop: u32,
+        late: u32,
+        seen: bool,
+        last: u64,
+    ) -> Checking;
     pub fn probe_merge(
         order: u32,
         p: u32,
@@ -86,4 +119,35 @@ extern "C" {
         wc: *mut u32,
         wc_len: usize,
     );
+}
+
+/// The refusal of a polynomial, 0 for none, by order, number of variables and modulus.
+#[inline(always)]
+pub fn check((order, n, p): (u32, u32, u32), (words, coefs): (&[u64], &[u32])) -> u32 {
+    let ((w, w_len), (c, c_len)) = lent(words, coefs);
+    // SAFETY: it takes any numbers, stays within the slices and keeps no reference.
+    unsafe { probe_check(order, n, p, w, w_len, c, c_len) }
+}
+
+/// Carries the check of a polynomial on over a further piece of it.
+#[inline(always)]
+pub fn check_on(
+    (order, n, p): (u32, u32, u32),
+    (words, coefs): (&[u64], &[u32]),
+    from: Checking,
+) -> Checking {
+    let ((w, w_len), (c, c_len)) = lent(words, coefs);
+    let Checking {
+        stop,
+        late,
+        seen,
+        last,
+    } = from;
+    // SAFETY: as above.
+    unsafe { probe_check_on(order, n, p, w, w_len, c, c_len, stop, late, seen, last) }
+}
+
+/// Two slices as C takes them.
+fn lent(words: &[u64], coefs: &[u32]) -> ((*const u64, usize), (*const u32, usize)) {
+    ((words.as_ptr(), words.len()), (coefs.as_ptr(), coefs.len()))
 }

@@ -1,6 +1,6 @@
 //! Generated settings, terms and contents, for the tests that need any.
 use crate::limits::LARGEST_PRIME;
-use crate::monomial::{Order, FIELDS};
+use crate::monomial::{Order, FIELDS, LIMIT};
 use crate::polynomial::Term;
 use crate::random::Random;
 use crate::residue;
@@ -59,6 +59,18 @@ pub fn monomials(
 pub fn with_coefs(random: &mut Random, p: u32, monomials: Vec<Vec<u8>>) -> Vec<Term> {
     let term = |m| (m, coef(random, p));
     monomials.into_iter().map(term).collect()
+}
+
+/// The most terms of a polynomial that may be dense.
+pub const SHORT: usize = 60;
+
+/// A polynomial of up to `len` terms, dense or scattered.
+pub fn polynomial(random: &mut Random, order: Order, n: usize, p: u32, len: usize) -> Vec<Term> {
+    let dense = random.pick(&[1, 3, 15, LIMIT, LIMIT]);
+    let limit = if len > SHORT { LIMIT } else { dense };
+    let len = up_to(random, len);
+    let monomials = monomials(random, order, n, len, limit);
+    with_coefs(random, p, monomials)
 }
 
 /// The terms times -1.

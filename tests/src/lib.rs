@@ -1,12 +1,13 @@
 //! A second program for what the proved crates compute. `monomial`, `residue`, `polynomial`,
-//! `geobucket`, `call`, `course`, `run`, `reduction`, `block_store` and `script` are plain models, which
-//! share no code with the proved crates; `library` calls the proved entries, `probe` and `probe_buckets`
-//! the proved functions below them; the other modules make what they are given.
+//! `checking`, `geobucket`, `call`, `course`, `run`, `reduction`, `block_store` and `script` are plain
+//! models, which share no code with the proved crates; `library` calls the proved entries, `probe` and
+//! `probe_buckets` the proved functions below them; the other modules make what they are given.
 #![allow(clippy::manual_is_multiple_of)] // the method is missing in older compilers
 
 pub mod block_store;
 pub mod c_functions;
 pub mod call;
+pub mod checking;
 pub mod course;
 pub mod damage;
 pub mod generate;
@@ -17,6 +18,7 @@ pub mod limits;
 pub mod monomial;
 pub mod operations;
 pub mod polynomial;
+pub mod polynomial_damage;
 pub mod pools;
 pub mod probe;
 pub mod probe_buckets;

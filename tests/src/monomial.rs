@@ -65,6 +65,18 @@ impl Order {
         std::array::from_fn(|k| (word >> self.shift(k) & 0xff) as u8)
     }
 
+    /// How any word stands to another, of the layout or not: what lies above the fields counts as the
+    /// degree, and lp looks at it last.
+    pub fn compare_words(self, x: u64, y: u64) -> Ordering {
+        let degree = (x >> 48).cmp(&(y >> 48));
+        let (a, b) = (self.fields(x), self.fields(y));
+        match self {
+            Order::Lex => lex(&a, &b).then(degree),
+            Order::DegLex => degree.then(lex(&a, &b)),
+            Order::DegRevLex => degree.then(rev_lex(&a, &b)),
+        }
+    }
+
     /// Whether the word is of the layout in n variables.
     pub fn in_layout(self, n: usize, word: u64) -> bool {
         let fields = self.fields(word);

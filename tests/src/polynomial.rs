@@ -68,22 +68,35 @@ pub fn multiple(p: u32, c: u32, q: &[u8], terms: &[Term]) -> Option<Vec<Term>> {
     terms.iter().map(times).collect()
 }
 
-/// The refusal of a lent polynomial in n variables, 0 for none: the first place with 4 or 5, 4 first
-/// at one place; then 6.
+/// The refusal of a lent polynomial in n variables, 0 for none: the first place with 4 or 5; then 6.
 pub fn refusal(order: Order, n: usize, p: u32, words: &[u64], coefs: &[u32]) -> u32 {
     for (&word, &coef) in words.iter().zip(coefs) {
-        if coef == 0 || coef >= p {
-            return 4;
-        }
-        if !order.in_layout(n, word) {
-            return 5;
+        let refusal = term_refusal(order, n, p, word, coef);
+        if refusal != 0 {
+            return refusal;
         }
     }
-    let falls = |x: u64, y: u64| order.compare(&order.fields(x), &order.fields(y)).is_gt();
-    match words.windows(2).all(|pair| falls(pair[0], pair[1])) {
+    match falls(order, words) {
         true => 0,
         false => 6,
     }
+}
+
+/// The refusal of one term, 0 for none: 4 for its coefficient, and then 5 for its word.
+pub fn term_refusal(order: Order, n: usize, p: u32, word: u64, coef: u32) -> u32 {
+    if coef == 0 || coef >= p {
+        4
+    } else if !order.in_layout(n, word) {
+        5
+    } else {
+        0
+    }
+}
+
+/// Whether each word, all of the layout, is larger than the next, by their exponents.
+pub fn falls(order: Order, words: &[u64]) -> bool {
+    let larger = |x: u64, y: u64| order.compare(&order.fields(x), &order.fields(y)).is_gt();
+    words.windows(2).all(|pair| larger(pair[0], pair[1]))
 }
 
 /// Whether the first start is 0, the last is the length, and none falls.

@@ -1,5 +1,5 @@
 //! The proved functions, through the static library `probe`.
-use crate::c_functions::{probe_merge, Counts};
+use crate::c_functions::{self, probe_merge, Checking, Counts};
 use crate::monomial::{Order, LIMIT};
 use crate::residue;
 use std::cmp::Ordering;
@@ -16,8 +16,14 @@ pub const NO_EXPONENT: u32 = 256;
 /// The answer of `divides` on words that are not packed.
 pub const NOT_PACKED: u32 = 2;
 
-/// The answer of `check` for over 6 variables or unequal lengths.
+/// The answers of `check` and of `check_on` for over 6 variables or unequal lengths.
 pub const NOT_CHECKED: u32 = u32::MAX;
+pub const NOT_CHECKED_ON: Checking = Checking {
+    stop: NOT_CHECKED,
+    late: 0,
+    seen: false,
+    last: 0,
+};
 
 /// The answers for a word and a coefficient that a part does not have.
 pub const NO_WORD: u64 = u64::MAX;
@@ -37,15 +43,6 @@ extern "C" {
     fn probe_multiply_residues(a: u32, b: u32, p: u32) -> u32;
     fn probe_factor_times(a: u32, b: u32, p: u32) -> u32;
     fn probe_invert(a: u32, p: u32) -> u32;
-    fn probe_check(
-        order: u32,
-        n: u32,
-        p: u32,
-        words: *const u64,
-        words_len: usize,
-        coefs: *const u32,
-        coefs_len: usize,
-    ) -> u32;
     fn probe_starts_good(starts: *const usize, starts_len: usize, len: usize) -> bool;
     fn probe_part_word(
         words: *const u64,
@@ -179,18 +176,13 @@ fn ask_packed(w: u64) {
     assert!(w >> 63 == 0 && fields.iter().all(|&e| e <= LIMIT));
 }
 
-pub fn check(order: Order, n: u32, p: u32, (words, coefs): Lent) -> u32 {
-    unsafe {
-        probe_check(
-            order.number(),
-            n,
-            p,
-            words.as_ptr(),
-            words.len(),
-            coefs.as_ptr(),
-            coefs.len(),
-        )
-    }
+pub fn check(order: Order, n: u32, p: u32, terms: Lent) -> u32 {
+    c_functions::check((order.number(), n, p), terms)
+}
+
+/// Carries the check of a polynomial on over a further piece of it.
+pub fn check_on(order: Order, n: u32, p: u32, terms: Lent, from: Checking) -> Checking {
+    c_functions::check_on((order.number(), n, p), terms, from)
 }
 
 pub fn starts_good(starts: &[usize], len: usize) -> bool {

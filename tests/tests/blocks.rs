@@ -227,6 +227,41 @@ fn many_faults() {
     met.expect("read", least);
 }
 
+/// An order fault at place `at`: the word before it again, or the two in turn.
+fn fault(random: &mut Random, f: &mut Polynomial, at: usize) {
+    match random.below(2) {
+        0 => f.words[at] = f.words[at - 1],
+        _ => f.words.swap(at - 1, at),
+    }
+}
+
+/// Blocks of good form with an order fault, within a block or from one to the next, alone or with a bad
+/// coefficient after it.
+#[test]
+fn faults_of_the_order() {
+    let random = &mut Random::new(127);
+    let (mut from_block_to_block, mut then_four) = (0, 0);
+    for case in 0..cases() / CASES_PER_CALL {
+        let terms = BLOCK_TERMS + 2 + random.below(90) as usize;
+        let mut f = polynomial(random, terms);
+        let any = 1 + random.below(terms as u64 - 1) as usize;
+        let first_of_a_block = BLOCK_TERMS * (1 + any % ((terms - 1) / BLOCK_TERMS));
+        let at = random.pick(&[any, first_of_a_block]);
+        fault(random, &mut f, at);
+        let four = at + 1 < terms && case % 3 == 0;
+        if four {
+            let later = at + 1 + random.below((terms - at - 1) as u64) as usize;
+            f.coefs[later] = random.pick(&[0, f.setting.p, u32::MAX]);
+        }
+        let refusal = read(random, &f.blocks(), (terms, terms)).err();
+        assert_eq!(refusal, Some(if four { 4 } else { 6 }), "place {at}");
+        from_block_to_block += u64::from(!four && at == first_of_a_block);
+        then_four += u64::from(four);
+    }
+    let least = cases() / CASES_PER_REFUSAL;
+    assert!(from_block_to_block > least && then_four > least);
+}
+
 /// One block changed, with its check put right.
 fn changed(blocks: &[u8], number: usize, change: impl Fn(&mut [u8])) -> Vec<u8> {
     let mut bytes = blocks.to_vec();

@@ -105,7 +105,7 @@ fn claims_are_made_once() {
             );
         }
     }
-    let known = "demand 1, demand 2, demand 3, ground, price, starred, wrong engine";
+    let known = "demand 1, demand 2, demand 3, ground, point 3, price, starred, wrong engine";
     assert_eq!(kinds.into_iter().collect::<Vec<_>>().join(", "), known);
     assert!(found.len() > 100, "only {} names", found.len());
 }
@@ -216,10 +216,10 @@ fn toolchain_is_the_pinned_one() {
 /// The documents keep to plain words.
 #[test]
 fn words_are_plain() {
-    let documents =
-        "ASSURANCE BENCHMARKS CONTRIBUTING DECISIONS INTEGRATION changes/README ../README";
-    for name in documents.split(' ') {
-        let document = text(&format!("docs/{name}.md"));
+    let docs = files(&root().join("docs")).into_iter();
+    let documents = docs.filter(|p| p.extension().is_some_and(|e| e == "md"));
+    for path in documents.chain([root().join("README.md")]) {
+        let (name, document) = (path.display(), fs::read_to_string(&path).expect("a text"));
         let said = document.split(|c: char| !c.is_alphanumeric());
         let said: Vec<&str> = said.filter(|w| !w.is_empty()).collect();
         let said = format!(" {} ", said.join(" "));

@@ -128,7 +128,7 @@ fn comparisons_of_monomials() {
     }
 }
 
-/// Each order is total on all words, of the layout or not, and goes by its key.
+/// Each order is total on all words, of the layout or not, goes by its key, and is the model's.
 #[test]
 fn orders_are_total() {
     let random = &mut Random::new(5);
@@ -147,6 +147,7 @@ fn orders_are_total() {
             assert_eq!(compare(y, x), compare(x, y).reverse());
             let keys = probe::key(order, x).cmp(&probe::key(order, y));
             assert_eq!(compare(x, y), keys);
+            assert_eq!(compare(x, y), order.compare_words(x, y));
             let mut sorted = [x, y, z];
             sorted.sort_by(|&a, &b| compare(a, b));
             assert!(compare(sorted[0], sorted[1]).is_le());

@@ -1,13 +1,14 @@
-//! Generated polynomials: checks, starts, parts, merges and multiples against the model. The variable
+//! Generated polynomials: starts, parts, merges and multiples against the model. The variable
 //! SECOND_CASES sets the size, as for the other generated tests.
 use second::c_functions::Counts;
 use second::cases;
 use second::generate::{
-    coef, falling, monomial, monomials, negative, places, setting, up_to, with_coefs,
+    coef, falling, monomial, monomials, negative, places, polynomial, setting, up_to, with_coefs,
+    SHORT,
 };
 use second::limits::{LARGEST_PRIME, WORK_PLACES};
-use second::monomial::{Order, FIELDS, LIMIT};
-use second::polynomial::{lent, merge, multiple, part, refusal, starts_good, sum, Term};
+use second::monomial::{Order, LIMIT};
+use second::polynomial::{lent, merge, multiple, part, starts_good, sum, Term};
 use second::probe;
 use second::random::Random;
 use second::residue;
@@ -15,18 +16,8 @@ use second::residue;
 /// The work space has two halves.
 const HALF: usize = WORK_PLACES / 2;
 
-/// The most terms of a list, but for one of so many cases.
-const SHORT: usize = 60;
+/// One of so many cases has a list of more than `SHORT` terms.
 const LONG_EVERY: u64 = 64;
-
-/// A polynomial of up to `len` terms, dense or scattered.
-fn polynomial(random: &mut Random, order: Order, n: usize, p: u32, len: usize) -> Vec<Term> {
-    let dense = random.pick(&[1, 3, 15, LIMIT, LIMIT]);
-    let limit = if len > SHORT { LIMIT } else { dense };
-    let len = up_to(random, len);
-    let monomials = monomials(random, order, n, len, limit);
-    with_coefs(random, p, monomials)
-}
 
 /// How two polynomials stand to each other.
 #[derive(Clone, Copy, Debug)]
@@ -299,170 +290,6 @@ fn merges_side_by_side() {
         put(order, &a, &mut space, from);
         let about = format!("case {case} {likeness:?} {from} to {to}");
         merge_within((order, p), (&a, from), &b, &mut space, to, &about);
-    }
-}
-
-/// What is done to a good polynomial.
-#[derive(Clone, Copy, Debug)]
-enum Damage {
-    None,
-    Coef(Number),
-    Word(Fault),
-    Equal,
-    Swapped,
-    Turned,
-    /// A bad coefficient, and a bad word at the same, a later or an earlier place.
-    CoefAndWord,
-    /// An early order fault, and a late bad coefficient or word.
-    EqualThenCoef,
-    SwappedThenWord,
-}
-
-#[derive(Clone, Copy, Debug)]
-enum Number {
-    Zero,
-    Prime,
-    Last,
-    Max,
-}
-
-#[derive(Clone, Copy, Debug)]
-enum Fault {
-    TopBit,
-    Degree,
-    Beyond,
-    AnyBit,
-    Any,
-}
-
-/// Their number and that of the settings have no common divisor, so that all come together.
-const DAMAGES: [Damage; 17] = [
-    Damage::None,
-    Damage::Coef(Number::Zero),
-    Damage::Coef(Number::Prime),
-    Damage::Coef(Number::Last),
-    Damage::Coef(Number::Max),
-    Damage::Word(Fault::TopBit),
-    Damage::Word(Fault::Degree),
-    Damage::Word(Fault::Beyond),
-    Damage::Word(Fault::AnyBit),
-    Damage::Word(Fault::Any),
-    Damage::Equal,
-    Damage::Swapped,
-    Damage::Turned,
-    Damage::CoefAndWord,
-    Damage::EqualThenCoef,
-    Damage::SwappedThenWord,
-    Damage::None,
-];
-
-fn number(p: u32, number: Number) -> u32 {
-    match number {
-        Number::Zero => 0,
-        Number::Prime => p,
-        Number::Last => p - 1,
-        Number::Max => u32::MAX,
-    }
-}
-
-fn bad_word(random: &mut Random, order: Order, n: usize, word: u64, fault: Fault) -> u64 {
-    match fault {
-        Fault::TopBit => word | 0x80 << (8 * random.below(6)),
-        Fault::Degree => word ^ 1 << (48 + random.below(16)),
-        Fault::Beyond => {
-            // The word of more variables, under its own degree.
-            let mut fields = order.fields(word);
-            fields[n.min(FIELDS - 1)] |= 1;
-            order.word(&fields)
-        }
-        Fault::AnyBit => word ^ 1 << random.below(64),
-        Fault::Any => random.word(),
-    }
-}
-
-/// Damages a polynomial, which has terms.
-fn damage(
-    random: &mut Random,
-    (order, n, p): (Order, usize, u32),
-    kind: Damage,
-    (words, coefs): &mut (Vec<u64>, Vec<u32>),
-) {
-    let last = words.len() - 1;
-    let at = up_to(random, last);
-    let next = (at + 1).min(last);
-    let later = at + up_to(random, last - at);
-    let out_of_range = random.pick(&[Number::Zero, Number::Prime, Number::Max]);
-    let fault = random.pick(&[Fault::TopBit, Fault::Degree, Fault::Any]);
-    match kind {
-        Damage::None => {}
-        Damage::Coef(c) => coefs[at] = number(p, c),
-        Damage::Word(fault) => words[at] = bad_word(random, order, n, words[at], fault),
-        Damage::Equal => words[next] = words[at],
-        Damage::Swapped => words.swap(at, next),
-        Damage::Turned => words.reverse(),
-        Damage::CoefAndWord => {
-            let (c, w) = random.pick(&[(at, at), (at, later), (later, at)]);
-            coefs[c] = number(p, out_of_range);
-            words[w] = bad_word(random, order, n, words[w], fault);
-        }
-        Damage::EqualThenCoef => {
-            words[next] = words[at];
-            coefs[later] = number(p, out_of_range);
-        }
-        Damage::SwappedThenWord => {
-            words.swap(at, next);
-            words[later] = bad_word(random, order, n, words[later], fault);
-        }
-    }
-}
-
-/// Good and damaged polynomials, as many as there are cases, each kind of damage in turn. Every
-/// refusal is met.
-#[test]
-fn checks() {
-    let random = &mut Random::new(24);
-    let mut met = [0; 7];
-    for case in 0..cases() {
-        let (order, n, p) = setting(case);
-        let kind = DAMAGES[(case % DAMAGES.len() as u64) as usize];
-        let terms = polynomial(random, order, n, p, 40);
-        let mut poly = lent(order, &terms);
-        if !terms.is_empty() {
-            damage(random, (order, n, p), kind, &mut poly);
-        }
-        let expected = refusal(order, n, p, &poly.0, &poly.1);
-        let found = probe::check(order, n as u32, p, as_lent(&poly));
-        let about = || format!("case {case} {order:?} n {n} p {p} {kind:?} {poly:x?}");
-        assert_eq!(found, expected, "{}", about());
-        met[expected as usize] += 1;
-    }
-    println!("refusals met: {met:?}");
-    for number in [0, 4, 5, 6] {
-        assert!(met[number] > 0, "refusal {number} is never met");
-    }
-}
-
-/// Over 6 variables and unequal lengths are not checked; modulo 0 and 1 no coefficient is good.
-#[test]
-fn checks_outside() {
-    let random = &mut Random::new(25);
-    for case in 0..cases() / 10 {
-        let (order, n, p) = setting(case);
-        let terms = polynomial(random, order, n, p, 10);
-        let (words, coefs) = lent(order, &terms);
-        let poly = (&words[..], &coefs[..]);
-        let many = random.pick(&[7, 8, 1 << 31, u32::MAX]);
-        assert_eq!(probe::check(order, many, p, poly), probe::NOT_CHECKED);
-        if let Some((_, fewer)) = coefs.split_last() {
-            let short = (&words[..], fewer);
-            assert_eq!(probe::check(order, n as u32, p, short), probe::NOT_CHECKED);
-            let short = (&words[1..], &coefs[..]);
-            assert_eq!(probe::check(order, n as u32, p, short), probe::NOT_CHECKED);
-        }
-        for p in [0, 1] {
-            let expected = refusal(order, n, p, &words, &coefs);
-            assert_eq!(probe::check(order, n as u32, p, poly), expected);
-        }
     }
 }
 
