@@ -64,18 +64,22 @@ impl Best {
     }
 }
 
-/// Times both, the proved one first in every other round. Gives the nanoseconds of each, and the
-/// number that they give, which must be the same.
-pub(crate) fn in_turn(round: usize, both: [&mut dyn FnMut() -> u64; 2]) -> ([f64; 2], u64) {
-    let mut times = [0.0; 2];
-    let mut numbers = [0; 2];
-    for turn in 0..both.len() {
-        let k = (round + turn) % both.len();
+/// Times each, another one first in the next round. Gives the nanoseconds of each, and the number that
+/// they give, which must be the same.
+pub(crate) fn in_turn<const N: usize>(
+    round: usize,
+    each: [&mut dyn FnMut() -> u64; N],
+) -> ([f64; N], u64) {
+    let mut times = [0.0; N];
+    let mut numbers = [0; N];
+    for turn in 0..N {
+        let k = (round + turn) % N;
         let start = Instant::now();
-        numbers[k] = both[k]();
+        numbers[k] = each[k]();
         times[k] = start.elapsed().as_nanos() as f64;
     }
-    assert_eq!(numbers[0], numbers[1], "results differ");
+    let same = numbers.iter().all(|n| *n == numbers[0]);
+    assert!(same, "results differ: {numbers:?}");
     (times, numbers[0])
 }
 

@@ -1,8 +1,9 @@
-//! Merges, geobuckets, runs, reductions and the block store for the benchmark: the proved ones through
-//! the static libraries `probe` and `damselbuckle`, and others in plain Rust. `lists` makes what they
-//! merge; `buckets` times geobuckets, `runs` and `reductions` whole calls, `singular` reductions beside
-//! Singular, `workload` calls from a file, `beside` the same beside another engine, and `blocks` the
-//! block store; `bound` sets comparisons beside their bound, and `picture` draws them.
+//! Merges, geobuckets, runs, reductions, the block store and the opening check for the benchmark: the
+//! proved ones through the static libraries `probe` and `damselbuckle`, and others in plain Rust. `lists`
+//! makes what they merge; `buckets` times geobuckets, `runs` and `reductions` whole calls, `singular`
+//! reductions beside Singular, `workload` calls from a file, `beside` the same beside another engine,
+//! `blocks` the block store, and `checks` the opening check; `bound` sets comparisons beside their bound,
+//! and `picture` draws them.
 #![allow(clippy::manual_is_multiple_of)] // the method is missing in older compilers
 
 pub mod beside;
@@ -11,6 +12,7 @@ pub mod bound;
 pub mod buckets;
 #[path = "../../tests/src/c_functions.rs"]
 pub mod c_functions;
+pub mod checks;
 pub mod geobucket;
 pub mod given;
 pub mod library;

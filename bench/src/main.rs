@@ -1,12 +1,14 @@
 //! Times the proved functions beside the same in plain Rust, and prints the table that is asked for
 //! by its name; or does the calls of a workload's file: `calls FILE`, `time FILE SECONDS`,
-//! `passes FILE N` or `beside ENGINE ROUNDS FILE ..`; or sets comparisons beside their bound: `bound
-//! PICTURE`. It fails only where results differ.
+//! `passes FILE N` or `beside ENGINE ROUNDS FILE ..`; or prints such a file, of a run that only checks
+//! its polynomials: `opening ORDER TERMS`; or sets comparisons beside their bound: `bound PICTURE`. It
+//! fails only where results differ.
 use bench::beside::beside;
 use bench::blocks::blocks;
 use bench::bound::bound;
 use bench::buckets;
 use bench::c_functions::Counts;
+use bench::checks::{checks, opening};
 use bench::lists::{pair, List, Order};
 use bench::merge::{branching, masks, Merge};
 use bench::proved;
@@ -14,7 +16,7 @@ use bench::random::Random;
 use bench::reductions::reductions;
 use bench::runs::runs;
 use bench::singular::singular;
-use bench::workload::Workload;
+use bench::workload::{order_named, Workload};
 use std::hint::black_box;
 use std::time::Instant;
 
@@ -49,6 +51,8 @@ fn main() {
         ["reductions"] => reductions(),
         ["singular"] => singular(),
         ["blocks"] => blocks(),
+        ["checks"] => checks(),
+        ["opening", order, terms] => opening(order_named(order), terms.parse().expect("terms")),
         ["bound", file] => bound(file),
         ["beside", engine, rounds, ref files @ ..] => {
             beside(engine, rounds.parse().expect("rounds"), files)
@@ -56,7 +60,7 @@ fn main() {
         ["calls", file] => workload(file).calls(),
         ["time", file, seconds] => workload(file).time(seconds.parse().expect("seconds")),
         ["passes", file, passes] => workload(file).passes(passes.parse().expect("passes")),
-        _ => panic!("merges, buckets, leads, settling, runs, reductions, singular, blocks, bound, beside, calls, time or passes"),
+        _ => panic!("merges, buckets, leads, settling, runs, reductions, singular, blocks, checks, bound, opening, beside, calls, time or passes"),
     }
 }
 

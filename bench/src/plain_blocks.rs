@@ -1,8 +1,6 @@
 //! The block store in plain Rust, with the order taken out of the loops.
 use crate::lists::{deg_rev_lex_key, lex_key, List};
-use crate::plain_opening::{
-    exponents, in_layout, is_prime, polynomial_good, polynomial_refusal, DEGREE,
-};
+use crate::plain_opening::{exponents, in_layout, is_prime, refusal_of_one, DEGREE};
 use damselbuckle::raw::{ReadAnswer, WriteAnswer};
 use damselbuckle::{BLOCK_BYTES, LARGEST_PRIME, MOST_BLOCKS, MOST_TERMS};
 
@@ -78,14 +76,9 @@ fn write_refusal(setting: Setting, terms: &List, room: usize) -> u64 {
     if terms.words.len() != terms.coefs.len() {
         return 8;
     }
-    let (p, allowed) = (setting.p, setting.allowed());
-    let good = match setting.order {
-        1 => polynomial_good(lex_key, p, allowed, terms.terms()),
-        2 => polynomial_good(|w| w, p, allowed, terms.terms()),
-        _ => polynomial_good(deg_rev_lex_key, p, allowed, terms.terms()),
-    };
-    if !good {
-        return polynomial_refusal(p, allowed, terms.terms());
+    let refusal = refusal_of_one(setting.order, setting.n, setting.p, terms.terms());
+    if refusal != 0 {
+        return refusal;
     }
     if terms.words.len() > MOST_TERMS {
         return 11;

@@ -1,7 +1,7 @@
 //! The opening checks that runs and reductions share, in plain Rust.
 use crate::geobucket::Memory;
 use crate::given::Given;
-use crate::lists::{List, Terms};
+use crate::lists::{deg_rev_lex_key, lex_key, List, Terms};
 use damselbuckle::{BUCKET_PLACES, LARGEST_PRIME, WORK_PLACES};
 
 /// The degree of a word, and the exponents of all six fields.
@@ -78,14 +78,24 @@ pub(crate) fn in_layout(allowed: u64, word: u64) -> bool {
     word & !allowed == 0 && word >> 48 == sum
 }
 
+/// The refusal of one polynomial, or 0, by the order's number, which is good, as n is.
+pub(crate) fn refusal_of_one(order: u32, n: u32, p: u32, terms: Terms) -> u64 {
+    let allowed = DEGREE | exponents(order == 3, n);
+    let good = match order {
+        1 => polynomial_good(lex_key, p, allowed, terms),
+        2 => polynomial_good(|w| w, p, allowed, terms),
+        _ => polynomial_good(deg_rev_lex_key, p, allowed, terms),
+    };
+    if good {
+        0
+    } else {
+        polynomial_refusal(p, allowed, terms)
+    }
+}
+
 /// Whether a polynomial is not refused. There is no branch on the terms.
 #[inline(always)]
-pub(crate) fn polynomial_good(
-    key: impl Fn(u64) -> u64,
-    p: u32,
-    allowed: u64,
-    (words, coefs): Terms,
-) -> bool {
+fn polynomial_good(key: impl Fn(u64) -> u64, p: u32, allowed: u64, (words, coefs): Terms) -> bool {
     let mut good = true;
     for (&word, &coef) in words.iter().zip(coefs) {
         good &= coef.wrapping_sub(1) < p - 1;
@@ -98,7 +108,7 @@ pub(crate) fn polynomial_good(
 }
 
 /// The refusal of a polynomial that has one.
-pub(crate) fn polynomial_refusal(p: u32, allowed: u64, (words, coefs): Terms) -> u64 {
+fn polynomial_refusal(p: u32, allowed: u64, (words, coefs): Terms) -> u64 {
     for (&word, &coef) in words.iter().zip(coefs) {
         if coef == 0 || coef >= p {
             return 4;

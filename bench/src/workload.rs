@@ -75,6 +75,11 @@ impl Outcome {
     }
 }
 
+pub fn order_named(name: &str) -> Order {
+    let mut orders = Order::ALL.into_iter();
+    orders.find(|o| o.name() == name).expect("no such order")
+}
+
 /// The keys and values of a file.
 struct Lines<'a>(Vec<(&'a str, &'a str)>);
 
@@ -94,9 +99,7 @@ impl<'a> Lines<'a> {
     }
 
     fn order(&self) -> Order {
-        let name = self.value("order");
-        let named = |o: &Order| Some(o.name()) == name;
-        Order::ALL.into_iter().find(named).expect("no such order")
+        order_named(self.value("order").expect("an order"))
     }
 
     /// No polynomials so far.
