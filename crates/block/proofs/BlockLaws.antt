@@ -2,7 +2,7 @@
 use mathlib.Core.Path.{_≡_, refl, sym, ap, ap₂, _∙_}
 use mathlib.Core.Bool.{Bool, true, false, _&&_}
 use mathlib.Core.List.{List, [], _∷_, _++_, append-assoc, append-nil}
-use Prim.Native.Nat.{ℕ, zero, suc, _+_, _-_, _*_, _%_, _^_, _<_, _≤_}
+use Prim.Native.Nat.{ℕ, zero, suc, _+_, _-_, _*_, _/_, _%_, _^_, _<_, _≤_}
 use native.Mathlib.Nat.{mod-add-mod, add-assoc, le-of-eq}
 use native.Mathlib.Numerals.{add-one}
 use native.Mathlib.Omega.{arith}
@@ -17,24 +17,28 @@ use Rattle.polynomial.proofs.TermLists.{length-terms, term-at}
 use Rattle.merge_common.specs.Lent.{part}
 use Rattle.merge_common.proofs.Lists.{sets-snoc}
 use Rattle.polynomial.specs.declared.setting.Setting.{Setting}
-use Rattle.block.specs.Block.{numberAt, settingBytes, header, place, places, unused, sumWords, checkOf, body, block, same, zeros}
+use Rattle.block.specs.Block.{numberAt, settingBytes, headerWith, header, place, places, unused, sumWords, checkOf, body, blockWith, block, same, zeros}
 use Rattle.block.proofs.ByteLaws.{part-part, part-put, part-cons, joined}
 
 -- ---- the header
-pub setting-put : (s s1 s2 s3 s4 : List ℕ) (at : ℕ) (t : Setting) → s1 ≡ sets s at (bytes 2 (t .p)) → s2 ≡ sets s1 (at + 2) (bytes 1 (t .order)) → s3 ≡ sets s2 (at + 3) (bytes 1 (t .n)) → s4 ≡ sets s3 (at + 4) (replicate 6 0) → s4 ≡ sets s at (settingBytes t)
+pub setting-put : (s s1 s2 s3 s4 s5 : List ℕ) (at : ℕ) (t : Setting) → s1 ≡ sets s at (bytes 2 (t .p)) → s2 ≡ sets s1 (at + 2) (bytes 1 (t .order)) → s3 ≡ sets s2 (at + 3) (bytes 1 (t .n)) → s4 ≡ sets s3 (at + 4) (bytes 2 (t .p / 65536)) → s5 ≡ sets s4 (at + 6) (replicate 4 0) → s5 ≡ sets s at (settingBytes t)
 unfolding settingBytes bytes
-setting-put s s1 s2 s3 s4 at t e1 e2 e3 e4 =
+setting-put s s1 s2 s3 s4 s5 at t e1 e2 e3 e4 e5 =
     let o = bytes 2 (t .p) ++ bytes 1 (t .order) in
-    joined s s3 s4 at (o ++ bytes 1 (t .n)) (replicate 6 0) (at + 4) refl (joined s s2 s3 at o (bytes 1 (t .n)) (at + 3) refl (joined s s1 s2 at (bytes 2 (t .p)) (bytes 1 (t .order)) (at + 2) refl e1 e2) e3) e4
+    let q = o ++ bytes 1 (t .n) in
+    let f2 = joined s s1 s2 at (bytes 2 (t .p)) (bytes 1 (t .order)) (at + 2) refl e1 e2 in
+    let f3 = joined s s2 s3 at o (bytes 1 (t .n)) (at + 3) refl f2 e3 in
+    let f4 = joined s s3 s4 at q (bytes 2 (t .p / 65536)) (at + 4) refl f3 e4 in
+    joined s s4 s5 at (q ++ bytes 2 (t .p / 65536)) (replicate 4 0) (at + 6) refl f4 e5
 
 pub header-put : (s s1 s2 s3 s4 : List ℕ) (at number count here : ℕ) (t : Setting) → s1 ≡ sets s at (bytes 2 number) → s2 ≡ sets s1 (at + 2) (bytes 2 count) → s3 ≡ sets s2 (at + 4) (bytes 2 here) → s4 ≡ sets s3 (at + 6) (settingBytes t) → s4 ≡ sets s at (header number count here t)
-unfolding header bytes
+unfolding headerWith bytes
 header-put s s1 s2 s3 s4 at number count here t e1 e2 e3 e4 =
     let o = bytes 2 number ++ bytes 2 count in
     joined s s3 s4 at (o ++ bytes 2 here) (settingBytes t) (at + 6) refl (joined s s2 s3 at o (bytes 2 here) (at + 4) refl (joined s s1 s2 at (bytes 2 number) (bytes 2 count) (at + 2) refl e1 e2) e3) e4
 
 pub length-header : (number count here : ℕ) (t : Setting) → length (header number count here t) ≡ 16
-unfolding header settingBytes bytes
+unfolding headerWith settingBytes bytes
 length-header number count here t = refl
 
 -- ---- bytes compared
@@ -174,7 +178,7 @@ length-body number count t ts h =
     ∙ omega (arith, length-header number count (length ts) t, length-append (places ts) (unused (length ts)), length-places ts, length-replicate {A = ℕ} (12 * (41 - length ts)) 0)
 
 pub length-block : (number count : ℕ) (t : Setting) (ts : List (Term ℕ)) → length ts ≤ 41 → length (block number count t ts) ≡ 512
-unfolding block
+unfolding blockWith
 length-block number count t ts h =
     let b = body number count t ts in
     length-append b (bytes 4 (checkOf b)) ∙ omega (arith, length-body number count t ts h, length-bytes 4 (checkOf b))
@@ -182,7 +186,7 @@ length-block number count t ts h =
 pub block-put : (s s1 s2 s3 s4 : List ℕ) (at number count : ℕ) (t : Setting) (ts : List (Term ℕ)) (here check : ℕ) → length ts ≤ 41 → here ≡ length ts → at + 512 ≤ length s
     → s1 ≡ sets s at (header number count here t) → s2 ≡ sets s1 (at + 16) (places ts) → s3 ≡ sets s2 (at + 16 + 12 * here) (replicate (12 * (41 - here)) 0)
     → check ≡ checkOf (part at 508 s3) → s4 ≡ sets s3 (at + 508) (bytes 4 check) → s4 ≡ sets s at (block number count t ts)
-unfolding block
+unfolding blockWith
 block-put s s1 s2 s3 s4 at number count t ts here check h e room e1 e2 e3 e4 e5 =
     let o = header number count (length ts) t in
     let b = body number count t ts in

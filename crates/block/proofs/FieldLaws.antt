@@ -2,7 +2,7 @@
 use mathlib.Core.Path.{_≡_, refl, sym, ap, ap₂, _∙_, subst}
 use mathlib.Core.Bool.{true, _&&_}
 use mathlib.Core.List.{List, [], _∷_, _++_}
-use Prim.Native.Nat.{ℕ, zero, suc, _+_, _*_, _^_, _<_, _≤_}
+use Prim.Native.Nat.{ℕ, zero, suc, _+_, _*_, _/_, _%_, _^_, _<_, _≤_}
 use native.Mathlib.Nat.{add-zero, mul-zero, mod-eq-of-lt}
 use native.Mathlib.Omega.{arith}
 use borrow.Author.Tests.{eqb-true, eq-eqb}
@@ -16,8 +16,8 @@ use Rattle.monomial.proofs.Places.{and-both}
 use Rattle.merge_common.specs.Lent.{part}
 use Rattle.merge_common.proofs.Lists.{length-part}
 use Rattle.polynomial.specs.declared.setting.Setting.{Setting}
-use Rattle.block.specs.Block.{numberAt, settingBytes, settingAt, header, sumWords, same}
-use Rattle.block.proofs.ByteLaws.{part-append, part-part}
+use Rattle.block.specs.Block.{numberAt, settingBytes, settingAt, headerWith, header, sumWords, same}
+use Rattle.block.proofs.ByteLaws.{part-append, part-part, bytes-cut}
 
 -- ---- the test of equal bytes
 pub same-true : (xs ys : List ℕ) → same xs ys ≡ true → xs ≡ ys
@@ -59,31 +59,36 @@ module _ (s : List ℕ) (u : Below 256 s) (k at : ℕ) (h : at + k ≤ length s)
 -- ---- inside a header
 module _ (number count here : ℕ) (t : Setting) where
   number-in : part 0 2 (header number count here t) ≡ bytes 2 number
-  unfolding header settingBytes bytes
+  unfolding headerWith settingBytes bytes
   number-in = refl
 
   count-in : part 2 2 (header number count here t) ≡ bytes 2 count
-  unfolding header settingBytes bytes
+  unfolding headerWith settingBytes bytes
   count-in = refl
 
   pub here-in : part 4 2 (header number count here t) ≡ bytes 2 here
-  unfolding header settingBytes bytes
+  unfolding headerWith settingBytes bytes
   here-in = refl
 
-  pub p-in : part 6 2 (header number count here t) ≡ bytes 2 (t .p)
-  unfolding header settingBytes bytes
-  p-in = refl
+  pub low-in : part 6 2 (header number count here t) ≡ bytes 2 (t .p)
+  unfolding headerWith settingBytes bytes
+  low-in = refl
 
   pub order-in : part 8 1 (header number count here t) ≡ bytes 1 (t .order)
-  unfolding header settingBytes bytes
+  unfolding headerWith settingBytes bytes
   order-in = refl
 
   pub n-in : part 9 1 (header number count here t) ≡ bytes 1 (t .n)
-  unfolding header settingBytes bytes
+  unfolding headerWith settingBytes bytes
   n-in = refl
 
-  zeros-in : part 10 6 (header number count here t) ≡ replicate 6 0
-  unfolding header settingBytes bytes
+  -- "In a block the upper 16 bits of p take the first two of the six zero bytes."
+  pub upper-in : part 10 2 (header number count here t) ≡ bytes 2 (t .p / 65536)
+  unfolding headerWith settingBytes bytes
+  upper-in = refl
+
+  zeros-in : part 12 4 (header number count here t) ≡ replicate 4 0
+  unfolding headerWith settingBytes bytes
   zeros-in = refl
 
   -- ---- the bytes from `at` on are a header
@@ -100,8 +105,11 @@ module _ (number count here : ℕ) (t : Setting) where
     pub here-is : here < 256 ^ 2 → numberAt 2 (at + 4) s ≡ here
     here-is h = ap ofBytes (field 4 2 (omega arith) ∙ here-in) ∙ got-back 2 here h
 
-    pub p-is : t .p < 256 ^ 2 → numberAt 2 (at + 6) s ≡ t .p
-    p-is h = ap ofBytes (field 6 2 (omega arith) ∙ p-in) ∙ got-back 2 (t .p) h
+    pub low-is : numberAt 2 (at + 6) s ≡ t .p % 65536
+    low-is = ap ofBytes (field 6 2 (omega arith) ∙ low-in) ∙ ofBytes-bytes 2 (t .p)
+
+    pub upper-is : t .p < 256 ^ 4 → numberAt 2 (at + 10) s ≡ t .p / 65536
+    upper-is h = ap ofBytes (field 10 2 (omega arith) ∙ upper-in) ∙ got-back 2 (t .p / 65536) (omega arith)
 
     pub order-is : t .order < 256 ^ 1 → numberAt 1 (at + 8) s ≡ t .order
     order-is h = ap ofBytes (field 8 1 (omega arith) ∙ order-in) ∙ got-back 1 (t .order) h
@@ -109,29 +117,46 @@ module _ (number count here : ℕ) (t : Setting) where
     pub n-is : t .n < 256 ^ 1 → numberAt 1 (at + 9) s ≡ t .n
     n-is h = ap ofBytes (field 9 1 (omega arith) ∙ n-in) ∙ got-back 1 (t .n) h
 
-    pub zeros-are : part (at + 10) 6 s ≡ replicate 6 0
-    zeros-are = field 10 6 (omega arith) ∙ zeros-in
+    pub zeros-are : part (at + 12) 4 s ≡ replicate 4 0
+    zeros-are = field 12 4 (omega arith) ∙ zeros-in
 
 -- bytes that say what a header says are the header
-pub header-from : (s : List ℕ) (at number count here : ℕ) (t : Setting) → Below 256 s → at + 16 ≤ length s → numberAt 2 at s ≡ number → numberAt 2 (at + 2) s ≡ count → numberAt 2 (at + 4) s ≡ here → settingAt at s ≡ t → part (at + 10) 6 s ≡ replicate 6 0 → part at 16 s ≡ header number count here t
-unfolding header settingBytes bytes
-header-from s at number count here t u h e1 e2 e3 e4 e5 =
-    let f : (k i x : ℕ) → i + k ≤ length s → numberAt k i s ≡ x → part i k s ≡ bytes k x = λ k i x l e. sym (number-bytes s u k i l) ∙ ap (bytes k) e in
-    part-append at 10 6 s
-    ∙ ap₂ _++_
-    (part-append at 9 1 s
-    ∙ ap₂ _++_
-    (part-append at 8 1 s
-    ∙ ap₂ _++_
-    (part-append at 6 2 s
-    ∙ ap₂ _++_
-    (part-append at 4 2 s
-    ∙ ap₂ _++_
-    (part-append at 2 2 s ∙ ap₂ _++_ (f 2 at number (omega arith) e1) (f 2 (at + 2) count (omega arith) e2)) (f 2 (at + 4) here (omega arith) e3))
-    (f 2 (at + 6) (t .p) (omega arith) (ap (λ (x : Setting). x .p) e4)))
-    (f 1 (at + 8) (t .order) (omega arith) (ap (λ (x : Setting). x .order) e4)))
-    (f 1 (at + 9) (t .n) (omega arith) (ap (λ (x : Setting). x .n) e4)))
-    e5
+module _ (s : List ℕ) (u : Below 256 s) (at : ℕ) where
+  bytes-from : (k i x : ℕ) → i + k ≤ length s → numberAt k i s ≡ x → part i k s ≡ bytes k x
+  bytes-from k i x l e = sym (number-bytes s u k i l) ∙ ap (bytes k) e
+
+  module _ (number count here : ℕ) (t : Setting) (h : at + 16 ≤ length s) (e : settingAt at s ≡ t) where
+    whole-p : numberAt 2 (at + 6) s + 65536 * numberAt 2 (at + 10) s ≡ t .p
+    whole-p = ap (λ (x : Setting). x .p) e
+
+    low-from : part (at + 6) 2 s ≡ bytes 2 (t .p)
+    low-from = bytes-from 2 (at + 6) (t .p % 65536) (omega arith) (omega (arith, whole-p, number-fits s u 2 (at + 6) (omega arith))) ∙ bytes-cut 2 (t .p)
+
+    upper-from : part (at + 10) 2 s ≡ bytes 2 (t .p / 65536)
+    upper-from = bytes-from 2 (at + 10) (t .p / 65536) (omega arith) (omega (arith, whole-p, number-fits s u 2 (at + 6) (omega arith)))
+
+    pub header-from : numberAt 2 at s ≡ number → numberAt 2 (at + 2) s ≡ count → numberAt 2 (at + 4) s ≡ here → part (at + 12) 4 s ≡ replicate 4 0 → part at 16 s ≡ header number count here t
+    unfolding headerWith settingBytes bytes
+    header-from e1 e2 e3 e4 =
+        part-append at 12 4 s
+        ∙ ap₂ _++_
+        (part-append at 10 2 s
+        ∙ ap₂ _++_
+        (part-append at 9 1 s
+        ∙ ap₂ _++_
+        (part-append at 8 1 s
+        ∙ ap₂ _++_
+        (part-append at 6 2 s
+        ∙ ap₂ _++_
+        (part-append at 4 2 s
+        ∙ ap₂ _++_
+        (part-append at 2 2 s ∙ ap₂ _++_ (bytes-from 2 at number (omega arith) e1) (bytes-from 2 (at + 2) count (omega arith) e2))
+        (bytes-from 2 (at + 4) here (omega arith) e3))
+        low-from)
+        (bytes-from 1 (at + 8) (t .order) (omega arith) (ap (λ (x : Setting). x .order) e)))
+        (bytes-from 1 (at + 9) (t .n) (omega arith) (ap (λ (x : Setting). x .n) e)))
+        upper-from)
+        e4
 
 -- ---- the words that a check adds up, in the block and from its start on
 pub sum-part : (s : List ℕ) (at k : ℕ) → k ≤ 127 → sumWords k (part at 508 s) ≡ sumWords k (drop at s)

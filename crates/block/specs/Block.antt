@@ -1,4 +1,4 @@
--- The blocks of a polynomial (document 01, "Blocks"). "Numbers are little-endian": `bytes k x` are the k lowest bytes of x, from the lowest up. Assumes nothing.
+-- The blocks of a polynomial (document 01, "Blocks"; document 02, "Larger primes."). "Numbers are little-endian": `bytes k x` are the k lowest bytes of x, from the lowest up. Assumes nothing.
 use Prim.Native.Nat.{ℕ, zero, suc, _+_, _-_, _*_, _/_, _%_, _^_}
 use mathlib.Core.Bool.{Bool, true, false, _&&_}
 use mathlib.Core.List.{List, [], _∷_, _++_}
@@ -15,21 +15,24 @@ numberAt k at s = ofBytes (part at k s)
 
 -- ---- the header, 16 bytes
 
--- "p (2), order (1), n (1), six zero bytes": the problem's setting, which begins at byte 6
+-- "p (2), order (1), n (1), six zero bytes": the problem's setting, ten bytes from byte 6 on; "In a block the upper 16 bits of p take the first two of the six zero bytes."
 unfoldable pub settingBytes : Setting → List ℕ
-settingBytes s = bytes 2 (s .p) ++ (bytes 1 (s .order) ++ (bytes 1 (s .n) ++ replicate 6 0))
+settingBytes s = bytes 2 (s .p) ++ (bytes 1 (s .order) ++ (bytes 1 (s .n) ++ (bytes 2 (s .p / 65536) ++ replicate 4 0)))
 
 -- the setting that a block's header has, from place `at` on
 abbrev pub settingAt : (at : ℕ) → List ℕ → Setting
-settingAt at s = record { p = numberAt 2 (at + 6) s; order = numberAt 1 (at + 8) s; n = numberAt 1 (at + 9) s }
+settingAt at s = record { p = numberAt 2 (at + 6) s + 65536 * numberAt 2 (at + 10) s; order = numberAt 1 (at + 8) s; n = numberAt 1 (at + 9) s }
 
 -- the first block's
 abbrev pub settingIn : List ℕ → Setting
 settingIn s = settingAt 0 s
 
--- "block number from 0 (2 bytes), block count (2), terms here (2)", and the setting
-unfoldable pub header : (number count here : ℕ) → Setting → List ℕ
-header number count here s = bytes 2 number ++ (bytes 2 count ++ (bytes 2 here ++ settingBytes s))
+-- "block number from 0 (2 bytes), block count (2), terms here (2)", and the setting's ten bytes
+unfoldable pub headerWith : (setting : List ℕ) (number count here : ℕ) → List ℕ
+headerWith setting number count here = bytes 2 number ++ (bytes 2 count ++ (bytes 2 here ++ setting))
+
+abbrev pub header : (number count here : ℕ) → Setting → List ℕ
+header number count here s = headerWith (settingBytes s) number count here
 
 -- ---- the places
 
@@ -58,13 +61,19 @@ checkOf s = (1 + sumWords 127 s) % 2 ^ 32
 
 -- ---- a block
 
--- all of it but the check
-abbrev pub body : (number count : ℕ) → Setting → List (Term ℕ) → List ℕ
-body number count s ts = header number count (length ts) s ++ (places ts ++ unused (length ts))
+-- all of it but the check, with these ten bytes of a setting
+abbrev pub bodyWith : (setting : List ℕ) (number count : ℕ) → List (Term ℕ) → List ℕ
+bodyWith setting number count ts = headerWith setting number count (length ts) ++ (places ts ++ unused (length ts))
 
 -- "A block is 512 bytes"
-unfoldable pub block : (number count : ℕ) → Setting → List (Term ℕ) → List ℕ
-block number count s ts = body number count s ts ++ bytes 4 (checkOf (body number count s ts))
+unfoldable pub blockWith : (setting : List ℕ) (number count : ℕ) → List (Term ℕ) → List ℕ
+blockWith setting number count ts = bodyWith setting number count ts ++ bytes 4 (checkOf (bodyWith setting number count ts))
+
+abbrev pub body : (number count : ℕ) → Setting → List (Term ℕ) → List ℕ
+body number count s ts = bodyWith (settingBytes s) number count ts
+
+abbrev pub block : (number count : ℕ) → Setting → List (Term ℕ) → List ℕ
+block number count s ts = blockWith (settingBytes s) number count ts
 
 -- ---- the blocks of a polynomial
 
@@ -77,12 +86,19 @@ abbrev pub blockCount : ℕ → ℕ
 blockCount terms = (terms - 1) / 41 + 1
 
 -- the first k of `count` blocks
-unfoldable pub firstBlocks : (count : ℕ) → Setting → List (Term ℕ) → (k : ℕ) → List ℕ
-firstBlocks count s ts zero = []
-firstBlocks count s ts (suc k) = firstBlocks count s ts k ++ block k count s (termsOf k ts)
+unfoldable pub firstBlocksWith : (setting : List ℕ) (count : ℕ) → List (Term ℕ) → (k : ℕ) → List ℕ
+firstBlocksWith setting count ts zero = []
+firstBlocksWith setting count ts (suc k) = firstBlocksWith setting count ts k ++ blockWith setting k count (termsOf k ts)
+
+abbrev pub firstBlocks : (count : ℕ) → Setting → List (Term ℕ) → (k : ℕ) → List ℕ
+firstBlocks count s ts k = firstBlocksWith (settingBytes s) count ts k
+
+-- all of them
+abbrev pub blocksWith : (setting : List ℕ) → List (Term ℕ) → List ℕ
+blocksWith setting ts = firstBlocksWith setting (blockCount (length ts)) ts (blockCount (length ts))
 
 abbrev pub blocksOf : Setting → List (Term ℕ) → List ℕ
-blocksOf s ts = firstBlocks (blockCount (length ts)) s ts (blockCount (length ts))
+blocksOf s ts = blocksWith (settingBytes s) ts
 
 -- ---- tests of bytes
 

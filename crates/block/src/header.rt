@@ -20,7 +20,8 @@ pub fn put_setting(s: &mut [u8], at: usize, setting: Setting)
     put_2(s, at, setting.p);
     put_1(s, at + 2, setting.order);
     put_1(s, at + 3, setting.n);
-    clear(s, at + 4, 6);
+    put_2(s, at + 4, setting.p / 65536);
+    clear(s, at + 6, 4);
 }
 
 // The setting in the header from place `at` on.
@@ -28,8 +29,11 @@ pub fn get_setting(s: &[u8], at: usize) -> Setting
     requires { ⌜ at + 16 ≤ length (now s) ⌝ }
     ensures { λ r. ⌜ r ≡ settingAt at (now (s .entry)) ⌝ }
 {
+    let low = get_2(s, at + 6);
+    let upper = get_2(s, at + 10);
+    let p = low + 65536 * upper;
     Setting {
-        p: get_2(s, at + 6),
+        p,
         order: get_1(s, at + 8),
         n: get_1(s, at + 9),
     }

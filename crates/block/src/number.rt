@@ -54,7 +54,7 @@ pub fn get_1(s: &[u8], at: usize) -> u32
 // The same with 2 bytes, from place `at` on.
 pub fn get_2(s: &[u8], at: usize) -> u32
     requires { ⌜ at + 2 ≤ length (now s) ⌝ }
-    ensures { λ r. ⌜ r ≡ numberAt 2 at (now (s .entry)) ⌝ }
+    ensures { λ r. ⌜ (r ≡ numberAt 2 at (now (s .entry))) × (r < 65536) ⌝ }
 {
     wide(s[at]) + 256 * wide(s[at + 1])
 }

@@ -18,7 +18,7 @@ use Rattle.polynomial.proofs.OpeningLaws.{first-none}
 use Rattle.opening.proofs.Tests.{passed}
 use Rattle.polynomial.specs.declared.setting.Setting.{Setting}
 use Rattle.block.specs.Block.{header, blockCount, same, settingIn}
-use Rattle.block_form.specs.Form.{allBelow, wholeBlocks, countIn, totalIn, hereOf, checksStand, unusedClear, blockStands, blocksStand, Counted, Formed, formRefusal}
+use Rattle.block_form.specs.Form.{allBelow, wholeBlocks, countIn, totalIn, hereOf, checksStand, unusedClear, standsWith, allStandWith, blockStands, blocksStand, Counted, Formed, formRefusalWith, formRefusal}
 
 -- ---- a test of each number below another
 module _ (f : ℕ → Bool) where
@@ -60,11 +60,11 @@ module _ (s : List ℕ) (k count total here : ℕ) (t : Setting) (q : Counted s 
   filler-is = ap (unusedClear s k) (h ∙ ap (λ (n : ℕ). hereOf n k) (q .total-is))
 
   pub no-header : same (part (512 * k) 16 s) (header k count here t) ≡ false → false ≡ blockStands s k
-  unfolding blockStands
+  unfolding standsWith
   no-header z = sym (ap (λ (b : Bool). b && unusedClear s k (hereOf (totalIn s) k)) (sym header-is ∙ z))
 
   pub by-filler : (r : Bool) → same (part (512 * k) 16 s) (header k count here t) ≡ true → r ≡ unusedClear s k here → r ≡ blockStands s k
-  unfolding blockStands
+  unfolding standsWith
   by-filler r z w = w ∙ (filler-is ∙ sym (ap (λ (b : Bool). b && unusedClear s k (hereOf (totalIn s) k)) (sym header-is ∙ z)))
 
 -- ---- whole blocks
@@ -95,6 +95,10 @@ whole-passes len h =
     let a = and-both (eqb (len % 512) 0) (between 512 51200 len) h in
     let b = and-both (leb 512 len) (leb len 51200) (a .1) in
     record { whole = eqb-true (len % 512) 0 (a .0); some = leb-true 512 len (b .0); most = leb-true len 51200 (b .1) }
+
+pub whole-is : (len : ℕ) → Whole len → wholeBlocks len ≡ true
+unfolding wholeBlocks
+whole-is len w = ap₂ _&&_ (eq-eqb (len % 512) 0 (w .whole)) (ap₂ _&&_ (le-leb 512 len (w .some)) (le-leb len 51200 (w .most)))
 
 -- ---- all blocks
 pub record Stand (s : List ℕ) : Type 0 where
@@ -133,7 +137,7 @@ pub record Form (s : List ℕ) (ow oc : ℕ) : Type 0 where
   pub stand : Stand s
 
 pub form-passes : (s : List ℕ) (ow oc : ℕ) → formRefusal s ow oc ≡ 0 → Form s ow oc
-unfolding formRefusal
+unfolding formRefusalWith
 form-passes s ow oc h =
     let a = first-none (unless (eqb ow oc) 8) (first (unless (wholeBlocks (length s)) 14) (first (unless (checksStand s) 15) (unless (blocksStand s) 16))) h in
     let b = first-none (unless (wholeBlocks (length s)) 14) (first (unless (checksStand s) 15) (unless (blocksStand s) 16)) (a .1) in
@@ -144,6 +148,11 @@ form-passes s ow oc h =
       checks = passed (checksStand s) 15 (omega arith) (d .0);
       stand = blocks-pass s (passed (blocksStand s) 16 (omega arith) (d .1));
     }
+
+-- the refusal with other ten bytes of a setting, where the rest of the form stands
+pub form-with : (t s : List ℕ) (ow oc : ℕ) → Form s ow oc → formRefusalWith t s ow oc ≡ unless (allStandWith t s) 16
+unfolding formRefusalWith
+form-with t s ow oc f = rw (eq-eqb ow oc (f .lent), whole-is (length s) (f .whole), f .checks)
 
 pub form-formed : (s : List ℕ) (ow oc : ℕ) → Form s ow oc → Formed s
 form-formed s ow oc f =

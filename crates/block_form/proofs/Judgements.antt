@@ -2,7 +2,7 @@
 use mathlib.Core.Path.{_≡_, refl, sym, ap, ap₂, _∙_}
 use mathlib.Core.Bool.{true, _&&_}
 use mathlib.Core.List.{List, [], _∷_}
-use Prim.Native.Nat.{ℕ, zero, suc, _+_, _-_, _*_, _%_, _^_, _<_, _≤_}
+use Prim.Native.Nat.{ℕ, zero, suc, _+_, _-_, _*_, _/_, _%_, _^_, _<_, _≤_}
 use native.Mathlib.Decide.{decLe}
 use native.Mathlib.Nat.{add-comm}
 use native.Mathlib.Omega.{arith}
@@ -18,21 +18,17 @@ use Rattle.limits.specs.Limits.{mostTerms}
 use Rattle.refusal.specs.Judgement.{condition, Judged}
 use Rattle.opening.proofs.Judging.{judged-unless, judged-first}
 use Rattle.block.specs.Block.{numberAt, header, sumWords, checkOf, blockCount, same, zeros, settingAt, settingIn}
-use Rattle.block.proofs.FieldLaws.{same-true, same-self, number-fits, number-is, count-is, here-is, p-is, order-is, n-is, zeros-are, header-from, sum-part}
-use Rattle.block_form.specs.Form.{wholeBlocks, countIn, totalIn, hereOf, checkStands, checksStand, unusedClear, blockStands, blocksStand, formRefusal}
+use Rattle.block.proofs.FieldLaws.{same-true, same-self, number-fits, number-is, count-is, here-is, low-is, upper-is, order-is, n-is, zeros-are, header-from, sum-part}
+use Rattle.block_form.specs.Form.{wholeBlocks, countIn, totalIn, hereOf, checkStands, checksStand, unusedClear, standsWith, blockStands, blocksStand, formRefusalWith, formRefusal}
 use Rattle.block_form.specs.Judgement.{WholeBlocks, GoodCheck, termsHere, GoodBlock, GoodBlocks, formConditions}
-use Rattle.block_form.proofs.FormLaws.{all-each, all-of, whole-passes, blocks-pass}
+use Rattle.block_form.proofs.FormLaws.{all-each, all-of, whole-passes, whole-is, blocks-pass}
 
 -- ---- 14
 whole-good : (s : List ℕ) → wholeBlocks (length s) ≡ true → WholeBlocks s
 whole-good s e = let w = whole-passes (length s) e in record { count = countIn s; some = omega (arith, w .some); most = omega (arith, w .most); whole = omega (arith, w .whole) }
 
 good-whole : (s : List ℕ) → WholeBlocks s → wholeBlocks (length s) ≡ true
-unfolding wholeBlocks
-good-whole s g =
-    let l = g .whole in
-    let z : length s % 512 ≡ 0 = omega (arith, l) in
-    ap₂ _&&_ (eq-eqb (length s % 512) 0 z) (ap₂ _&&_ (le-leb 512 (length s) (omega (arith, l, g .some))) (le-leb (length s) 51200 (omega (arith, l, g .most))))
+good-whole s g = let l = g .whole in whole-is (length s) (record { whole = omega (arith, l); some = omega (arith, l, g .some); most = omega (arith, l, g .most) })
 
 -- ---- 15
 check-words : (s : List ℕ) (k : ℕ) → checkOf (part (512 * k) 508 s) ≡ (sumWords 127 (drop (512 * k) s) + 1) % 2 ^ 32
@@ -74,6 +70,19 @@ module _ (s : List ℕ) (u : Below 256 s) (w : WholeBlocks s) where
   inside : (k : ℕ) → k < count → 512 * k + 512 ≤ length s
   inside k h = omega (arith, long .0)
 
+  -- the halves of the first block's p
+  low-fits : numberAt 2 6 s < 65536
+  low-fits = number-fits s u 2 6 (omega (arith, long .0, long .1))
+
+  upper-fits : numberAt 2 10 s < 65536
+  upper-fits = number-fits s u 2 10 (omega (arith, long .0, long .1))
+
+  low-part : settingIn s .p % 65536 ≡ numberAt 2 6 s
+  low-part = omega (arith, low-fits)
+
+  upper-part : settingIn s .p / 65536 ≡ numberAt 2 10 s
+  upper-part = omega (arith, low-fits)
+
   -- block k, by its test
   module _ (k : ℕ) (h : k < count) where
     abbrev here : ℕ
@@ -83,7 +92,7 @@ module _ (s : List ℕ) (u : Below 256 s) (w : WholeBlocks s) where
     top = header k count (hereOf (totalIn s) k) (settingIn s)
 
     tested : blockStands s k ≡ true → (part (512 * k) 16 s ≡ top) × (unusedClear s k here ≡ true)
-    unfolding blockStands
+    unfolding standsWith
     tested e = let a = and-both (same (part (512 * k) 16 s) top) (unusedClear s k here) e in (same-true (part (512 * k) 16 s) top (a .0), a .1)
 
     block-good : blockCount (totalIn s) ≡ count → blockStands s k ≡ true → GoodBlock s k
@@ -99,22 +108,27 @@ module _ (s : List ℕ) (u : Below 256 s) (w : WholeBlocks s) where
           terms-full = λ l. omega (arith, hi);
           terms-most = omega (arith, hi);
           terms-some = λ l. omega (arith, hi, f);
-          p = p-is k count here t s (512 * k) (a .0) (number-fits s u 2 6 (omega arith));
+          p = low-is k count here t s (512 * k) (a .0) ∙ low-part;
+          upper-p = upper-is k count here t s (512 * k) (a .0) (omega (arith, low-fits, upper-fits)) ∙ upper-part;
           order = order-is k count here t s (512 * k) (a .0) (number-fits s u 1 8 (omega arith));
           n = n-is k count here t s (512 * k) (a .0) (number-fits s u 1 9 (omega arith));
-          zero-bytes = λ j l r. zeros-good s (512 * k + 10) 6 (ap zeros (zeros-are k count here t s (512 * k) (a .0))) (512 * k + j) (omega arith) (omega arith);
+          zero-bytes = λ j l r. zeros-good s (512 * k + 12) 4 (ap zeros (zeros-are k count here t s (512 * k) (a .0))) (512 * k + j) (omega arith) (omega arith);
           unused = λ j l r. zeros-good s (512 * k + 16 + 12 * here) (12 * (41 - here)) (a .1) (512 * k + j) (omega (arith, hi)) (omega arith);
         }
 
+    setting-same : GoodBlock s k → settingAt (512 * k) s ≡ settingIn s
+    setting-same g =
+        ap₂ (λ (x y : ℕ). record { p = x + 65536 * y; order = numberAt 1 (512 * k + 8) s; n = numberAt 1 (512 * k + 9) s }) (g .p) (g .upper-p)
+        ∙ ap₂ (λ (x y : ℕ). record { p = settingIn s .p; order = x; n = y }) (g .order) (g .n)
+
     good-block : GoodBlock s k → hereOf (totalIn s) k ≡ termsHere s k → blockStands s k ≡ true
-    unfolding blockStands
+    unfolding standsWith
     good-block g e =
         let i = inside k h in
-        let z : part (512 * k + 10) 6 s ≡ replicate 6 0 =
-        M.zeros (part (512 * k + 10) 6 s) (true-below 1 (part (512 * k + 10) 6 s) (good-zeros s (512 * k + 10) 6 (omega arith) (λ j l r. let q : j ≡ 512 * k + (j - 512 * k) = omega arith in ap (λ (x : ℕ). getD s x 0) q ∙ g .zero-bytes (j - 512 * k) (omega arith) (omega arith))))
-        ∙ ap (λ (x : ℕ). replicate x 0) (length-part (512 * k + 10) 6 s (omega arith)) in
-        let set : settingAt (512 * k) s ≡ settingIn s = ap₂ (λ (x y : ℕ). record { p = x; order = y; n = numberAt 1 (512 * k + 9) s }) (g .p) (g .order) ∙ ap (λ (x : ℕ). record { p = numberAt 2 6 s; order = numberAt 1 8 s; n = x }) (g .n) in
-        let eh : part (512 * k) 16 s ≡ top = header-from s (512 * k) k count here (settingIn s) u (omega arith) (g .number) (g .count) (sym e) set z in
+        let z : part (512 * k + 12) 4 s ≡ replicate 4 0 =
+        M.zeros (part (512 * k + 12) 4 s) (true-below 1 (part (512 * k + 12) 4 s) (good-zeros s (512 * k + 12) 4 (omega arith) (λ j l r. let q : j ≡ 512 * k + (j - 512 * k) = omega arith in ap (λ (x : ℕ). getD s x 0) q ∙ g .zero-bytes (j - 512 * k) (omega arith) (omega arith))))
+        ∙ ap (λ (x : ℕ). replicate x 0) (length-part (512 * k + 12) 4 s (omega arith)) in
+        let eh : part (512 * k) 16 s ≡ top = header-from s u (512 * k) k count here (settingIn s) (omega arith) (setting-same g) (g .number) (g .count) (sym e) z in
         ap₂ _&&_
         (ap (λ (l : List ℕ). same l top) eh ∙ same-self top)
         (good-zeros s (512 * k + 16 + 12 * here) (12 * (41 - here)) (omega arith) (λ j l r. let q : j ≡ 512 * k + (j - 512 * k) = omega arith in ap (λ (x : ℕ). getD s x 0) q ∙ g .unused (j - 512 * k) (omega (arith, e)) (omega (arith, e))))
@@ -147,7 +161,7 @@ module _ (s : List ℕ) (u : Below 256 s) (w : WholeBlocks s) where
 -- ---- the judgement
 -- Each refusal of the form comes under its condition, where no earlier one holds, and under no other.
 pub form-judged : (s : List ℕ) (ow oc : ℕ) → Below 256 s → Judged (formConditions s ow oc) (formRefusal s ow oc)
-unfolding formRefusal
+unfolding formRefusalWith
 form-judged s ow oc u =
     let c8 = condition 8 (ow ≡ oc) in
     let c14 = condition 14 (WholeBlocks s) in

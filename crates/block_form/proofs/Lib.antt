@@ -1,2 +1,3 @@
 pub mod FormLaws
 pub mod Judgements
+pub mod FirstKindLaws

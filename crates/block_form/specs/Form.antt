@@ -1,4 +1,4 @@
--- Whether bytes have the form of blocks, which is whether writing would put their checks, headers and filler there (document 01, "Blocks" and "Refusals by cause"). Assumes nothing.
+-- Whether bytes have the form of blocks, which is whether writing would put their checks, headers and filler there (document 01, "Blocks" and "Refusals by cause"; document 02, "Larger primes."). Assumes nothing.
 use Prim.Native.Nat.{ℕ, zero, suc, _+_, _-_, _*_, _/_, _%_, _≤_, min}
 use mathlib.Core.Path.{_≡_}
 use mathlib.Core.Bool.{Bool, true, _&&_}
@@ -9,7 +9,7 @@ use Rattle.limits.specs.Limits.{mostTerms}
 use Rattle.polynomial.specs.Opening.{first}
 use Rattle.merge_common.specs.Lent.{part}
 use Rattle.opening.specs.Run.{unless, between}
-use Rattle.block.specs.Block.{numberAt, header, checkOf, blockCount, same, zeros, settingIn}
+use Rattle.block.specs.Block.{numberAt, settingBytes, headerWith, checkOf, blockCount, same, zeros, settingIn}
 
 -- f is true of each number below k
 unfoldable pub allBelow : ℕ → (ℕ → Bool) → Bool
@@ -47,14 +47,21 @@ checksStand s = allBelow (countIn s) (checkStands s)
 abbrev pub unusedClear : List ℕ → (k here : ℕ) → Bool
 unusedClear s k here = zeros (part (512 * k + 16 + 12 * here) (12 * (41 - here)) s)
 
--- block k has the header that writing would put there, with the first block's p, order and n, and its unused places are 0
-unfoldable pub blockStands : List ℕ → ℕ → Bool
-blockStands s k =
+-- block k has the header that writing would put there, with these ten bytes of a setting, and its unused places are 0
+unfoldable pub standsWith : (setting s : List ℕ) (k : ℕ) → Bool
+standsWith setting s k =
     let here = hereOf (totalIn s) k in
-    same (part (512 * k) 16 s) (header k (countIn s) here (settingIn s)) && unusedClear s k here
+    same (part (512 * k) 16 s) (headerWith setting k (countIn s) here) && unusedClear s k here
+
+abbrev pub allStandWith : (setting s : List ℕ) → Bool
+allStandWith setting s = eqb (blockCount (totalIn s)) (countIn s) && (leb (totalIn s) mostTerms && allBelow (countIn s) (standsWith setting s))
+
+-- with the first block's p, order and n
+abbrev pub blockStands : List ℕ → ℕ → Bool
+blockStands s = standsWith (settingBytes (settingIn s)) s
 
 abbrev pub blocksStand : List ℕ → Bool
-blocksStand s = eqb (blockCount (totalIn s)) (countIn s) && (leb (totalIn s) mostTerms && allBelow (countIn s) (blockStands s))
+blocksStand s = allStandWith (settingBytes (settingIn s)) s
 
 -- what the test of the blocks is told: their count, which is that of their terms
 pub record Counted (s : List ℕ) (count total : ℕ) : Type 0 where
@@ -65,8 +72,11 @@ pub record Counted (s : List ℕ) (count total : ℕ) : Type 0 where
   pub fits : blockCount total ≡ count
 
 -- ---- "Reading: 8, 14, 15 for all blocks, 16"; the two numbers are the lengths of the lent words and coefficients
-unfoldable pub formRefusal : List ℕ → (ow oc : ℕ) → ℕ
-formRefusal s ow oc = first (unless (eqb ow oc) 8) (first (unless (wholeBlocks (length s)) 14) (first (unless (checksStand s) 15) (unless (blocksStand s) 16)))
+unfoldable pub formRefusalWith : (setting s : List ℕ) (ow oc : ℕ) → ℕ
+formRefusalWith setting s ow oc = first (unless (eqb ow oc) 8) (first (unless (wholeBlocks (length s)) 14) (first (unless (checksStand s) 15) (unless (allStandWith setting s) 16)))
+
+abbrev pub formRefusal : List ℕ → (ow oc : ℕ) → ℕ
+formRefusal s ow oc = formRefusalWith (settingBytes (settingIn s)) s ow oc
 
 -- as many terms have their places in s
 pub record Lying (s : List ℕ) (total : ℕ) : Type 0 where

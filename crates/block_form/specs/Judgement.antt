@@ -1,4 +1,4 @@
--- What document 01 asks of the form of blocks that are read, in its words ("Blocks" and "Refusals by cause"), and its order. Assumes nothing.
+-- What document 01 asks of the form of blocks that are read, in its words ("Blocks" and "Refusals by cause"), and its order, with the header of document 02 ("Larger primes."). Assumes nothing.
 use Prim.Native.Nat.{ℕ, _+_, _-_, _*_, _%_, _^_, _<_, _≤_}
 use mathlib.Core.Path.{_≡_}
 use mathlib.Core.List.{List, [], _∷_}
@@ -31,11 +31,13 @@ pub record GoodBlock (s : List ℕ) (k : ℕ) : Type 0 where
   pub terms-full : k + 1 < countIn s → termsHere s k ≡ 41
   pub terms-most : termsHere s k ≤ 41
   pub terms-some : 1 ≤ k → 1 ≤ termsHere s k
+  -- p in two parts: "In a block the upper 16 bits of p take the first two of the six zero bytes."
   pub p : numberAt 2 (512 * k + 6) s ≡ numberAt 2 6 s
+  pub upper-p : numberAt 2 (512 * k + 10) s ≡ numberAt 2 10 s
   pub order : numberAt 1 (512 * k + 8) s ≡ numberAt 1 8 s
   pub n : numberAt 1 (512 * k + 9) s ≡ numberAt 1 9 s
-  -- "six zero bytes"; "unused places are 0"
-  pub zero-bytes : (i : ℕ) → 10 ≤ i → i < 16 → getD s (512 * k + i) 0 ≡ 0
+  -- the last four of "six zero bytes"; "unused places are 0"
+  pub zero-bytes : (i : ℕ) → 12 ≤ i → i < 16 → getD s (512 * k + i) 0 ≡ 0
   pub unused : (i : ℕ) → 16 + 12 * termsHere s k ≤ i → i < 508 → getD s (512 * k + i) 0 ≡ 0
 
 -- 16 for all blocks, with "or over 4,096 terms"

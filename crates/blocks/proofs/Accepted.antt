@@ -16,11 +16,11 @@ use Rattle.polynomial.proofs.TermLists.{terms-of}
 use Rattle.merge_common.specs.Lent.{part}
 use Rattle.merge_common.proofs.Lists.{length-part}
 use Rattle.polynomial.specs.declared.setting.Setting.{Setting}
-use Rattle.block.specs.Block.{numberAt, header, place, places, unused, checkOf, body, block, termsOf, blockCount, firstBlocks, blocksOf, same, zeros, settingIn}
+use Rattle.block.specs.Block.{numberAt, header, place, places, unused, checkOf, body, blockWith, block, termsOf, blockCount, firstBlocksWith, firstBlocks, blocksOf, same, zeros, settingIn}
 use Rattle.block.proofs.ByteLaws.{part-append}
 use Rattle.block.proofs.BlockLaws.{places-append}
 use Rattle.block.proofs.FieldLaws.{same-true, number-bytes}
-use Rattle.block_form.specs.Form.{countIn, totalIn, hereOf, checkStands, blockStands}
+use Rattle.block_form.specs.Form.{countIn, totalIn, hereOf, checkStands, standsWith, blockStands}
 use Rattle.blocks.specs.Reading.{placeAt, termsIn, readRefusal}
 use Rattle.block_form.proofs.FormLaws.{all-each, Form}
 use Rattle.blocks.specs.Outcome.{writeRefusal}
@@ -63,7 +63,7 @@ module _ (s : List ℕ) (u : Below 256 s) where
       stands = all-each (blockStands s) count (f .stand .each) k h
 
       tested : (same (part (512 * k) 16 s) (header k (countIn s) (hereOf (totalIn s) k) (settingIn s)) ≡ true) × (zeros (part (512 * k + 16 + 12 * hereOf (totalIn s) k) (12 * (41 - hereOf (totalIn s) k)) s) ≡ true)
-      unfolding blockStands
+      unfolding standsWith
       tested = and-both (same (part (512 * k) 16 s) (header k (countIn s) (hereOf (totalIn s) k) (settingIn s))) (zeros (part (512 * k + 16 + 12 * hereOf (totalIn s) k) (12 * (41 - hereOf (totalIn s) k)) s)) stands
 
       header-is : part (512 * k) 16 s ≡ header k count (length us) t
@@ -114,12 +114,12 @@ module _ (s : List ℕ) (u : Below 256 s) where
           ∙ ap (bytes 4) (eqb-true (numberAt 4 (512 * k + 508) s) (checkOf (part (512 * k) 508 s)) (all-each (checkStands s) count (f .checks) k h) ∙ ap checkOf body-is)
 
       pub block-is : part (512 * k) 512 s ≡ block k count t us
-      unfolding block
+      unfolding blockWith
       block-is = part-append (512 * k) 508 4 s ∙ ap₂ _++_ body-is check-is
 
     -- ---- all blocks
     blocks-are : (m : ℕ) → m ≤ count → take (512 * m) s ≡ firstBlocks count t ts m
-    unfolding firstBlocks
+    unfolding firstBlocksWith
     blocks-are zero l = refl
     blocks-are (suc m) l =
         let e : 512 * suc m ≡ 512 * m + 512 = omega arith in

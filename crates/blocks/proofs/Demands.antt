@@ -56,27 +56,30 @@ module _ (t : Setting) (ws cs bytes : List ℕ) where
 
   -- what is written: all blocks, "and no byte past their result"
   module _ (done : wrote .answer .number ≡ 0) where
-    none-refused : writeRefusal t ws cs (length bytes) ≡ 0
+    pub none-refused : writeRefusal t ws cs (length bytes) ≡ 0
     none-refused = number-is ∙ done
 
     pub demand-2-written : _≡_ {A = WriteOutcome} wrote (record { answer = writeStated (W.Done (blockCount (length (terms ws cs)))); bytes = blocksOf t (terms ws cs) ++ drop (length (blocksOf t (terms ws cs))) bytes })
     demand-2-written = ap (λ (r : ℕ). writtenBy r t (terms ws cs) bytes) none-refused
 
+    -- the bytes that the answer counts are the blocks
+    pub written-bytes : take (512 * wrote .answer .blocks) (wrote .bytes) ≡ blocksOf t (terms ws cs)
+    written-bytes =
+        let b = blocksOf t (terms ws cs) in
+        ap (λ (w : WriteOutcome). take (512 * w .answer .blocks) (w .bytes)) demand-2-written
+        ∙ take-at b (drop (length b) bytes) (512 * blockCount (length (terms ws cs))) (long-blocks t (terms ws cs))
+
     -- Demand 2: "Stored blocks read back as the polynomial written". The blocks that were written are read as the same p, order and n and the same terms; the rest of what is lent is not changed.
     pub demand-2-read-back : (ow oc : List ℕ) → length ow ≡ length oc → length ws ≤ length ow
         → _≡_ {A = ReadOutcome} (readOutcome (take (512 * wrote .answer .blocks) (wrote .bytes)) ow oc) (record { answer = readStated (R.Done (t .p) (t .order) (t .n) (length ws)); ws = ws ++ drop (length ws) ow; cs = cs ++ drop (length ws) oc })
-    demand-2-read-back ow oc lent enough =
-        let b = blocksOf t (terms ws cs) in
-        ap (λ (w : WriteOutcome). readOutcome (take (512 * w .answer .blocks) (w .bytes)) ow oc) demand-2-written
-        ∙ (ap (λ (l : List ℕ). readOutcome l ow oc) (take-at b (drop (length b) bytes) (512 * blockCount (length (terms ws cs))) (long-blocks t (terms ws cs)))
-        ∙ written-read t ws cs ow oc (length bytes) none-refused lent enough)
+    demand-2-read-back ow oc lent enough = ap (λ (l : List ℕ). readOutcome l ow oc) written-bytes ∙ written-read t ws cs ow oc (length bytes) none-refused lent enough
 
 -- ---- reading
 module _ (bytes ow oc : List ℕ) (u : Below 256 bytes) where
   abbrev pub got : ReadOutcome
   got = readOutcome bytes ow oc
 
-  got-number : readRefusal bytes (length ow) (length oc) ≡ got .answer .number
+  pub got-number : readRefusal bytes (length ow) (length oc) ≡ got .answer .number
   got-number = read-number (readRefusal bytes (length ow) (length oc)) (settingIn bytes) (termsIn bytes) ow oc
 
   -- Demand 1, as for writing

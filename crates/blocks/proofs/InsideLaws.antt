@@ -11,7 +11,7 @@ use Rattle.monomial.proofs.ByteLaws.{length-bytes}
 use Rattle.polynomial.specs.Terms.{Term, term}
 use Rattle.merge_common.specs.Lent.{part}
 use Rattle.polynomial.specs.declared.setting.Setting.{Setting}
-use Rattle.block.specs.Block.{header, place, places, unused, checkOf, body, block, termsOf, firstBlocks}
+use Rattle.block.specs.Block.{header, place, places, unused, checkOf, body, blockWith, block, termsOf, firstBlocksWith, firstBlocks}
 use Rattle.block.proofs.BlockLaws.{length-header, length-places, length-body, length-block}
 use Rattle.blocks.proofs.WriteLaws.{length-blocks, termsOf-few}
 
@@ -31,7 +31,7 @@ module _ (number count : ℕ) (t : Setting) (ts : List (Term ℕ)) (few : length
   long-body = length-body number count t ts few
 
   pub body-in : (at n : ℕ) → at + n ≤ 508 → part at n (block number count t ts) ≡ part at n (body number count t ts)
-  unfolding block
+  unfolding blockWith
   body-in at n h = part-left (body number count t ts) (bytes 4 (checkOf (body number count t ts))) at n (omega (arith, long-body))
 
   pub header-in : (at n : ℕ) → at + n ≤ 16 → part at n (block number count t ts) ≡ part at n (header number count (length ts) t)
@@ -54,7 +54,7 @@ module _ (number count : ℕ) (t : Setting) (ts : List (Term ℕ)) (few : length
       ∙ (part-right (places ts) (unused (length ts)) (12 * length ts) 0 n (length-places ts) ∙ part-all (unused (length ts)) n (length-replicate n 0))))
 
   pub check-in : part 508 4 (block number count t ts) ≡ bytes 4 (checkOf (body number count t ts))
-  unfolding block
+  unfolding blockWith
   check-in =
       part-right (body number count t ts) (bytes 4 (checkOf (body number count t ts))) 508 0 4 long-body
       ∙ part-all (bytes 4 (checkOf (body number count t ts))) 4 (length-bytes 4 (checkOf (body number count t ts)))
@@ -79,7 +79,7 @@ coef-in (t ∷ ts) (suc i) h =
 -- ---- inside the blocks
 module _ (count : ℕ) (t : Setting) (ts : List (Term ℕ)) where
   pub block-in : (m k : ℕ) → k < m → part (512 * k) 512 (firstBlocks count t ts m) ≡ block k count t (termsOf k ts)
-  unfolding firstBlocks
+  unfolding firstBlocksWith
   block-in zero k h = absurd (let z : ⊥ = omega arith in z)
   block-in (suc m) k h = go (λ l. block-in m k l) (decLe m k)
     where

@@ -24,7 +24,7 @@ use Rattle.block.specs.Block.{blockCount, blocksOf, settingIn}
 use Rattle.block_form.specs.Form.{totalIn, formRefusal}
 use Rattle.block_form.specs.Judgement.{formConditions}
 use Rattle.block_form.proofs.Judgements.{form-judged}
-use Rattle.blocks.specs.Reading.{termsIn, contentRefusal, readRefusal}
+use Rattle.blocks.specs.Reading.{termsIn, contentWith, contentRefusal, readRefusal}
 use Rattle.blocks.specs.Outcome.{writeRefusal}
 use Rattle.blocks.specs.Judgement.{writeConditions, readConditions}
 use Rattle.blocks.proofs.PlaceLaws.{length-first}
@@ -77,7 +77,7 @@ module _ (s : List ℕ) (ow oc : ℕ) (u : Below 256 s) where
   room = condition 10 (length (termsIn s) ≤ ow)
 
   content-judged : Judged (settingConditions (settingIn s) ++ (polynomialConditions (settingIn s) (termsIn s) ++ (room ∷ []))) (contentRefusal s ow)
-  unfolding contentRefusal
+  unfolding contentWith
   content-judged =
       let t = settingIn s in
       let us = termsIn s in

@@ -8,3 +8,4 @@ pub mod Counts
 mod Outcomes
 pub mod Judgements
 pub mod Demands
+pub mod LargerPrimes

@@ -9,7 +9,7 @@ use Rattle.monomial.specs.Layout.{bytes, fields, inLayout}
 use Rattle.polynomial.specs.Settings.{settingOf}
 use Rattle.polynomial.specs.Opening.{termsRefusal, fall, refusalOf}
 use Rattle.opening.specs.Run.{setting}
-use Rattle.block_form.specs.Form.{allBelow, wholeBlocks, formRefusal}
+use Rattle.block_form.specs.Form.{allBelow, wholeBlocks, formRefusalWith}
 use Rattle.block.specs.Block.{sumWords}
 use Rattle.blocks.specs.declared.read.Reading.the-variants as R
 use Rattle.blocks.specs.declared.write.Writing.the-variants as W
@@ -17,21 +17,21 @@ use Rattle.blocks.specs.Outcome.{writeRefusal, WriteOutcome, writeStated
 
 -- no bytes are no blocks, and 8 comes first
 pub no-blocks : _≡_ {A = ReadOutcome} (readOutcome [] (5 ∷ []) (6 ∷ [])) (record { answer = readStated (R.Refused NotBlocks 0); ws = 5 ∷ []; cs = 6 ∷ [] })
-unfolding formRefusal wholeBlocks
+unfolding formRefusalWith wholeBlocks
 no-blocks = refl
 
 pub eight-first : _≡_ {A = ReadOutcome} (readOutcome [] [] (6 ∷ [])) (record { answer = readStated (R.Refused BadShape 0); ws = []; cs = 6 ∷ [] })
-unfolding formRefusal
+unfolding formRefusalWith
 eight-first = refl
 
 -- a block of zeros has the check 1
 pub zeros-refused : _≡_ {A = ReadOutcome} (readOutcome (replicate 512 0) [] []) (record { answer = readStated (R.Refused BadCheck 0); ws = []; cs = [] })
-unfolding formRefusal wholeBlocks allBelow sumWords
+unfolding formRefusalWith wholeBlocks allBelow sumWords
 zeros-refused = refl
 
 -- "15 for all blocks, 16": the first of these two blocks has a right check and a wrong count, the second a wrong check; a program that judges 16 before 15, or block by block, answers 16
 pub fifteen-first : _≡_ {A = ReadOutcome} (readOutcome (replicate 508 0 ++ (1 ∷ replicate 515 0)) [] []) (record { answer = readStated (R.Refused BadCheck 0); ws = []; cs = [] })
-unfolding formRefusal wholeBlocks allBelow sumWords
+unfolding formRefusalWith wholeBlocks allBelow sumWords
 fifteen-first = refl
 
 -- writing: 8 before 4, on one word with two coefficients that are 0

@@ -16,8 +16,8 @@ use Rattle.opening.proofs.Tests.{first-some, passed}
 use Rattle.opening.proofs.ListedLaws.{Numbered, first-numbered, unless-numbered, setting-numbered, polynomial-numbered}
 use Rattle.polynomial.specs.declared.setting.Setting.{Setting}
 use Rattle.block.specs.Block.{settingIn}
-use Rattle.block_form.specs.Form.{totalIn, wholeBlocks, checksStand, blocksStand, formRefusal}
-use Rattle.blocks.specs.Reading.{firstTerms, termsIn, contentRefusal, readRefusal}
+use Rattle.block_form.specs.Form.{totalIn, wholeBlocks, checksStand, blocksStand, formRefusalWith, formRefusal}
+use Rattle.blocks.specs.Reading.{firstTerms, termsIn, contentWith, contentRefusal, readRefusal}
 use Rattle.blocks.specs.Outcome.{ReadOutcome, readBy}
 use Rattle.block_form.proofs.FormLaws.{Form, form-passes}
 use Rattle.blocks.proofs.PlaceLaws.{length-first}
@@ -25,7 +25,7 @@ use Rattle.blocks.proofs.PlaceLaws.{length-first}
 -- ---- the refusal, test by test
 module _ (s : List ℕ) (ow : ℕ) (t : Setting) (e : t ≡ settingIn s) where
   pub stop-setting : (r : ℕ) → r ≡ setting t → (r ≡ 0 → ⊥) → r ≡ contentRefusal s ow
-  unfolding contentRefusal
+  unfolding contentWith
   stop-setting r f h = rw (← (f ∙ ap setting e)) (first-some r _ h)
 
   module _ (z : setting t ≡ 0) (total : ℕ) (w : total ≡ totalIn s) (r : ℕ) (f : r ≡ polynomialRefusal t (firstTerms s total)) where
@@ -36,21 +36,21 @@ module _ (s : List ℕ) (ow : ℕ) (t : Setting) (e : t ≡ settingIn s) where
     terms-are = f ∙ ap₂ (λ (u : Setting) (k : ℕ). polynomialRefusal u (firstTerms s k)) e w
 
     pub stop-terms : (r ≡ 0 → ⊥) → r ≡ contentRefusal s ow
-    unfolding contentRefusal
+    unfolding contentWith
     stop-terms h = rw (set-is, ← terms-are) (first-some r _ h)
 
     module _ (g : r ≡ 0) where
       pub stop-room : ow < total → 10 ≡ contentRefusal s ow
-      unfolding contentRefusal
+      unfolding contentWith
       stop-room h = rw (set-is, sym terms-are ∙ g, lt-leb (totalIn s) ow (omega arith))
 
       pub no-stop : total ≤ ow → 0 ≡ contentRefusal s ow
-      unfolding contentRefusal
+      unfolding contentWith
       no-stop h = rw (set-is, sym terms-are ∙ g, le-leb (totalIn s) ow (omega arith))
 
 -- the refusal is one of the table's
 pub read-numbered : (s : List ℕ) (ow oc : ℕ) → Numbered (readRefusal s ow oc)
-unfolding formRefusal contentRefusal listed
+unfolding formRefusalWith contentWith listed
 read-numbered s ow oc =
     let t = settingIn s in
     first-numbered _ _
@@ -67,7 +67,7 @@ pub record Content (s : List ℕ) (ow : ℕ) : Type 0 where
   pub room : totalIn s ≤ ow
 
 pub content-passes : (s : List ℕ) (ow : ℕ) → contentRefusal s ow ≡ 0 → Content s ow
-unfolding contentRefusal
+unfolding contentWith
 content-passes s ow h =
     let t = settingIn s in
     let r = polynomialRefusal t (termsIn s) in

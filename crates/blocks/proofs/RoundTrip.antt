@@ -12,6 +12,7 @@ use lib.Seq.{ext-getD, getD-take, getD-drop}
 use Rattle.limits.specs.Limits.{largestPrime, mostTerms}
 use Rattle.monomial.specs.Exponents.{orderOf}
 use Rattle.monomial.specs.Layout.{bytes, ofBytes, Layout}
+use Rattle.monomial.proofs.ByteLaws.{ofBytes-bytes}
 use Rattle.monomial.proofs.LayoutLaws.{layout-packed}
 use Rattle.monomial.proofs.Places.{below-zeros}
 use Rattle.polynomial.specs.Terms.{Term, term, terms, coefs, All}
@@ -24,12 +25,12 @@ use Rattle.polynomial.specs.declared.setting.Setting.{Setting}
 use Rattle.block.specs.Block.{numberAt, header, unused, sumWords, checkOf, body, block, termsOf, blockCount, blocksOf, same, zeros, settingIn}
 use Rattle.block.proofs.ByteLaws.{part-part}
 use Rattle.block.proofs.BlockLaws.{length-header, length-body}
-use Rattle.block.proofs.FieldLaws.{same-self, got-back, here-in, p-in, order-in, n-in}
+use Rattle.block.proofs.FieldLaws.{same-self, got-back, here-in, low-in, upper-in, order-in, n-in}
 use Rattle.blocks.specs.declared.read.Reading.the-variants as R
-use Rattle.block_form.specs.Form.{allBelow, wholeBlocks, countIn, totalIn, hereOf, checkStands, checksStand, blockStands, blocksStand, formRefusal}
-use Rattle.blocks.specs.Reading.{placeAt, termAt, firstTerms, termsIn, contentRefusal, readRefusal}
+use Rattle.block_form.specs.Form.{allBelow, wholeBlocks, countIn, totalIn, hereOf, checkStands, checksStand, standsWith, blockStands, blocksStand, formRefusalWith, formRefusal}
+use Rattle.blocks.specs.Reading.{placeAt, termAt, firstTerms, termsIn, contentWith, contentRefusal, readRefusal}
 use Rattle.blocks.specs.Outcome.{writeRefusal, ReadOutcome, readStated, readBy, readOutcome}
-use Rattle.block_form.proofs.FormLaws.{all-of}
+use Rattle.block_form.proofs.FormLaws.{all-of, whole-is}
 use Rattle.blocks.proofs.PlaceLaws.{length-first, first-at}
 use Rattle.blocks.proofs.WriteLaws.{Writable, write-passes, length-blocks, termsOf-few, length-termsOf}
 use Rattle.blocks.proofs.InsideLaws.{part-all, body-in, header-in, places-in, filler-in, check-in, word-in, coef-in, block-in}
@@ -88,15 +89,24 @@ module _ (t : Setting) (ws cs : List ℕ) (room : ℕ) (w : Writable t ws cs roo
   first-block : 0 < count
   first-block = some-blocks .0
 
-  field : (at n : ℕ) → at + n ≤ 16 → part at n s ≡ part at n (header 0 count (length (termsOf 0 ts)) t)
-  field at n h = ap (λ (k : ℕ). part k n s) (let e : at ≡ 512 * 0 + at = omega arith in e) ∙ (inside 0 at n first-block (omega arith) ∙ header-in 0 count t (termsOf 0 ts) (termsOf-few 0 ts) at n h)
+  field : (k at n : ℕ) → k < count → at + n ≤ 16 → part (512 * k + at) n s ≡ part at n (header k count (length (termsOf k ts)) t)
+  field k at n h l = inside k at n h (omega arith) ∙ header-in k count t (termsOf k ts) (termsOf-few k ts) at n l
+
+  -- the halves of p in block k
+  pub low-is : (k : ℕ) → k < count → numberAt 2 (512 * k + 6) s ≡ t .p % 65536
+  low-is k h = ap ofBytes (field k 6 2 h (omega arith) ∙ low-in k count (length (termsOf k ts)) t) ∙ ofBytes-bytes 2 (t .p)
+
+  pub upper-is : (k : ℕ) → k < count → numberAt 2 (512 * k + 10) s ≡ t .p / 65536
+  upper-is k h = ap ofBytes (field k 10 2 h (omega arith) ∙ upper-in k count (length (termsOf k ts)) t) ∙ got-back 2 (t .p / 65536) (let l = w .set .limit in omega (arith, l))
 
   pub setting-is : settingIn s ≡ t
   setting-is =
       let q = w .set in
-      let ep : numberAt 2 6 s ≡ t .p = ap ofBytes (field 6 2 (omega arith) ∙ p-in 0 count (length (termsOf 0 ts)) t) ∙ got-back 2 (t .p) (omega (arith, q .limit)) in
-      let eo : numberAt 1 8 s ≡ t .order = ap ofBytes (field 8 1 (omega arith) ∙ order-in 0 count (length (termsOf 0 ts)) t) ∙ got-back 1 (t .order) (omega (arith, q .order-high)) in
-      let en : numberAt 1 9 s ≡ t .n = ap ofBytes (field 9 1 (omega arith) ∙ n-in 0 count (length (termsOf 0 ts)) t) ∙ got-back 1 (t .n) (omega (arith, q .n-high)) in
+      let el : numberAt 2 6 s ≡ t .p % 65536 = low-is 0 first-block in
+      let eu : numberAt 2 10 s ≡ t .p / 65536 = upper-is 0 first-block in
+      let ep : settingIn s .p ≡ t .p = omega (arith, el, eu) in
+      let eo : numberAt 1 8 s ≡ t .order = ap ofBytes (field 0 8 1 first-block (omega arith) ∙ order-in 0 count (length (termsOf 0 ts)) t) ∙ got-back 1 (t .order) (omega (arith, q .order-high)) in
+      let en : numberAt 1 9 s ≡ t .n = ap ofBytes (field 0 9 1 first-block (omega arith) ∙ n-in 0 count (length (termsOf 0 ts)) t) ∙ got-back 1 (t .n) (omega (arith, q .n-high)) in
       ap₂ (λ (x y : ℕ). record { p = x; order = y; n = numberAt 1 9 s }) ep eo ∙ ap (λ (z : ℕ). record { p = t .p; order = t .order; n = z }) en
 
   -- ---- the form
@@ -114,7 +124,7 @@ module _ (t : Setting) (ws cs : List ℕ) (room : ℕ) (w : Writable t ws cs roo
       all-body k = part-all (body k count t (termsOf k ts)) 508 (length-body k count t (termsOf k ts) (termsOf-few k ts))
 
   block-stands : (k : ℕ) → k < count → blockStands s k ≡ true
-  unfolding blockStands
+  unfolding standsWith
   block-stands k h =
       let us = termsOf k ts in
       let he : hereOf (totalIn s) k ≡ length us = ap (λ (n : ℕ). hereOf n k) total-is ∙ sym (length-termsOf k ts) in
@@ -166,25 +176,21 @@ module _ (t : Setting) (ws cs : List ℕ) (room : ℕ) (w : Writable t ws cs roo
       (ap₂ _&&_ (le-leb (totalIn s) mostTerms (omega (arith, total-is, few))) (ap (λ (n : ℕ). allBelow n (blockStands s)) count-is ∙ all-of (blockStands s) count block-stands))
 
   whole : wholeBlocks (length s) ≡ true
-  unfolding wholeBlocks
-  whole =
-      let c = some-blocks in
-      let z : length s % 512 ≡ 0 = omega (arith, length-s) in
-      ap₂ _&&_ (eq-eqb (length s % 512) 0 z) (ap₂ _&&_ (le-leb 512 (length s) (omega (arith, length-s, c .0))) (le-leb (length s) 51200 (omega (arith, length-s, c .1))))
+  whole = let c = some-blocks in whole-is (length s) (record { whole = omega (arith, length-s); some = omega (arith, length-s, c .0); most = omega (arith, length-s, c .1) })
+
+  pub form : (ow oc : ℕ) → ow ≡ oc → formRefusal s ow oc ≡ 0
+  unfolding formRefusalWith
+  form ow oc lent = rw (eq-eqb ow oc lent, whole, checks, stand)
 
   module _ (ow oc : ℕ) (lent : ow ≡ oc) (enough : length ws ≤ ow) where
-    form : formRefusal s ow oc ≡ 0
-    unfolding formRefusal
-    form = rw (eq-eqb ow oc lent, whole, checks, stand)
-
     content : contentRefusal s ow ≡ 0
-    unfolding contentRefusal
+    unfolding contentWith
     content =
         ap₂ (λ (u : Setting) (vs : List (Term ℕ)). first (setting u) (first (polynomialRefusal u vs) (unless (leb (totalIn s) ow) 10))) setting-is terms-are
         ∙ rw (w .passes-setting, w .good, le-leb (totalIn s) ow (omega (arith, total-is, long)))
 
     pub accepted : readRefusal s ow oc ≡ 0
-    accepted = ap₂ first form content
+    accepted = ap₂ first (form ow oc lent) content
 
 -- What writing makes is read as the p, order and n and the terms that were written; the rest of what is lent is not changed.
 pub written-read : (t : Setting) (ws cs ow oc : List ℕ) (room : ℕ) → writeRefusal t ws cs room ≡ 0 → length ow ≡ length oc → length ws ≤ length ow

@@ -20,7 +20,7 @@ use Rattle.opening.proofs.Tests.{first-some, passed}
 use Rattle.opening.proofs.SettingLaws.{Set, setting-passes}
 use Rattle.opening.proofs.ListedLaws.{Numbered, first-numbered, unless-numbered, setting-numbered, polynomial-numbered}
 use Rattle.polynomial.specs.declared.setting.Setting.{Setting}
-use Rattle.block.specs.Block.{block, termsOf, blockCount, firstBlocks, blocksOf}
+use Rattle.block.specs.Block.{block, termsOf, blockCount, firstBlocksWith, firstBlocks, blocksOf}
 use Rattle.block.proofs.ByteLaws.{joined}
 use Rattle.block.proofs.BlockLaws.{length-block}
 use Rattle.block_form.specs.Form.{hereOf}
@@ -53,7 +53,7 @@ part-long l k here h = omega (arith, h, length-take (41 * k + here - 41 * k) (dr
 
 -- ---- blocks put
 pub length-blocks : (count : ℕ) (t : Setting) (ts : List (Term ℕ)) (k : ℕ) → length (firstBlocks count t ts k) ≡ 512 * k
-unfolding firstBlocks
+unfolding firstBlocksWith
 length-blocks count t ts zero = refl
 length-blocks count t ts (suc k) =
     omega (arith, length-append (firstBlocks count t ts k) (block k count t (termsOf k ts)), length-blocks count t ts k, length-block k count t (termsOf k ts) (termsOf-few k ts))
@@ -65,11 +65,11 @@ pub record Blocked (count : ℕ) (t : Setting) (ts : List (Term ℕ)) (s₀ s : 
   pub is : s ≡ sets s₀ 0 (firstBlocks count t ts k)
 
 pub blocked-none : (count : ℕ) (t : Setting) (ts : List (Term ℕ)) (s : List ℕ) → Blocked count t ts s s 0
-unfolding firstBlocks
+unfolding firstBlocksWith
 blocked-none count t ts s = record { low = omega arith; long = refl; is = refl }
 
 pub blocked-more : (count : ℕ) (t : Setting) (ts us : List (Term ℕ)) (s₀ s s' : List ℕ) (k : ℕ) → Blocked count t ts s₀ s k → k < count → us ≡ termsOf k ts → s' ≡ sets s (512 * k) (block k count t us) → Blocked count t ts s₀ s' (k + 1)
-unfolding firstBlocks
+unfolding firstBlocksWith
 blocked-more count t ts us s₀ s s' k b h e f =
     let g : s' ≡ sets s (512 * k) (block k count t (termsOf k ts)) = f ∙ ap (λ (vs : List (Term ℕ)). sets s (512 * k) (block k count t vs)) e in
     record {

@@ -1,3 +1,4 @@
 pub mod Reading
 pub mod Outcome
 pub mod Judgement
+pub mod FirstKind

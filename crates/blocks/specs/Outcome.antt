@@ -9,7 +9,7 @@ use Rattle.polynomial.specs.Terms.{Term, terms, words, coefs}
 use Rattle.polynomial.specs.Opening.{first, polynomialRefusal}
 use Rattle.opening.specs.Run.{unless, setting}
 use Rattle.polynomial.specs.declared.setting.Setting.{Setting}
-use Rattle.block.specs.Block.{blockCount, blocksOf, settingIn}
+use Rattle.block.specs.Block.{blockCount, settingBytes, blocksWith, settingIn}
 use Rattle.blocks.specs.Reading.{termsIn, readRefusal}
 use Rattle.blocks.specs.declared.write.Writing.{Writing}
 use Rattle.blocks.specs.declared.write.Writing.the-variants as W
@@ -41,10 +41,13 @@ pub record WriteOutcome : Type 0 where
   pub answer : WriteStated
   pub bytes : List ℕ
 
--- by the refusal's number, 0 for none
+-- by the refusal's number, 0 for none, and the ten bytes of the setting
+abbrev pub writtenWith : (refusal : ℕ) → (setting : List ℕ) → List (Term ℕ) → List ℕ → WriteOutcome
+writtenWith zero setting ts bytes = record { answer = record { number = 0; finished = 0; blocks = blockCount (length ts) }; bytes = blocksWith setting ts ++ drop (length (blocksWith setting ts)) bytes }
+writtenWith (suc r) setting ts bytes = record { answer = record { number = suc r; finished = 0; blocks = 0 }; bytes = bytes }
+
 abbrev pub writtenBy : (refusal : ℕ) → Setting → List (Term ℕ) → List ℕ → WriteOutcome
-writtenBy zero t ts bytes = record { answer = record { number = 0; finished = 0; blocks = blockCount (length ts) }; bytes = blocksOf t ts ++ drop (length (blocksOf t ts)) bytes }
-writtenBy (suc r) t ts bytes = record { answer = record { number = suc r; finished = 0; blocks = 0 }; bytes = bytes }
+writtenBy r t ts bytes = writtenWith r (settingBytes t) ts bytes
 
 abbrev pub writeOutcome : Setting → (ws cs bytes : List ℕ) → WriteOutcome
 writeOutcome t ws cs bytes = writtenBy (writeRefusal t ws cs (length bytes)) t (terms ws cs) bytes

@@ -6,6 +6,7 @@ use lib.Dec.{leb, eqb}
 use Rattle.polynomial.specs.Terms.{Term, term}
 use Rattle.polynomial.specs.Opening.{first, polynomialRefusal}
 use Rattle.opening.specs.Run.{unless, setting}
+use Rattle.polynomial.specs.declared.setting.Setting.{Setting}
 use Rattle.block.specs.Block.{numberAt, settingIn}
 use Rattle.block_form.specs.Form.{totalIn, formRefusal}
 
@@ -28,11 +29,12 @@ termsIn s = firstTerms s (totalIn s)
 
 -- ---- "Reading: 8, 14, 15 for all blocks, 16, then 1 to 6, then 10."
 
--- 1 to 6, then 10; ow is how many words are lent
-unfoldable pub contentRefusal : List ℕ → (ow : ℕ) → ℕ
-contentRefusal s ow =
-    let t = settingIn s in
-    first (setting t) (first (polynomialRefusal t (termsIn s)) (unless (leb (totalIn s) ow) 10))
+-- 1 to 6, then 10, for the terms in a setting; ow is how many words are lent
+unfoldable pub contentWith : Setting → List ℕ → (ow : ℕ) → ℕ
+contentWith t s ow = first (setting t) (first (polynomialRefusal t (termsIn s)) (unless (leb (totalIn s) ow) 10))
+
+abbrev pub contentRefusal : List ℕ → (ow : ℕ) → ℕ
+contentRefusal s ow = contentWith (settingIn s) s ow
 
 abbrev pub readRefusal : List ℕ → (ow oc : ℕ) → ℕ
 readRefusal s ow oc = first (formRefusal s ow oc) (contentRefusal s ow)

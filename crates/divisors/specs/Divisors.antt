@@ -1,9 +1,10 @@
 -- The divisors as they are lent: what the search for a fitting one, and the inverse of its lead coefficient, ask and give. Assumes nothing.
 use Prim.Native.Nat.{ℕ, _+_, _*_, _/_, _%_, _<_, _≤_}
 use mathlib.Core.Path.{_≡_}
-use mathlib.Core.Bool.{true, false}
+use mathlib.Core.Bool.{true, false, cond}
 use mathlib.Core.List.{List}
 use mathlib.Core.Logic.{_⊎_}
+use lib.Dec.{leb}
 use lib.ListN.{length, getD}
 use Rattle.residue.specs.Modular.{Modulus, inverseOf}
 use Rattle.residue.specs.Prime.{Prime}
@@ -53,17 +54,23 @@ pub record Scannable (leads : List ℕ) (n α : ℕ) : Type 0 where
   pub packed : (j : ℕ) → j < n → Packed (getD leads j 0)
   pub word : Packed α
 
--- a number below p in one number with its share of p in parts of 2 ^ 48
+-- a number below p is kept in one number of 64 bits with its share of p above it: in the low 16 bits, with the share in parts of 2 ^ 48, where p is at most 2 ^ 16, and else in the low 32 bits, with the share in parts of 2 ^ 32
+abbrev pub lowPart : (p : ℕ) → ℕ
+lowPart p = cond (leb p 65536) 65536 4294967296
+
 abbrev pub inOne : (p value : ℕ) → ℕ
-inOne p value = value * 281474976710656 / p * 65536 + value
+inOne p value = value * (18446744073709551616 / lowPart p) / p * lowPart p + value
+
+-- the number that is kept
+abbrev pub inverseIn : (p kept : ℕ) → ℕ
+inverseIn p kept = kept % lowPart p
 
 -- such a number, and one to multiply it by
-pub record Multiplying (p x inverse : ℕ) : Type 0 where
+pub record Multiplying (p x kept : ℕ) : Type 0 where
   pub modulus : Modulus p
-  pub short : p ≤ 65536
   pub small : x < p
-  pub below : inverse % 65536 < p
-  pub share-is : inverse / 65536 ≡ inverse % 65536 * 281474976710656 / p
+  pub below : inverseIn p kept < p
+  pub kept-is : kept ≡ inOne p (inverseIn p kept)
 
 -- the inverses of the lead coefficients of the first 1,024 divisors, as far as they were asked for
 pub record Inverses (p : ℕ) (coefs starts inverses : List ℕ) : Type 0 where
@@ -72,7 +79,6 @@ pub record Inverses (p : ℕ) (coefs starts inverses : List ℕ) : Type 0 where
 
 pub record Inverting (p : ℕ) (coefs starts : List ℕ) (k : ℕ) (inverses : List ℕ) : Type 0 where
   pub modulus : Modulus p
-  pub short : p ≤ 65536
   pub prime : Prime p
   pub low : 1 ≤ k
   pub there : k < length starts

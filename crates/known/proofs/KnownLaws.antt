@@ -27,7 +27,7 @@ use Rattle.opening.specs.Reduction.{reductionShape, reductionRefusal}
 use Rattle.run_outcome.specs.Runs.{operate, operateAll, operationsOf}
 use Rattle.division.specs.Choice.{firstFrom, chosen}
 use Rattle.division.specs.Steps.{anyTooLarge, dividing, keeping, stepsFrom, reduction}
-use Rattle.block.specs.Block.{settingBytes, header, places, sumWords, block, firstBlocks}
+use Rattle.block.specs.Block.{settingBytes, headerWith, places, sumWords, blockWith, firstBlocksWith}
 use Rattle.blocks.specs.Outcome.{writeRefusal}
 use Rattle.text.specs.Bytes.{begins, same, indexOf, parts, joined}
 use Rattle.text.specs.Numbers.{decimalIn, andThen, withDigit, withDigits, numberOf}
@@ -47,5 +47,5 @@ printed script text e small out h =
     (sets-eq text out 0 (omega arith) ∙ ap (λ (n : ℕ). text ++ drop n out) (zero-add (length text)))
 
 pub known : Hold table
-unfolding noDivisor isPrime inverseBelow inverseOf wordOf bytes fields inLayout keep into merge comparedInto compared riseTo startsGood termsRefusal fall refusalOf held carry carryCompared place placeCompared add addCompared sumFrom sumCompared emptied seek pass onward ended searchIn putBack levelFrom listFrom setting spaceGood lentGood pairsGood shapeGood operationGood operationsGood refusalFrom runRefusal reductionShape noneZero reductionRefusal operate operateAll operationsOf firstFrom chosen anyTooLarge dividing keeping stepsFrom reduction settingBytes header places sumWords block firstBlocks writeRefusal begins same indexOf parts joined decimalIn andThen withDigit withDigits numberOf numbersOf entryOf entriesOf addOf lineOf linesOf scriptOf entriesIn endsFrom pairsFrom leadText sumTerms termsText sumText answersText costText refusedText ranText listingOf
+unfolding noDivisor isPrime inverseBelow inverseOf wordOf bytes fields inLayout keep into merge comparedInto compared riseTo startsGood termsRefusal fall refusalOf held carry carryCompared place placeCompared add addCompared sumFrom sumCompared emptied seek pass onward ended searchIn putBack levelFrom listFrom setting spaceGood lentGood pairsGood shapeGood operationGood operationsGood refusalFrom runRefusal reductionShape noneZero reductionRefusal operate operateAll operationsOf firstFrom chosen anyTooLarge dividing keeping stepsFrom reduction settingBytes headerWith places sumWords blockWith firstBlocksWith writeRefusal begins same indexOf parts joined decimalIn andThen withDigit withDigits numberOf numbersOf entryOf entriesOf addOf lineOf linesOf scriptOf entriesIn endsFrom pairsFrom leadText sumTerms termsText sumText answersText costText refusedText ranText listingOf
 known = ((refl, refl), ((refl, refl), ((refl, refl), (refl, (refl, (printed (textOf script) (textOf listing) refl (lit≤ tt), ((refl, refl, refl), ((refl, refl, refl), ((refl, refl), ((refl, refl, refl), ((refl, refl, refl), ((refl, refl), ((refl, refl, refl, refl), (printed (textOf nothing-added) (textOf zero-lines) refl (lit≤ tt), (printed (textOf bad-prime) (textOf refused-line) refl (lit≤ tt), (refl, tt))))))))))))))))

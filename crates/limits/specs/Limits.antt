@@ -1,9 +1,9 @@
--- The limits that document 01 names, each once. They are abbreviations, so that arithmetic sees the numbers. Assumes nothing.
+-- The limits that documents 01 and 02 name, each once. They are abbreviations, so that arithmetic sees the numbers. Assumes nothing.
 use Prim.Native.Nat.{ℕ}
 
--- "p is a prime, 2 to 65,521."
+-- "p may go up to 2,147,483,647."
 abbrev pub largestPrime : ℕ
-largestPrime = 65521
+largestPrime = 2147483647
 
 -- "n from 1 to 6"
 abbrev pub mostVariables : ℕ

@@ -1,7 +1,7 @@
-// The limits that document 01 names, each once.
+// The limits that documents 01 and 02 name, each once.
 
-// "p is a prime, 2 to 65,521."
-pub const LARGEST_PRIME: u32 = 65521;
+// "p may go up to 2,147,483,647."
+pub const LARGEST_PRIME: u32 = 2147483647;
 
 // "n from 1 to 6"
 pub const MOST_VARIABLES: u32 = 6;

@@ -78,16 +78,16 @@ joined-most (e ∷ (f ∷ es)) h =
 fields-small : (o : Order) (w : ℕ) → Below 256 (fields o w)
 fields-small o w = true-below 256 (fields o w) (below-fields 256 o w ∙ below-true 256 (bytes 6 w) (bytes-below 6 w))
 
--- the most bytes of a term in n variables: a space, five digits, a colon, and four for each exponent
+-- the most bytes of a term in n variables: a space, ten digits, a colon, and four for each exponent
 abbrev pub most : ℕ → ℕ
-most n = 4 * n + 7
+most n = 4 * n + 12
 
-pub term-length : (o : Order) (n : ℕ) (t : Term ℕ) → t .coef < 65536 → length (termText o n t) ≤ most n
+pub term-length : (o : Order) (n : ℕ) (t : Term ℕ) → t .coef < 2147483648 → length (termText o n t) ≤ most n
 term-length o n t h =
     let es = exponents o n (t .mono) in
     omega (
       arith,
-      decimal-long 4 (t .coef) (let z : t .coef < 100000 = omega arith in z),
+      decimal-long 9 (t .coef) (let z : t .coef < 10000000000 = omega arith in z),
       joined-most es (below-take 256 n (fields o (t .mono)) (fields-small o (t .mono))),
       length-take n (fields o (t .mono)),
       length-append (decimal (t .coef)) (58 ∷ exponentsText o n (t .mono)),
@@ -120,7 +120,7 @@ lines-pay n (sumLine ∷ ls) g = omega (arith, lines-pay n ls (g .1))
 
 -- ---- the lines of the listing
 abbrev pub Small : List (Term ℕ) → Type 0
-Small ts = All (λ t. t .coef < 65536) ts
+Small ts = All (λ t. t .coef < 2147483648) ts
 
 small-drop : (k : ℕ) (ts : List (Term ℕ)) → Small ts → Small (drop k ts)
 small-drop zero ts h = h
@@ -202,7 +202,7 @@ refused-most number finished h l =
 -- ---- the listing
 below-small : (p : ℕ) (ts : List (Term ℕ)) → p ≤ largestPrime → CoefsBelow p ts → Small ts
 below-small p [] l h = tt
-below-small p (t ∷ ts) l h = ((let z : t .coef < 65536 = omega (arith, h .0) in z), below-small p ts l (h .1))
+below-small p (t ∷ ts) l h = ((let z : t .coef < 2147483648 = omega (arith, h .0) in z), below-small p ts l (h .1))
 
 module _ (s : Script) (g : GoodScript s) (z : Sizes s) (bw bc ww wc ow oc : List ℕ) where
   abbrev last : Running

@@ -42,7 +42,7 @@ module _ (s : Script) where
   linesConditions (leadLine ∷ ls) = linesConditions ls
   linesConditions (sumLine ∷ ls) = linesConditions ls
 
-  -- "1: p is not a prime from 2 to 65,521."; "3: n not 1 to 6."; what else a run asks, every script has
+  -- "1: p is not a prime from 2 to 65,521.", of which document 02 says "Refusal 1 has the new limit."; "3: n not 1 to 6."; what else a run asks, every script has
   abbrev pub scriptConditions : List Condition
   scriptConditions = condition 1 (GoodPrime (s .prime)) ∷ (condition 3 (Between 1 mostVariables (s .vars)) ∷ linesConditions (s .lines))
 

@@ -16,7 +16,7 @@ use Rattle.polynomial.specs.declared.setting.Setting.{Setting}
 use Rattle.polynomial.specs.Terms.{Term, term, terms, Falling}
 use Rattle.polynomial.specs.Opening.{partOf}
 
--- ---- the setting: "1: p is not a prime from 2 to 65,521. 2: order not 1 to 3. 3: n not 1 to 6."
+-- ---- the setting: "1: p is not a prime from 2 to 65,521. 2: order not 1 to 3. 3: n not 1 to 6.", and of document 02 "Refusal 1 has the new limit."
 abbrev pub GoodPrime : ℕ → Type 0
 GoodPrime p = Prime p × (p ≤ largestPrime)
 

@@ -21,7 +21,7 @@ unless false r = r
 abbrev pub between : (low high x : ℕ) → Bool
 between low high x = leb low x && leb x high
 
--- "1: p is not a prime from 2 to 65,521. 2: order not 1 to 3. 3: n not 1 to 6."
+-- "1: p is not a prime from 2 to 65,521. 2: order not 1 to 3. 3: n not 1 to 6.", and of document 02 "Refusal 1 has the new limit."
 unfoldable pub setting : Setting → ℕ
 setting t = first (unless (isPrime (t .p) && leb (t .p) largestPrime) 1) (first (unless (between 1 3 (t .order)) 2) (unless (between 1 mostVariables (t .n)) 3))
 

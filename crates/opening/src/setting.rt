@@ -2,12 +2,12 @@
 use limits::LARGEST_PRIME;
 use limits::MOST_VARIABLES;
 use polynomial::setting::Setting;
-use residue::prime::is_prime;
+use primes::is_prime;
 ghost use mathlib.Core.Path.{_≡_};
 ghost use Rattle.opening.specs.Run.{between, setting};
 
-// 1 where p is not a prime from 2 to 65,521, then 2 where order is not 1 to 3, then 3 where n is not
-// 1 to 6, else 0. The limit is tested first: the prime test of a larger p is not made.
+// 1 where p is not a prime from 2 to 2,147,483,647, then 2 where order is not 1 to 3, then 3 where n is
+// not 1 to 6, else 0. The limit is tested first: the prime test of a larger p is not made.
 pub fn setting(t: Setting) -> u32
     ensures { λ r. ⌜ r ≡ setting t ⌝ }
 {

@@ -16,16 +16,6 @@ yes {t} e h = sym e ∙ not-false t h
 pub no : {t b : Bool} → t ≡ b → not t ≡ true → b ≡ false
 no {t} e h = sym e ∙ not-true t h
 
--- two tests in turn
-pub one-fails : {s : Bool} (t : Bool) → s ≡ false → (s && t) ≡ false
-one-fails t e = rw e
-
-pub other-fails : {s t : Bool} → s ≡ true → t ≡ false → (s && t) ≡ false
-other-fails e f = rw (e, f)
-
-pub both-hold : {s t : Bool} → s ≡ true → t ≡ true → (s && t) ≡ true
-both-hold e f = rw (e, f)
-
 -- three tests in turn
 pub first-fails : {s : Bool} (t u : Bool) → s ≡ false → (s && (t && u)) ≡ false
 first-fails t u e = rw e

@@ -70,7 +70,7 @@ made-in e m = rw e at m
 module _ (p v q : ℕ) (f : Factor) (ws cs : List ℕ) (to : ℕ) (ow oc : List ℕ) (k : FactorOf p v f) where
   pub multiplicands : Factors p v q ws cs to ow oc → Multiplicands f q ws cs to ow oc
   multiplicands h = record {
-    prepared = prepared p v f (h .modulus) (h .short) (h .below) k;
+    prepared = prepared p v f (h .modulus) (h .below) k;
     poly = rw (k .prime-is) (h .poly);
     monomial = h .monomial;
     packed = h .packed;

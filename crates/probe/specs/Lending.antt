@@ -26,10 +26,9 @@ checkNumbers s = numbers (s .stop) (s .late) (s .seen) (s .last)
 unfoldable pub partThere : List ℕ → ℕ → ℕ → Bool
 partThere starts k len = ltb (k + 1) (length starts) && (leb (getD starts k 0) (getD starts (k + 1) 0) && leb (getD starts (k + 1) 0) len)
 
--- a polynomial modulo a p of at most 2 ^ 16, a term c·q, and room for the multiple from place `to` on
+-- a polynomial modulo p, a term c·q, and room for the multiple from place `to` on
 pub record Factors (p c q : ℕ) (ws cs : List ℕ) (to : ℕ) (ow oc : List ℕ) : Type 0 where
   pub modulus : Modulus p
-  pub short : p ≤ 65536
   pub below : c < p
   pub poly : Poly p ws cs
   pub monomial : Packed q

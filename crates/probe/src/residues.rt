@@ -1,14 +1,14 @@
 // Numbers modulo p. Where a number is not below p, or p is not from 2 to 2^31 - 1, the answer is
 // u32::MAX.
+use primes::is_prime;
 use residue::arithmetic::add;
 use residue::arithmetic::multiply;
 use residue::arithmetic::negate;
 use residue::factor::Factor;
 use residue::inverse::invert;
-use residue::prime::is_prime;
 ghost use mathlib.Core.Path.{_≡_};
 ghost use mathlib.Core.Bool.{cond, _&&_};
-ghost use lib.Dec.{leb, ltb};
+ghost use lib.Dec.{ltb};
 ghost use Rattle.residue.specs.Prime.{isPrime};
 ghost use Rattle.residue.specs.Modular.{sum, negative, product, inverseOf};
 ghost use Rattle.probe.specs.Answers.{able};
@@ -52,15 +52,12 @@ pub extern "C" fn probe_multiply_residues(a: u32, b: u32, p: u32) -> u32
     multiply(a, b, p)
 }
 
-// The same product, by the prepared factor a. u32::MAX also where p is over 2^16.
+// The same product, by the prepared factor a.
 #[no_mangle]
 pub extern "C" fn probe_factor_times(a: u32, b: u32, p: u32) -> u32
-    ensures { λ r. ⌜ r ≡ cond (able p a b && leb p 65536) (product p a b) 4294967295 ⌝ }
+    ensures { λ r. ⌜ r ≡ cond (able p a b) (product p a b) 4294967295 ⌝ }
 {
     if !takes(p, a, b) {
-        return REFUSED;
-    }
-    if p > 65536 {
         return REFUSED;
     }
     Factor::new(a, p).times(b)

@@ -2,7 +2,7 @@
 use mathlib.Core.Path.{_≡_, refl, sym, ap, ap₂, _∙_, subst}
 use mathlib.Core.Bool.{Bool, true, false}
 use mathlib.Core.List.{List, [], _∷_}
-use Prim.Native.Nat.{ℕ, zero, suc, _+_, _-_, _%_, _<_, _≤_}
+use Prim.Native.Nat.{ℕ, zero, suc, _+_, _-_, _<_, _≤_}
 use native.Mathlib.Omega.{arith}
 use lib.ListN.{length, getD, take, drop, length-drop}
 use lib.Seq.{take-all, drop-cons}
@@ -32,7 +32,7 @@ use Rattle.division.specs.Divisors.{Valid}
 use Rattle.division.specs.Steps.{anyTooLarge, overWord}
 use Rattle.division.proofs.TailLaws.{multiplier-good, Added, tail-added}
 use Rattle.division.proofs.WordOperations.{word-operations}
-use Rattle.divisors.specs.Divisors.{leadWord, leadCoef, inOne, Inverting, Multiplying}
+use Rattle.divisors.specs.Divisors.{leadWord, leadCoef, inOne, inverseIn, Inverting, Multiplying}
 use Rattle.reducer.specs.Divisors.{OfLayout}
 use Rattle.reducer.specs.Dividing.{TailAddition, TailAdded, tailOf, Dividing, toAdd, DividedTo, over, many, divided, Divided}
 use Rattle.divisors.proofs.InverseLaws.{multiplying}
@@ -113,7 +113,6 @@ module _ {o : Order} {p : ℕ} {words coefs starts : List ℕ} {k : ℕ} {s : St
   pub inverting : Inverting p coefs starts k inverses
   inverting = record {
     modulus = a .checked .modulus;
-    short = a .checked .short;
     prime = a .checked .prime;
     low = a .low;
     there = omega (arith, a .high);
@@ -154,7 +153,6 @@ module _ {o : Order} {p : ℕ} {words coefs starts : List ℕ} {k : ℕ} {s : St
             multiplicands = record {
               prepared = record {
                 modulus = subst Modulus (sym (ef .prime-is)) (a .checked .modulus);
-                short = omega (arith, ef .prime-is, a .checked .short);
                 below = omega (arith, ef .value-is, ef .prime-is, ev, multiplier-small);
                 share = ef .share-is ∙ ap₂ shareOf (sym (ef .prime-is)) (sym (ef .value-is));
               };
@@ -220,8 +218,8 @@ module _ {o : Order} {p : ℕ} {words coefs starts : List ℕ} {k : ℕ} {s : St
 
   -- ---- −c divided by the lead coefficient
   module _ {x : ℕ} (ex : x ≡ negative p (lead .coef)) {i : ℕ} (ei : i ≡ inOne p (inverseOf p (leadCoef coefs starts k))) where
-    asked : Multiplying p x i × (i % 65536 ≡ inverseOf p (leadCoef coefs starts k))
-    asked = multiplying (a .checked .modulus) (a .checked .short) (inverse-below p (leadCoef coefs starts k) (a .checked .prime) (valid a .canonical .reduced .0 .0) (valid a .canonical .reduced .0 .1)) (omega (arith, ex, negative-below p pos (lead .coef))) ei
+    asked : Multiplying p x i × (inverseIn p i ≡ inverseOf p (leadCoef coefs starts k))
+    asked = multiplying (a .checked .modulus) (inverse-below p (leadCoef coefs starts k) (a .checked .prime) (valid a .canonical .reduced .0 .0) (valid a .canonical .reduced .0 .1)) (omega (arith, ex, negative-below p pos (lead .coef))) ei
       where
         pos : 0 < p
         pos = omega (arith, a .checked .modulus .two)
@@ -229,5 +227,5 @@ module _ {o : Order} {p : ℕ} {words coefs starts : List ℕ} {k : ℕ} {s : St
     pub factor-asks : Multiplying p x i
     factor-asks = asked .0
 
-    pub multiplier-is : product p x (i % 65536) ≡ product p (negative p (lead .coef)) (inverseOf p (leadCoef coefs starts k))
+    pub multiplier-is : product p x (inverseIn p i) ≡ product p (negative p (lead .coef)) (inverseOf p (leadCoef coefs starts k))
     multiplier-is = ap₂ (product p) ex (asked .1)

@@ -19,7 +19,6 @@ OfLayout o w = Layout o 6 w
 -- polynomials that passed the opening checks of a reduction
 pub record Checked (o : Order) (p : ℕ) (words coefs starts : List ℕ) : Type 0 where
   pub modulus : Modulus p
-  pub short : p ≤ 65536
   pub prime : Prime p
   pub long : length coefs ≡ length words
   pub some : 1 < length starts

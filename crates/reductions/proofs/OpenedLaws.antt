@@ -45,7 +45,6 @@ module _ {t : Setting} {words coefs ss : List ℕ} {steps lbw lbc lww lwc low lo
   reducible = record {
     checked = record {
       modulus = record { two = o .prime .above; limit = omega (arith, o .limit) };
-      short = omega (arith, o .limit);
       prime = o .prime;
       long = sym (o .lent);
       some = o .some;

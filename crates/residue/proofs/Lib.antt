@@ -2,7 +2,6 @@
 pub mod Remainder
 pub mod Modular
 pub mod Primality
-pub mod TrialDivision
 pub mod Euclid
 pub mod Inverses
 pub mod Shoup

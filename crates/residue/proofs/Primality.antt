@@ -1,6 +1,6 @@
 -- The test for primes agrees with the definition.
 use mathlib.Core.Path.{_≡_, refl}
-use mathlib.Core.Bool.{Bool, true, false, _&&_}
+use mathlib.Core.Bool.{Bool, true, false, and-false}
 use mathlib.Core.Logic.{_⊎_, inl, inr, ⊎-elim}
 use Prim.Native.Nat.{ℕ, zero, suc, _+_, _-_, _%_, _≤_, _<_, _∣_}
 use native.Mathlib.Nat.{eq-or-lt-of-le, lt-of-not-le, le-of-dvd, pos-of-dvd-of-pos, mod-eq-zero-of-dvd, dvd-of-mod-eq-zero}
@@ -32,17 +32,15 @@ none-prime p h none = record { above = h; only = only } where
       let pos : 1 ≤ d = pos-of-dvd-of-pos v (let z : 0 < p = omega arith in z) in
       ⊎-elim (λ e. inl (let z : d ≡ 1 = omega arith in z)) (λ l. larger d v l) (eq-or-lt-of-le pos)
 
-and-false : (b : Bool) → (b && false) ≡ false
-and-false true = refl
-and-false false = refl
-
-none-divides : (k p : ℕ) → NoDivisorBelow (k + 2) p → noDivisor k p ≡ true
+-- none of so many numbers divides p
+pub none-divides : (k p : ℕ) → NoDivisorBelow (k + 2) p → noDivisor k p ≡ true
 unfolding noDivisor
 none-divides zero p h = refl
 none-divides (suc k) p h =
     simp (ne-eqb (p % (k + 2)) 0 (h (k + 2) (omega arith) (omega arith)), none-divides k p (λ d l m. h d (omega arith) m))
 
-one-divides : (k p d : ℕ) → 2 ≤ d → d < k + 2 → p % d ≡ 0 → noDivisor k p ≡ false
+-- one of so many numbers divides p
+pub one-divides : (k p d : ℕ) → 2 ≤ d → d < k + 2 → p % d ≡ 0 → noDivisor k p ≡ false
 unfolding noDivisor
 one-divides zero p d l m e = absurd (let z : ⊥ = omega arith in z)
 one-divides (suc k) p d l m e =
@@ -70,7 +68,8 @@ pub small-false : (p : ℕ) → p < 2 → isPrime p ≡ false
 unfolding isPrime
 small-false p h = simp (lt-leb 2 p h)
 
-clash : (b : Bool) → b ≡ true → b ≡ false → ⊥
+-- a test is not both
+pub clash : (b : Bool) → b ≡ true → b ≡ false → ⊥
 clash b h k = let z : _≡_ {A = Bool} true false = cc in let y : _≡_ {A = ℕ} 0 1 = cc in omega arith
 
 -- a number of which the test is true is prime

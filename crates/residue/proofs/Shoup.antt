@@ -64,46 +64,51 @@ module _ (v x p B : ℕ) (pos : 0 < p) (above : 0 < B) (small : x ≤ B) where
 pub estimate : (v x p B : ℕ) → 0 < p → 0 < B → x ≤ B → (v * B / p * x / B * p ≤ v * x) × (v * x < v * B / p * x / B * p + p + p)
 estimate v x p B pos above small = (low v x p B pos above small, high v x p B pos above small)
 
--- a share is at most B
-share-small : (v p B : ℕ) → v < p → 0 < B → v * B / p ≤ B
-share-small v p B h above =
-    le-of-lt (div-lt-iff-lt-mul (let z : 0 < p = omega arith in z) .1 (let e : v * B < B * p = omega (arith, mul-lt-mul-of-pos-right h above, mul-comm p B) in e))
+-- a share is below B
+pub share-below : (v p B : ℕ) → v < p → 0 < B → v * B / p < B
+share-below v p B h above =
+    div-lt-iff-lt-mul (let z : 0 < p = omega arith in z) .1 (let e : v * B < B * p = omega (arith, mul-lt-mul-of-pos-right h above, mul-comm p B) in e)
 
 -- what the estimate leaves of the product
 abbrev pub rest : (f : Factor) (x : ℕ) → ℕ
-rest f x = f .value * x - f .share * x / 65536 * f .prime
+rest f x = f .value * x - f .share * x / 4294967296 * f .prime
 
 -- a factor that is prepared, and a number below its modulus, as the code has them
 module _ (f : Factor) (x : ℕ) (h : Prepared f) (l : x < f .prime) where
-  -- the product by the share fits in 32 bits
-  pub share-fits : f .share * x < 2 ^ 32
+  -- the product by the share fits in 64 bits
+  pub share-fits : f .share * x < 2 ^ 64
   share-fits =
-      let s : f .share ≤ 65536 = rw (h .share) (share-small (f .value) (f .prime) 65536 (h .below) (lit< tt)) in
-      omega (arith, mul-le-mul-right x s, h .short)
+      let s : f .share < 4294967296 = rw (h .share) (share-below (f .value) (f .prime) 4294967296 (h .below) (lit< tt)) in
+      omega (arith, mul-le-mul-right x (le-of-lt s), h .modulus .limit)
 
   -- and so does the product
-  pub value-fits : f .value * x < 2 ^ 32
+  pub value-fits : f .value * x < 2 ^ 64
   value-fits =
-      let v : f .value ≤ 65536 = omega (arith, h .below, h .short) in
-      omega (arith, mul-le-mul-right x v, h .short)
+      let v : f .value ≤ 4294967296 = omega (arith, h .below, h .modulus .limit) in
+      omega (arith, mul-le-mul-right x v, h .modulus .limit)
+
+  -- what is left fits in 32 bits
+  pub rest-fits : rest f x < 2 ^ 32
+  rest-fits =
+      let z : f .value * x < f .share * x / 4294967296 * f .prime + f .prime + f .prime = rw (h .share) (high (f .value) x (f .prime) 4294967296 (omega arith) (lit< tt) (omega (arith, h .modulus .limit))) in
+      omega (arith, z, h .modulus .limit)
 
   -- the estimated multiple of the modulus is at most the product
-  pub at-most : f .share * x / 65536 * f .prime ≤ f .value * x
-  at-most = rw (h .share) (low (f .value) x (f .prime) 65536 (omega arith) (lit< tt) (omega (arith, h .short)))
+  pub at-most : f .share * x / 4294967296 * f .prime ≤ f .value * x
+  at-most = rw (h .share) (low (f .value) x (f .prime) 4294967296 (omega arith) (lit< tt) (omega (arith, h .modulus .limit)))
 
   -- what is left is the remainder where it is below the modulus
   pub small-rest : rest f x < f .prime → rest f x ≡ product (f .prime) (f .value) x
-  small-rest = rw (h .share) (exact (f .value) x (f .prime) 65536 (omega arith) (lit< tt) (omega (arith, h .short)))
+  small-rest = rw (h .share) (exact (f .value) x (f .prime) 4294967296 (omega arith) (lit< tt) (omega (arith, h .modulus .limit)))
 
   -- and less the modulus where it is not
   pub large-rest : f .prime ≤ rest f x → rest f x - f .prime ≡ product (f .prime) (f .value) x
-  large-rest = rw (h .share) (short (f .value) x (f .prime) 65536 (omega arith) (lit< tt) (omega (arith, h .short)))
+  large-rest = rw (h .share) (short (f .value) x (f .prime) 4294967296 (omega arith) (lit< tt) (omega (arith, h .modulus .limit)))
 
 -- what `Factor::new` makes is prepared
-pub prepared : (p value : ℕ) (f : Factor) → Modulus p → p ≤ 65536 → value < p → FactorOf p value f → Prepared f
-prepared p value f m s l k = record {
+pub prepared : (p value : ℕ) (f : Factor) → Modulus p → value < p → FactorOf p value f → Prepared f
+prepared p value f m l k = record {
   modulus = rw (k .prime-is) m;
-  short = rw (k .prime-is) s;
   below = rw (k .prime-is, k .value-is) l;
   share = rw (k .prime-is, k .value-is) (k .share-is);
 }

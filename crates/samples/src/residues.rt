@@ -1,12 +1,12 @@
 // The prime test on a row of numbers, and sums, negatives, products and inverses modulo p.
 use crate::text;
+use primes::is_prime;
 use residue::arithmetic::add;
 use residue::arithmetic::multiply;
 use residue::arithmetic::negate;
 use residue::factor::Factor;
 use residue::inverse::invert;
-use residue::prime::is_prime;
-ghost use Prim.Native.Nat.{_<_, _≤_};
+ghost use Prim.Native.Nat.{_<_};
 ghost use Rattle.residue.specs.Modular.{Modulus};
 
 // Squares of primes, the ends of the type, and the largest modulus and its neighbours are among
@@ -135,21 +135,18 @@ fn sums(p: u32, a: u32, b: u32)
     result(negate(a, p));
 }
 
-// The product by a division, and by the prepared factor a where p is at most 2^16.
+// The product by a division, and by the prepared factor a.
 fn products(p: u32, a: u32, b: u32)
     requires { ⌜ Modulus p × (a < p) × (b < p) ⌝ }
 {
     operation(p, a, b" * ", b);
     result(multiply(a, b, p));
-    if p > 65536 {
-        return;
-    }
     operation(p, a, b" as a factor * ", b);
     result(factor_times(p, a, b));
 }
 
 fn factor_times(p: u32, a: u32, b: u32) -> u32
-    requires { ⌜ Modulus p × (p ≤ 65536) × (a < p) × (b < p) ⌝ }
+    requires { ⌜ Modulus p × (a < p) × (b < p) ⌝ }
 {
     Factor::new(a, p).times(b)
 }

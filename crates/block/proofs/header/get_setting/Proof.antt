@@ -9,6 +9,18 @@ add-get-2 c = search needs
 get-2-requires : tie.Need-get-2-requires
 get-2-requires c κs = search needs
 
+add-get-2-2 : tie.Need-add-get-2-2
+add-get-2-2 c = search needs
+
+get-2-requires-2 : tie.Need-get-2-requires-2
+get-2-requires-2 c κs = search needs
+
+mul-p : tie.Need-mul-p
+mul-p c = search needs
+
+add-p : tie.Need-add-p
+add-p c = search needs
+
 add-get-1 : tie.Need-add-get-1
 add-get-1 c = search needs
 
@@ -22,7 +34,7 @@ get-1-requires-2 : tie.Need-get-1-requires-2
 get-1-requires-2 c κs = search needs
 
 returns : tie.Need-returns
-returns c = rw (c .before .before .get-2 .ensures, c .before .get-1 .ensures, c .get-12 .ensures)
+returns c = rw (c .before .before .before .get-2 .ensures .0, c .before .before .get-22 .ensures .0, c .before .get-1 .ensures, c .get-12 .ensures)
 
 pub get-setting-spec : {M : Type 1} → statement M
 get-setting-spec =
@@ -30,6 +42,10 @@ get-setting-spec =
     (tie.spec
     add-get-2
     get-2-requires
+    add-get-2-2
+    get-2-requires-2
+    mul-p
+    add-p
     add-get-1
     get-1-requires
     add-get-1-2

@@ -19,6 +19,12 @@ add-put-1-2 c = search needs
 put-1-requires-2 : tie.Need-put-1-requires-2
 put-1-requires-2 c κs = search needs
 
+add-put-2 : tie.Need-add-put-2
+add-put-2 c = search needs
+
+put-2-requires-2 : tie.Need-put-2-requires-2
+put-2-requires-2 c κs = search needs
+
 add-clear : tie.Need-add-clear
 add-clear c = search needs
 
@@ -29,7 +35,7 @@ same-length : tie.Need-same-length
 same-length c = search needs
 
 returns : tie.Need-returns
-returns c = setting-put _ _ _ _ _ _ _ (c .before .before .before .before .before .before .before .before .before .before .before .before .before .before .put-2 .ensures) (c .before .before .before .before .before .before .before .before .before .before .put-1 .ensures) (c .before .before .before .before .before .before .put-12 .ensures) (c .before .before .clear .ensures)
+returns c = setting-put _ _ _ _ _ _ _ _ (c .before .before .before .before .before .before .before .before .before .before .before .before .before .before .before .before .before .before .before .put-2 .ensures) (c .before .before .before .before .before .before .before .before .before .before .before .before .before .before .before .put-1 .ensures) (c .before .before .before .before .before .before .before .before .before .before .before .put-12 .ensures) (c .before .before .before .before .before .before .put-22 .ensures) (c .before .before .clear .ensures)
 
 pub put-setting-spec : {M : Type 1} → statement M
 put-setting-spec =
@@ -40,6 +46,8 @@ put-setting-spec =
     put-1-requires
     add-put-1-2
     put-1-requires-2
+    add-put-2
+    put-2-requires-2
     add-clear
     clear-requires
     same-length

@@ -27,7 +27,7 @@ add-result : tie.Need-add-result
 add-result c = search needs
 
 returns : tie.Need-returns
-returns c = let a = c .before .before .before .before .before .args in omega (arith, number-2 (a .s .now) (a .at) (c .before .before .before .before .before .pre))
+returns c = let a = c .before .before .before .before .before .args in (omega (arith, number-2 (a .s .now) (a .at) (c .before .before .before .before .before .pre)), omega arith)
 
 pub get-2-spec : {M : Type 1} → statement M
 get-2-spec =

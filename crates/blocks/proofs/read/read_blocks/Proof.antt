@@ -18,7 +18,7 @@ read-refusal-requires : tie.Need-read-refusal-requires
 read-refusal-requires c κs = search needs
 
 refusal-of-requires : tie.Need-refusal-of-requires
-refusal-of-requires c κs = is-listed (c .before .read-refusal .ensures) (read-numbered _ _ _) (c .if1 .taken)
+refusal-of-requires c κs = let a = c .before .before .before .before .before .args in is-listed (c .before .read-refusal .ensures) (read-numbered (a .s .now) (length (a .words .now)) (length (a .coefs .now))) (c .if1 .taken)
 
 returns : tie.Need-returns
 returns c = let z = c .before .before .before .before .before .before in let a = z .args in rw (c .refusal-of .ensures, ← c .before .before .read-refusal .ensures) (read-refused (c .before .before .read-refusal .result) (settingIn (a .s .now)) (termsIn (a .s .now)) (a .words .now) (a .coefs .now) (c .before .if1 .taken))

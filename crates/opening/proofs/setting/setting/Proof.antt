@@ -8,7 +8,7 @@ use Rattle.opening.proofs.setting.setting.Tie as tie
 use Rattle.opening.proofs.setting.setting.Reads as reads
 use Rattle.opening.proofs.setting.setting.Lts as lts
 use Rattle.opening.proofs.setting.is_between.Reads as is-between-reads
-use Rattle.residue.proofs.prime.is_prime.Reads as is-prime-reads
+use Rattle.primes.proofs.is_prime.Reads as is-prime-reads
 
 returns : tie.Need-returns
 returns c = over-limit _ (c .if1 .taken)

@@ -9,7 +9,7 @@ new-requires : tie.Need-new-requires
 new-requires c κs = search needs
 
 times-requires : tie.Need-times-requires
-times-requires c κs = let h = c .before .pre in (prepared _ _ _ (h .0) (h .1) (h .2) (c .new .ensures), omega (arith, h .3, c .new .ensures .prime-is))
+times-requires c κs = let h = c .before .pre in (prepared _ _ _ (h .0) (h .1) (c .new .ensures), omega (arith, h .2, c .new .ensures .prime-is))
 
 returns : tie.Need-returns
 returns c = search needs
