@@ -38,7 +38,7 @@ extern "C" {
 /* ---- Limits, each once */
 
 /* The largest prime, and the most variables. */
-#define DAMSELBUCKLE_LARGEST_PRIME 65521
+#define DAMSELBUCKLE_LARGEST_PRIME 2147483647
 #define DAMSELBUCKLE_MOST_VARIABLES 6
 
 /* Places of the bucket space and of the work space, for words and for coefficients. */
@@ -113,7 +113,7 @@ extern "C" {
  * read: 1, 2, 3, 4, 5, 6, 8, 10, 14, 15, 16
  * print: 1, 3, 4, 5, 6, 17
  * listing: 10 */
-/* p is not a prime from 2 to 65,521. After it: all as it came. */
+/* p is not a prime from 2 to 2,147,483,647. After it: all as it came. */
 #define DAMSELBUCKLE_NOT_PRIME 1
 /* the order is not 1, 2 or 3. After it: all as it came. */
 #define DAMSELBUCKLE_BAD_ORDER 2
@@ -158,7 +158,7 @@ static inline const char *damselbuckle_refusal_text(uint64_t refusal)
     case 0:
         return "none";
     case DAMSELBUCKLE_NOT_PRIME:
-        return "p is not a prime from 2 to 65,521";
+        return "p is not a prime from 2 to 2,147,483,647";
     case DAMSELBUCKLE_BAD_ORDER:
         return "the order is not 1, 2 or 3";
     case DAMSELBUCKLE_BAD_VARIABLES:

@@ -1,5 +1,5 @@
-//! The block store (document 01, "Blocks" and "Refusals by cause"): the blocks of a polynomial, and
-//! what writing and reading give. A refusal is its number.
+//! The block store (document 01, "Blocks" and "Refusals by cause"; document 02, "Larger primes"): the
+//! blocks of a polynomial, and what writing and reading give. A refusal is its number.
 use crate::limits::{
     BLOCK_BYTES, BLOCK_TERMS, LARGEST_PRIME, MOST_BLOCKS, MOST_TERMS, MOST_VARIABLES,
 };
@@ -8,6 +8,7 @@ use crate::polynomial;
 use crate::residue;
 
 const HEADER: usize = 16;
+const ZEROS: usize = 12;
 const PLACE: usize = 12;
 const CHECK: usize = BLOCK_BYTES - 4;
 
@@ -61,10 +62,11 @@ impl Polynomial {
         let mut bytes = Vec::new();
         for (number, part) in parts.iter().enumerate() {
             let Setting { p, order, n } = self.setting;
-            let numbers = [number, parts.len(), part.len(), p as usize];
+            let [low, lower, upper, high] = p.to_le_bytes();
+            let numbers = [number, parts.len(), part.len()];
             let mut block: Vec<u8> = Vec::new();
             block.extend(numbers.iter().flat_map(|&x| (x as u16).to_le_bytes()));
-            block.extend([order as u8, n as u8, 0, 0, 0, 0, 0, 0]);
+            block.extend([low, lower, order as u8, n as u8, upper, high, 0, 0, 0, 0]);
             for (word, coef) in part.iter() {
                 block.extend(word.to_le_bytes());
                 block.extend(coef.to_le_bytes());
@@ -117,7 +119,7 @@ fn number(bytes: &[u8], k: usize) -> u64 {
 fn header(block: &[u8]) -> (u64, u64, usize, Setting) {
     let two = |at: usize| number(&block[at..], 2);
     let setting = Setting {
-        p: two(6) as u32,
+        p: (two(6) + (two(10) << 16)) as u32,
         order: block[8].into(),
         n: block[9].into(),
     };
@@ -166,7 +168,7 @@ fn formed(blocks: &[&[u8]]) -> Result<Polynomial, u64> {
             && count == blocks.len() as u64
             && setting == polynomial.setting
             && allowed.contains(&here)
-            && block[10..HEADER].iter().all(|&byte| byte == 0);
+            && block[ZEROS..HEADER].iter().all(|&byte| byte == 0);
         if !said {
             return Err(16);
         }

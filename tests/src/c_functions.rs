@@ -21,6 +21,7 @@ pub struct Checking {
 }
 
 extern "C" {
+    fn probe_is_prime(p: u32) -> bool;
     fn probe_check(
         order: u32,
         n: u32,
@@ -119,6 +120,13 @@ extern "C" {
         wc: *mut u32,
         wc_len: usize,
     );
+}
+
+/// Whether p is prime.
+#[inline(always)]
+pub fn is_prime(p: u32) -> bool {
+    // SAFETY: it takes any number.
+    unsafe { probe_is_prime(p) }
 }
 
 /// The refusal of a polynomial, 0 for none, by order, number of variables and modulus.

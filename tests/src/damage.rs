@@ -4,7 +4,6 @@ use crate::generate::up_to;
 use crate::limits::MOST_TERMS;
 use crate::monomial::{Order, FIELDS};
 use crate::random::Random;
-use crate::residue;
 
 /// What is damaged.
 #[derive(Clone, Copy, Debug, PartialEq, Eq)]
@@ -83,16 +82,42 @@ pub fn far(random: &mut Random) -> usize {
     random.pick(&FAR)
 }
 
+/// Small numbers that are no primes, and some near 2^16.
+const SMALL: [u32; 9] = [0, 1, 4, 6, 9, 65_520, 65_535, 65_536, 65_538];
+
+/// Products of two primes near the root of the largest prime, and near the root of 2^32, and twice a prime.
+const PRODUCTS: [u32; 7] = [
+    46_337 * 46_337,
+    46_337 * 46_327,
+    46_327 * 46_327,
+    46_309 * 46_337,
+    2 * 1_073_741_789,
+    65_519 * 65_521,
+    65_521 * 65_521,
+];
+
+/// Numbers over the largest prime: the next ones, and among these the next prime, and the last prime of
+/// 32 bits.
+const OVER: [u32; 6] = [
+    1 << 31,
+    (1 << 31) + 1,
+    2_147_483_659,
+    4_294_967_291,
+    u32::MAX - 1,
+    u32::MAX,
+];
+
 /// A number that is no prime, or a prime that is too large.
-fn no_prime(random: &mut Random) -> u32 {
-    match random.below(4) {
-        0 => random.pick(&[0, 1, 4, 6, 9, 65_520, 65_519 * 3]),
-        // Primes that are too large: the next one, one modulo 2^16, the largest of 31 bits.
-        1 => random.pick(&[65_537, 65_539, residue::LIMIT, 4_294_967_291]),
-        2 => random.pick(&[u32::MAX, 1 << 16, (1 << 16) + 2, 251 * 251, 1 << 31]),
+pub fn no_prime(random: &mut Random) -> u32 {
+    match random.below(5) {
+        0 => random.pick(&SMALL),
+        1 => random.pick(&PRODUCTS),
+        2 => random.pick(&OVER),
+        3 => 4 + 2 * random.below((1 << 31) - 2) as u32,
         _ => {
-            let small = 2 + random.below(254) as u32;
-            small * (2 + random.below(254) as u32)
+            let most = random.pick(&[254, 65_534]);
+            let factor = |random: &mut Random| 2 + random.below(most) as u32;
+            factor(random) * factor(random)
         }
     }
 }

@@ -5,14 +5,36 @@ use crate::polynomial::Term;
 use crate::random::Random;
 use crate::residue;
 
-pub const PRIMES: [u32; 6] = [2, 3, 7, 32_003, LARGEST_PRIME, residue::LIMIT];
+/// Small primes, those on both sides of 2^16, the largest of 30 bits and the two largest of 31.
+pub const PRIMES: [u32; 9] = [
+    2,
+    3,
+    7,
+    32_003,
+    65_521,
+    65_537,
+    1_073_741_789,
+    2_147_483_629,
+    LARGEST_PRIME,
+];
 
 /// A number from 0 to n.
 pub fn up_to(random: &mut Random, n: usize) -> usize {
     random.below(n as u64 + 1) as usize
 }
 
-/// An order, a number of variables and a prime: all 108 in turn.
+/// Any prime: one of `PRIMES`, or the first from a number of random size down.
+pub fn prime(random: &mut Random) -> u32 {
+    if random.below(2) == 0 {
+        return random.pick(&PRIMES);
+    }
+    let bits = 2 + random.below(30);
+    let most = 2 + random.below((1 << bits) - 2) as u32;
+    let prime = |p: &u32| residue::is_prime(*p);
+    (2..=most).rev().find(prime).expect("2 is prime")
+}
+
+/// An order, a number of variables and a prime: all 162 in turn.
 pub fn setting(case: u64) -> (Order, usize, u32) {
     let order = Order::ALL[(case % 3) as usize];
     let n = 1 + (case / 3 % FIELDS as u64) as usize;
@@ -20,12 +42,23 @@ pub fn setting(case: u64) -> (Order, usize, u32) {
     (order, n, p)
 }
 
-/// A coefficient from 1 to p - 1, often one of the ends.
-pub fn coef(random: &mut Random, p: u32) -> u32 {
-    match random.below(4) {
-        0 => random.pick(&[1, p - 1, 1 + (p - 1) / 2]),
-        _ => 1 + random.below(u64::from(p - 1)) as u32,
+/// A number below p, often one at an end, in the middle or near 2^16.
+pub fn number_below(random: &mut Random, p: u32) -> u32 {
+    let (middle, last) = (p / 2, p - 1);
+    let ends = [0, 1, middle, middle + 1, last.saturating_sub(1), last, last];
+    let near = match random.below(4) {
+        0 => random.pick(&[65_534, 65_535, 65_536]),
+        _ => random.pick(&ends),
+    };
+    match near {
+        number if number < p && random.below(4) == 0 => number,
+        _ => random.below(p.into()) as u32,
     }
+}
+
+/// A coefficient from 1 to p - 1, often one at an end, in the middle or near 2^16.
+pub fn coef(random: &mut Random, p: u32) -> u32 {
+    1 + number_below(random, p - 1)
 }
 
 /// A monomial with exponents up to a limit.

@@ -1,7 +1,8 @@
 //! A second program for what the proved crates compute. `monomial`, `residue`, `polynomial`,
-//! `checking`, `geobucket`, `call`, `course`, `run`, `reduction`, `block_store` and `script` are plain
-//! models, which share no code with the proved crates; `library` calls the proved entries, `probe` and
-//! `probe_buckets` the proved functions below them; the other modules make what they are given.
+//! `checking`, `geobucket`, `call`, `course`, `run`, `reduction`, `block_store`, `first_kind` and
+//! `script` are plain models, which share no code with the proved crates; `library` calls the proved
+//! entries, `probe` and `probe_buckets` the proved functions below them; the other modules make what
+//! they are given.
 #![allow(clippy::manual_is_multiple_of)] // the method is missing in older compilers
 
 pub mod block_store;
@@ -10,6 +11,7 @@ pub mod call;
 pub mod checking;
 pub mod course;
 pub mod damage;
+pub mod first_kind;
 pub mod generate;
 pub mod geobucket;
 pub mod lender;

@@ -1,8 +1,8 @@
-//! The limits of document 01, each once. They are the second program's own: it does not take them from
-//! the library.
+//! The limits of documents 01 and 02, each once. They are the second program's own: it does not take
+//! them from the library.
 
-/// "p is a prime, 2 to 65,521."
-pub const LARGEST_PRIME: u32 = 65_521;
+/// "p may go up to 2,147,483,647."
+pub const LARGEST_PRIME: u32 = 2_147_483_647;
 
 /// "n from 1 to 6"
 pub const MOST_VARIABLES: usize = 6;

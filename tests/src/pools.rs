@@ -1,32 +1,19 @@
 //! Settings for runs and reductions, and falling monomials for large polynomials.
 use crate::call::Setting;
-use crate::generate::{falling, monomial};
-use crate::limits::LARGEST_PRIME;
+use crate::generate::{falling, monomial, prime};
 use crate::monomial::{Order, FIELDS, LIMIT};
 use crate::random::Random;
-use crate::residue::is_prime;
 use std::collections::BTreeSet;
 
 /// The falling monomials that large polynomials are parts of, more than are held. In one variable
 /// there are only 128.
 const POOL: usize = 6_000;
 
-/// All orders and numbers of variables in turn, and any prime, often one of the ends.
+/// All orders and numbers of variables in turn, and any prime.
 pub fn setting(random: &mut Random, case: u64) -> Setting {
     let order = Order::ALL[(case % 3) as usize];
     let n = 1 + (case / 3 % FIELDS as u64) as usize;
     (order, n, prime(random))
-}
-
-fn prime(random: &mut Random) -> u32 {
-    match random.below(2) {
-        0 => random.pick(&[2, 3, 5, 7, 32_003, 65_519, LARGEST_PRIME]),
-        _ => {
-            let most = 2 + random.below(u64::from(LARGEST_PRIME - 1)) as u32;
-            let prime = |p: &u32| is_prime(*p);
-            (2..=most).rev().find(prime).expect("2 is prime")
-        }
-    }
 }
 
 /// Falling monomials, made once for each order and number of variables.

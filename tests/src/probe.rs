@@ -37,7 +37,6 @@ extern "C" {
     fn probe_quotient(x: u64, y: u64) -> u64;
     fn probe_word_of(order: u32, exponents: *const u8, len: usize) -> u64;
     fn probe_exponent(order: u32, w: u64, i: u32) -> u32;
-    fn probe_is_prime(p: u32) -> bool;
     fn probe_add(a: u32, b: u32, p: u32) -> u32;
     fn probe_negate(a: u32, p: u32) -> u32;
     fn probe_multiply_residues(a: u32, b: u32, p: u32) -> u32;
@@ -129,7 +128,7 @@ pub fn exponent(order: Order, w: u64, i: u32) -> u32 {
 }
 
 pub fn is_prime(p: u32) -> bool {
-    unsafe { probe_is_prime(p) }
+    c_functions::is_prime(p)
 }
 
 pub fn add(a: u32, b: u32, p: u32) -> u32 {
@@ -271,7 +270,6 @@ pub fn any_over(q: u64, words: &[u64]) -> bool {
 /// Puts the polynomial times c·q modulo p into the output from `to` on.
 pub fn put_multiple(p: u32, (c, q): (u32, u64), f: Lent, (ow, oc): LentMut, to: usize) {
     ask_polynomial(p, f);
-    assert!(p <= residue::FACTOR_LIMIT, "not a factor's modulus");
     assert!(c < p, "not below the modulus");
     ask_packed(q);
     f.0.iter().for_each(|&w| ask_packed(w));

@@ -289,7 +289,7 @@ pub fn anything(random: &mut Random) -> Given {
     };
     let (starts, coefs, words) = (words(4), words(5), words(5));
     Given {
-        p: number(random, &[2, 7, LARGEST_PRIME]),
+        p: number(random, &[2, 7, 65_537, LARGEST_PRIME]),
         order: number(random, &[1, 2, 3]),
         n: number(random, &[1, 2, 6]),
         words,

@@ -1,15 +1,25 @@
-//! Numbers modulo p, by arithmetic on 128 bits.
+//! Primes, by division, and numbers modulo p, by arithmetic on 128 bits.
+use std::cell::RefCell;
+use std::collections::HashMap;
 
 /// The largest modulus that the proved functions take.
 pub const LIMIT: u32 = 2_147_483_647;
 
-/// The largest modulus that a prepared factor takes.
-pub const FACTOR_LIMIT: u32 = 65_536;
+thread_local! {
+    /// What was found out already: a large prime takes 23,170 divisions.
+    static KNOWN: RefCell<HashMap<u32, bool>> = RefCell::default();
+}
 
-/// Whether p is prime: no number from 2 up to the root divides it.
+/// Whether p is prime. Answers are remembered.
 pub fn is_prime(p: u32) -> bool {
-    let p = u64::from(p);
-    p >= 2 && (2..).take_while(|d| d * d <= p).all(|d| p % d != 0)
+    KNOWN.with_borrow_mut(|known| *known.entry(p).or_insert_with(|| divided(p)))
+}
+
+/// Whether p is 2, or over 2 and odd and no odd number from 3 up to the root divides it.
+fn divided(p: u32) -> bool {
+    let up_to_root = |d: &u32| u64::from(*d) * u64::from(*d) <= p.into();
+    let mut odd = (3..).step_by(2).take_while(up_to_root);
+    p == 2 || p > 2 && p % 2 != 0 && odd.all(|d| p % d != 0)
 }
 
 /// Whether the proved functions take the modulus p and the number a.

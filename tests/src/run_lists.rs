@@ -238,7 +238,7 @@ pub fn hostile(random: &mut Random) -> (Given, Vec<usize>) {
 pub fn hostile_polynomials(random: &mut Random) -> Given {
     let order = random.pick(&[1, 1, 2, 2, 3, 3, 3, 0, 4]);
     let n = random.pick(&[1, 1, 1, 2, 2, 6, 0, 7]);
-    let p = random.pick(&[2, 2, 3, 3, 3, 7, LARGEST_PRIME, 1, 4]);
+    let p = random.pick(&[2, 2, 3, 3, 3, 7, 65_537, LARGEST_PRIME, 1, 4, 1 << 31]);
     let len = up_to(random, 6);
     let coefs = (0..len).map(|_| random.below(u64::from(p) + 1) as u32);
     let coefs = coefs.map(|c| c.max(1)).collect();

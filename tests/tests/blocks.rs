@@ -2,13 +2,15 @@
 //! blocks damaged in every byte, and every refusal.
 use second::block_store::{check, read as model_read, repair, Polynomial, Setting};
 use second::cases;
-use second::generate::{self, places};
+use second::damage::no_prime;
+use second::generate::{self, places, up_to};
 use second::library;
 use second::limits::{BLOCK_BYTES, BLOCK_TERMS, LARGEST_PRIME, MOST_BLOCKS, MOST_TERMS};
 use second::monomial::Order;
 use second::polynomial::lent;
 use second::random::Random;
 use second::refusals::Refusals;
+use second::residue::is_prime;
 use std::collections::BTreeSet;
 
 /// One of so many cases is a call with several faults, and each refusal must be given once in so many.
@@ -25,8 +27,6 @@ const SIZES: [usize; 7] = [
     MOST_TERMS + 1,
 ];
 
-const PRIMES: [u32; 5] = [2, 3, 7, 32_003, LARGEST_PRIME];
-
 /// A polynomial with exactly so many terms.
 fn polynomial(random: &mut Random, terms: usize) -> Polynomial {
     let order = random.pick(&Order::ALL);
@@ -35,7 +35,7 @@ fn polynomial(random: &mut Random, terms: usize) -> Polynomial {
         true => 1 + random.below(6) as usize,
         false => 2 + random.below(5) as usize,
     };
-    let p = random.pick(&PRIMES);
+    let p = generate::prime(random);
     let mut monomials = BTreeSet::new();
     while monomials.len() < terms {
         monomials.insert(generate::monomial(random, n, 127));
@@ -135,6 +135,26 @@ fn zero_is_one_block() {
     assert_eq!(blocks[..10], header);
     assert!(blocks[10..508].iter().all(|&byte| byte == 0));
     assert_eq!(blocks[508..], [0x04, 0x02, 0x08, 0x00]);
+}
+
+/// The upper half of p stands behind n.
+#[test]
+fn larger_primes_in_a_header() {
+    let header = |p| {
+        let setting = Setting { p, order: 1, n: 6 };
+        let zero = Polynomial {
+            setting,
+            ..Polynomial::default()
+        };
+        let blocks = write(&mut Random::new(1), &zero, BLOCK_BYTES).expect("zero is written");
+        assert_eq!(read(&mut Random::new(2), &blocks, (0, 0)), Ok(zero));
+        blocks[..16].to_vec()
+    };
+    let of = |[a, b, c, d]: [u8; 4]| [0, 0, 1, 0, 0, 0, a, b, 1, 6, c, d, 0, 0, 0, 0];
+    assert_eq!(header(65_521), of([0xf1, 0xff, 0, 0]));
+    assert_eq!(header(65_537), of([1, 0, 1, 0]));
+    assert_eq!(header(2_147_483_629), of([0xed, 0xff, 0xff, 0x7f]));
+    assert_eq!(header(LARGEST_PRIME), of([0xff, 0xff, 0xff, 0x7f]));
 }
 
 /// Each byte of the blocks changed: 15. With the check put right: what the model says, and where the
@@ -294,14 +314,12 @@ fn sixteen() {
     assert!(read(random, &full, room).is_ok());
     let over = changed(&full, 99, |block| block[4] = 38);
     assert_eq!(read(random, &over, room), Err(16));
-    // A block in the place of another, p of the second block, and each byte of filler.
+    // A block in the place of another, and in the second block each byte of p and of filler.
     let mut swapped = two.clone();
     swapped.rotate_left(BLOCK_BYTES);
     assert_eq!(read(random, &swapped, room), Err(16));
-    let other = changed(&two, 1, |block| block[6] ^= 1);
-    assert_eq!(read(random, &other, room), Err(16));
-    for at in (10..16).chain(28..508) {
-        let filled = changed(&two, 1, |block| block[at] = 1);
+    for at in (6..8).chain(10..16).chain(28..508) {
+        let filled = changed(&two, 1, |block| block[at] ^= 1);
         assert_eq!(read(random, &filled, room), Err(16), "byte {at}");
     }
     // 15 of a later block comes before 16 of an earlier one.
@@ -311,6 +329,70 @@ fn sixteen() {
     // A coefficient 0 within the count is 4.
     let none = changed(&two, 1, |block| block[24..28].fill(0));
     assert_eq!(read(random, &none, room), Err(4));
+}
+
+/// Puts p into all blocks, with their checks put right.
+fn with_prime(blocks: &[u8], p: u32) -> Vec<u8> {
+    let [low, lower, upper, high] = p.to_le_bytes();
+    let mut bytes = blocks.to_vec();
+    for block in bytes.chunks_mut(BLOCK_BYTES) {
+        (block[6], block[7]) = (low, lower);
+        (block[10], block[11]) = (upper, high);
+        repair(block);
+    }
+    bytes
+}
+
+/// Another number for p in all blocks: a prime, a number that is none or is too large, or p with some bits
+/// of its upper half changed.
+fn other_prime(random: &mut Random, p: u32) -> u32 {
+    match random.below(3) {
+        0 => generate::prime(random),
+        1 => no_prime(random),
+        _ => p ^ 1 << (16 + random.below(16)),
+    }
+}
+
+/// Changes a byte of the upper half of p in a later block, or a zero byte behind it in any.
+fn upper_damaged(random: &mut Random, blocks: &[u8]) -> Vec<u8> {
+    let later = 1 + up_to(random, blocks.len() / BLOCK_BYTES - 2);
+    let bit = 1 << random.below(8);
+    let (block, at) = match random.below(2) {
+        0 => (later, 10 + up_to(random, 1)),
+        _ => (random.pick(&[0, later]), 12 + up_to(random, 3)),
+    };
+    changed(blocks, block, |block| block[at] ^= bit)
+}
+
+/// The same p in all blocks: 1 where it is no prime up to the limit, and else what its coefficients ask.
+/// With a byte of the upper half changed in a later block, or a zero byte of any, 16 comes before 1.
+#[test]
+fn another_prime_in_all_blocks() {
+    let random = &mut Random::new(131);
+    let (mut met, mut over) = (Refusals::default(), 0);
+    for _ in 0..cases() / CASES_PER_CALL {
+        let terms = BLOCK_TERMS + 1 + up_to(random, 60);
+        let f = polynomial(random, terms);
+        let p = other_prime(random, f.setting.p);
+        let bytes = with_prime(&f.blocks(), p);
+        let allowed = p <= LARGEST_PRIME && is_prime(p);
+        let expected = match allowed {
+            false => Some(1),
+            true => f.coefs.iter().any(|&c| c >= p).then_some(4),
+        };
+        let places = (terms, terms);
+        let refusal = read(random, &bytes, places).err();
+        assert_eq!(refusal, expected, "{p} in all blocks");
+        met.meet(refusal.unwrap_or(0));
+        over += u64::from(p > LARGEST_PRIME && is_prime(p));
+        let bytes = upper_damaged(random, &bytes);
+        assert_eq!(read(random, &bytes, places), Err(16), "{p} in all but one");
+        met.meet(16);
+    }
+    println!("{met:?}, primes over the limit: {over}");
+    let least = cases() / CASES_PER_REFUSAL;
+    assert!([0, 1, 4, 16].iter().all(|&number| met.of(number) > least));
+    assert!(over > least);
 }
 
 /// Every refusal of writing, alone and with later ones.
@@ -327,7 +409,7 @@ fn refused_writing() {
         for _ in 0..random.below(4) {
             let at = random.below(1 + terms as u64) as usize;
             match random.below(8) {
-                0 => f.setting.p = random.pick(&[0, 1, 4, 65_537, 65_523, u32::MAX]),
+                0 => f.setting.p = no_prime(random),
                 1 => f.setting.order = random.pick(&[0, 4, u32::MAX]),
                 2 => f.setting.n = random.pick(&[0, 7, u32::MAX]),
                 3 => f.words.push(0),

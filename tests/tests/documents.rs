@@ -105,7 +105,8 @@ fn claims_are_made_once() {
             );
         }
     }
-    let known = "demand 1, demand 2, demand 3, ground, point 3, price, starred, wrong engine";
+    let known =
+        "demand 1, demand 2, demand 3, ground, point 3, point 4, price, starred, wrong engine";
     assert_eq!(kinds.into_iter().collect::<Vec<_>>().join(", "), known);
     assert!(found.len() > 100, "only {} names", found.len());
 }

@@ -1,12 +1,15 @@
 //! Generated cases: the proved functions against the model. The variable SECOND_CASES sets how many
 //! cases each group has.
 use second::cases;
+use second::damage::no_prime;
+use second::generate::{number_below, prime};
 use second::limits::LARGEST_PRIME;
 use second::monomial::{divides, product, quotient, Order, FIELDS, LIMIT};
 use second::probe;
 use second::random::Random;
 use second::residue;
 use std::cmp::Ordering;
+use std::collections::BTreeSet;
 
 /// An exponent, often one of the ends.
 fn exponent(random: &mut Random) -> u8 {
@@ -212,90 +215,144 @@ fn arithmetic_of_any_words() {
     }
 }
 
-#[test]
-fn small_primes() {
-    for p in 0..70_000 {
-        assert_eq!(probe::is_prime(p), residue::is_prime(p), "{p}");
-    }
+/// The proved answer must be the model's. Gives it.
+fn prime_by_both(p: u32) -> bool {
+    let answer = probe::is_prime(p);
+    assert_eq!(answer, residue::is_prime(p), "{p}");
+    answer
 }
 
-/// Squares of primes and their neighbours, products of two primes, and random numbers.
+/// Numbers around 2^16, 2^31 and 2^32 that are primes or not.
+#[test]
+fn known_primes() {
+    let primes = [2, 65_521, 65_537, 99_999_989, 1_073_741_789];
+    let at_the_limit = [2_147_483_629, LARGEST_PRIME, 2_147_483_659, 4_294_967_291];
+    assert!(primes.into_iter().chain(at_the_limit).all(prime_by_both));
+    let not = [0, 1, 4, 65_535, 65_536, 2_147_483_645, 1 << 31, u32::MAX];
+    assert!(!not.into_iter().any(prime_by_both));
+}
+
+/// All numbers up to 100,000, and all up to 10,000 away from 2^31 and below 2^32.
+#[test]
+fn primes_in_a_row() {
+    let around = (1 << 31) - 10_000..=(1 << 31) + 10_000;
+    let counts = [0..=100_000, around, u32::MAX - 10_000..=u32::MAX]
+        .map(|numbers| numbers.filter(|&p| prime_by_both(p)).count());
+    println!("primes found in each row: {counts:?}");
+    assert_eq!(counts[0], 9_592);
+    assert!(counts[1..].iter().all(|&count| count > 300));
+}
+
+/// The squares of all primes of 16 bits and the products of neighbours; numbers near such squares, and
+/// random ones.
 #[test]
 fn large_primes() {
     let random = &mut Random::new(8);
     let primes: Vec<u32> = (0..=65_535).filter(|&p| residue::is_prime(p)).collect();
-    for pair in primes.windows(2) {
-        assert!(!probe::is_prime(pair[0] * pair[0]));
-        assert!(!probe::is_prime(pair[0] * pair[1]));
+    assert_eq!((primes.len(), primes.last()), (6_542, Some(&65_521)));
+    for (k, &q) in primes.iter().enumerate() {
+        let next = primes[(k + 1).min(primes.len() - 1)];
+        assert!(!prime_by_both(q * q), "{q} squared");
+        assert!(!prime_by_both(q * next), "{q} times {next}");
     }
     for _ in 0..cases() / 20 {
         let q = random.pick(&primes);
-        let p = (q * q)
-            .wrapping_add(random.below(64) as u32)
-            .wrapping_sub(32);
-        assert_eq!(probe::is_prime(p), residue::is_prime(p), "{p}");
-        let p = random.word() as u32 | 1;
-        assert_eq!(probe::is_prime(p), residue::is_prime(p), "{p}");
-    }
-    for p in 0..64 {
-        let p = u32::MAX - p;
-        assert_eq!(probe::is_prime(p), residue::is_prime(p), "{p}");
+        let near = (q * q).wrapping_add(random.below(64) as u32);
+        prime_by_both(near.wrapping_sub(32));
+        prime_by_both(random.word() as u32 | 1);
+        prime_by_both((random.word() >> (32 + random.below(16))) as u32);
     }
 }
 
-/// The product by a prepared factor, which is refused where p is over 2^16.
-fn factor_product(p: u32, product: u32) -> u32 {
-    match p <= residue::FACTOR_LIMIT {
-        true => product,
-        false => probe::REFUSED_RESIDUE,
+/// The numbers that stand for a damaged prime are no primes, or are too large.
+#[test]
+fn damaged_primes() {
+    let random = &mut Random::new(11);
+    let mut over = 0;
+    for _ in 0..cases() / 10 {
+        let p = no_prime(random);
+        let prime = prime_by_both(p);
+        assert!(!prime || p > LARGEST_PRIME, "{p}");
+        over += u64::from(prime);
     }
+    println!("primes that are too large: {over} of {}", cases() / 10);
+    assert!(over > 0);
 }
 
-/// A prime up to 2^31 - 1: a small one, or the next below a number of random size.
-fn prime(random: &mut Random) -> u32 {
-    if random.below(4) == 0 {
-        return random.pick(&[2, 3, 5, 7, LARGEST_PRIME, 65_537, residue::LIMIT]);
-    }
-    let bits = 2 + random.below(30);
-    let mut p = 2 + random.below((1 << bits) - 3) as u32;
-    while !residue::is_prime(p) {
-        p -= 1;
-    }
-    p
+/// The residues of two numbers by all proved functions must be the model's.
+fn same_residues(a: u32, b: u32, p: u32) {
+    let product = residue::multiply(a, b, p);
+    assert_eq!(probe::add(a, b, p), residue::add(a, b, p), "{a} {b} {p}");
+    assert_eq!(probe::negate(a, p), residue::negate(a, p), "{a} {p}");
+    assert_eq!(probe::multiply_residues(a, b, p), product, "{a} {b} {p}");
+    assert_eq!(probe::factor_times(a, b, p), product, "{a} {b} {p}");
 }
 
-/// A number below p, often one of the ends.
-fn below(random: &mut Random, p: u32) -> u32 {
-    match random.below(4) {
-        0 => random.pick(&[0, 1, p - 1, p / 2]),
-        1 => random.below(u64::from(p.min(10))) as u32,
-        _ => random.below(u64::from(p)) as u32,
+/// The inverse modulo a prime must be the model's, and times the number it must be 1; 0 has none.
+fn same_inverse(a: u32, p: u32) {
+    let inverse = probe::invert(a, p);
+    if a == 0 {
+        assert_eq!(inverse, probe::REFUSED_RESIDUE);
+        return;
     }
+    assert_eq!(inverse, residue::invert(a, p), "{a} {p}");
+    assert_eq!(residue::multiply(a, inverse, p), 1, "{a} {p}");
 }
 
 #[test]
 fn residues_modulo_primes() {
     let random = &mut Random::new(9);
+    let mut large = 0;
     for _ in 0..cases() / 5 {
         let p = prime(random);
+        large += u64::from(p > 65_536);
         for _ in 0..5 {
-            let (a, b) = (below(random, p), below(random, p));
-            let product = residue::multiply(a, b, p);
-            assert_eq!(probe::add(a, b, p), residue::add(a, b, p), "{a} {b} {p}");
-            assert_eq!(probe::negate(a, p), residue::negate(a, p), "{a} {p}");
-            assert_eq!(probe::multiply_residues(a, b, p), product, "{a} {b} {p}");
-            let by_factor = factor_product(p, product);
-            assert_eq!(probe::factor_times(a, b, p), by_factor, "{a} {b} {p}");
-        }
-        let a = below(random, p);
-        if a == 0 {
-            assert_eq!(probe::invert(a, p), probe::REFUSED_RESIDUE);
-        } else {
-            let inverse = probe::invert(a, p);
-            assert_eq!(inverse, residue::invert(a, p), "{a} {p}");
-            assert_eq!(residue::multiply(a, inverse, p), 1, "{a} {p}");
+            let (a, b) = (number_below(random, p), number_below(random, p));
+            same_residues(a, b, p);
+            same_inverse(a, p);
         }
     }
+    println!("primes over 2^16: {large} of {}", cases() / 5);
+    assert!(large > cases() / 50);
+}
+
+/// Moduli at both ends of the two halves of 32 bits, primes and not.
+const MODULI: [u32; 14] = [
+    2,
+    3,
+    65_521,
+    65_535,
+    65_536,
+    65_537,
+    65_538,
+    1 << 30,
+    46_337 * 46_337,
+    2_147_483_629,
+    2_147_483_644,
+    2_147_483_645,
+    2_147_483_646,
+    residue::LIMIT,
+];
+
+/// All pairs of numbers at the ends, around the middle, around 2^16 and around the root of the modulus.
+#[test]
+fn residues_near_the_ends() {
+    let mut pairs = 0;
+    for p in MODULI {
+        let root = f64::from(p).sqrt() as u32;
+        let near = |m: u32| m.saturating_sub(5)..=m.saturating_add(5);
+        let numbers = [0, root, 65_536, p / 2, p].into_iter().flat_map(near);
+        let numbers: BTreeSet<u32> = numbers.filter(|&a| a < p).collect();
+        for &a in &numbers {
+            numbers.iter().for_each(|&b| same_residues(a, b, p));
+            if residue::is_prime(p) {
+                same_inverse(a, p);
+            }
+        }
+        pairs += numbers.len() * numbers.len();
+    }
+    println!("pairs of numbers: {pairs}");
+    assert!(pairs > 10_000);
 }
 
 /// All numbers modulo each small prime: the inverse is the one number that makes 1.
@@ -303,15 +360,9 @@ fn residues_modulo_primes() {
 fn residues_modulo_small_primes() {
     for p in (2..100).filter(|&p| residue::is_prime(p)) {
         for a in 0..p {
-            assert_eq!(probe::negate(a, p), residue::negate(a, p));
             let inverse = (0..p).find(|&x| residue::multiply(a, x, p) == 1);
             assert_eq!(probe::invert(a, p), inverse.unwrap_or(u32::MAX));
-            for b in 0..p {
-                assert_eq!(probe::add(a, b, p), residue::add(a, b, p));
-                let product = residue::multiply(a, b, p);
-                assert_eq!(probe::multiply_residues(a, b, p), product);
-                assert_eq!(probe::factor_times(a, b, p), product);
-            }
+            (0..p).for_each(|b| same_residues(a, b, p));
         }
     }
 }
@@ -332,7 +383,7 @@ fn any_numbers() {
         assert_eq!(probe::add(a, b, p), or_refused(residue::add));
         let product = or_refused(residue::multiply);
         assert_eq!(probe::multiply_residues(a, b, p), product);
-        assert_eq!(probe::factor_times(a, b, p), factor_product(p, product));
+        assert_eq!(probe::factor_times(a, b, p), product);
         let invertible = residue::takes(a, p) && a > 0 && residue::is_prime(p);
         let inverse = match invertible {
             true => residue::invert(a, p),

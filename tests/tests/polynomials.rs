@@ -6,7 +6,7 @@ use second::generate::{
     coef, falling, monomial, monomials, negative, places, polynomial, setting, up_to, with_coefs,
     SHORT,
 };
-use second::limits::{LARGEST_PRIME, WORK_PLACES};
+use second::limits::WORK_PLACES;
 use second::monomial::{Order, LIMIT};
 use second::polynomial::{lent, merge, multiple, part, starts_good, sum, Term};
 use second::probe;
@@ -372,7 +372,6 @@ fn multiples() {
     let count = cases() * 2 / 5;
     for case in 0..count {
         let (order, n, p) = setting(case);
-        let p = p.min(LARGEST_PRIME);
         let limit = random.pick(&[1, 15, 63, 64, LIMIT]);
         let len = up_to(random, 40);
         let monomials = monomials(random, order, n, len, limit);

@@ -135,9 +135,7 @@ fn modulo(p: u32, a: u32, b: u32, lines: &mut Vec<String>) {
     line(format!("{a} + {b} = {}", residue::add(a, b, p)));
     line(format!("-{a} = {}", residue::negate(a, p)));
     line(format!("{a} * {b} = {product}"));
-    if p <= residue::FACTOR_LIMIT {
-        line(format!("{a} as a factor * {b} = {product}"));
-    }
+    line(format!("{a} as a factor * {b} = {product}"));
     if a == 0 || !residue::is_prime(p) {
         line(format!("1 / {a} refused"));
     } else {

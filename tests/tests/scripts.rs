@@ -2,7 +2,8 @@
 //! script. The program is `target/bin/bucketlist`, which `rt check bucketlist` makes.
 use damselbuckle::raw;
 use second::cases;
-use second::generate::padded;
+use second::damage::no_prime;
+use second::generate::{coef, padded, prime};
 use second::limits::{LARGEST_PRIME, LISTING_BYTES, SCRIPT_BYTES};
 use second::monomial::Order;
 use second::random::Random;
@@ -43,7 +44,7 @@ fn same(script: &[u8]) {
 }
 
 /// A falling polynomial with few monomials, so that much cancels.
-fn polynomial(random: &mut Random, order: Order, n: usize, p: u64) -> String {
+fn polynomial(random: &mut Random, order: Order, n: usize, p: u32) -> String {
     let largest = random.pick(&[2, 3, 128]);
     let mut monomials: Vec<Vec<u8>> = (0..random.below(9))
         .map(|_| (0..n).map(|_| random.below(largest) as u8).collect())
@@ -52,7 +53,7 @@ fn polynomial(random: &mut Random, order: Order, n: usize, p: u64) -> String {
     monomials.dedup();
     let mut text = "add".to_string();
     for exponents in monomials {
-        let coef = 1 + random.below(p - 1);
+        let coef = coef(random, p);
         let parts: Vec<String> = exponents.iter().map(u8::to_string).collect();
         text += &format!(" {coef}:{}", parts.join("."));
     }
@@ -66,8 +67,13 @@ fn script(random: &mut Random) -> Vec<u8> {
         0 => 7,
         _ => 1 + random.below(6) as usize,
     };
-    let p = random.pick(&[2, 3, 7, 101, 32_003, u64::from(LARGEST_PRIME)]);
-    let mut text = format!("prime {p}\norder {}\nvars {n}\n", order.name());
+    let p = prime(random);
+    // Sometimes another number, which is no prime or is too large.
+    let named = match random.below(40) {
+        0 => no_prime(random),
+        _ => p,
+    };
+    let mut text = format!("prime {named}\norder {}\nvars {n}\n", order.name());
     for _ in 0..random.below(30) {
         let line = match random.below(4) {
             0 => "lead".to_string(),
@@ -148,6 +154,53 @@ fn the_listing_of_document_01() {
     same(script);
 }
 
+/// Primes up to the largest and over it, and coefficients of ten digits.
+#[test]
+fn largest_prime() {
+    let cases: [(u64, &str, &str); 13] = [
+        (
+            2_147_483_647,
+            "add 2147483646:1 1:0\nlead\n",
+            "lead 2147483646:1\ncost 0 of 12\n",
+        ),
+        (2_147_483_647, "add 2147483647:0\n", "refused 4 at 0\n"),
+        (2_147_483_647, "add 4294967295:0\n", "refused 4 at 0\n"),
+        (2_147_483_647, "add 4294967296:0\n", "refused 17 at 0\n"),
+        (
+            2_147_483_629,
+            "add 2147483628:0\nsum\n",
+            "sum 2147483628:0\ncost 0 of 6\n",
+        ),
+        (2_147_483_629, "add 2147483629:0\nsum\n", "refused 4 at 0\n"),
+        (
+            65_537,
+            "add 65536:1 65536:0\nsum\n",
+            "sum 65536:1 65536:0\ncost 0 of 12\n",
+        ),
+        (2_147_117_569, "sum\n", "refused 1 at 0\n"), // 46,337 squared
+        (2_147_483_648, "sum\n", "refused 1 at 0\n"),
+        (2_147_483_659, "sum\n", "refused 1 at 0\n"), // a prime
+        (4_294_967_291, "sum\n", "refused 1 at 0\n"), // the last one of 32 bits
+        (4_294_967_295, "sum\n", "refused 1 at 0\n"),
+        (4_294_967_296, "sum\n", "refused 17 at 0\n"),
+    ];
+    for (p, lines, listing) in cases {
+        let script = format!("prime {p}\norder dp\nvars 1\n{lines}");
+        assert_eq!(proved(script.as_bytes()), listing, "script:\n{script}");
+        same(script.as_bytes());
+    }
+}
+
+/// The coefficients of x1 add up to 4294967291, which leaves 2147483644; the others add up to the prime.
+#[test]
+fn sums_modulo_the_largest_prime() {
+    let adds = "add 2147483646:1 2147483646:0\nadd 2147483645:1\nlead\nadd 1:0\nsum\n";
+    let script = format!("prime 2147483647\norder lp\nvars 1\n{adds}");
+    let listing = "lead 2147483644:1\nsum zero\ncost 2 of 24\n";
+    assert_eq!(proved(script.as_bytes()), listing);
+    same(script.as_bytes());
+}
+
 #[test]
 fn corners() {
     let cases: [(&str, &str); 20] = [
@@ -213,4 +266,46 @@ fn lengths() {
     let shorter = long.strip_suffix("add\n").expect("padded");
     assert!(proved(shorter.as_bytes()).starts_with("sum 1:0\n"));
     same(shorter.as_bytes());
+}
+
+/// The listing of lines that are repeated as often as a script has room for, modulo the largest prime, in
+/// one variable, whose exponents have one byte in a script: the shorter a term there, the more a listing
+/// may have for each byte.
+fn repeated(lines: &str) -> String {
+    let head = format!("prime {LARGEST_PRIME}\norder lp\nvars 1\n");
+    let room = SCRIPT_BYTES - 20 - head.len(); // for `padded`
+    let script = padded(&(head + &lines.repeat(room / lines.len())), SCRIPT_BYTES);
+    same(script.as_bytes());
+    let listing = listing(script.as_bytes());
+    assert!(listing.ends_with('\n') && !listing.starts_with("refused"));
+    assert!(listing.len() <= LISTING_BYTES, "{lines}");
+    listing
+}
+
+/// Long listings of the longest scripts. The longest is that of lines `sum`: four bytes are answered by
+/// nine. A term is listed once at most, and with a coefficient no longer than those that it is the sum of
+/// are together, so that terms make it shorter.
+#[test]
+fn long_listings() {
+    let all = |coef: &str| {
+        (0..10)
+            .rev()
+            .fold(String::new(), |t, e| t + &format!(" {coef}:{e}"))
+    };
+    let add = |coef: &str| format!("add{}\n", all(coef));
+    let twice = |coef: &str, more: &str| add(coef) + &add(more) + "sum\n";
+    let shapes = [
+        ("sum\n".to_string(), 36_000),
+        ("lead\n".to_string(), 32_000),
+        (add("1") + "sum\n", 14_000),
+        (add("2147483646") + "sum\n", 15_000),
+        (twice("999999999", "1"), 11_000), // ten digits of nine and one
+        (twice("2147483646", "2147483646"), 7_000),
+        (add("2147483646") + &"lead\n".repeat(11), 12_000),
+    ];
+    for (lines, least) in shapes {
+        let bytes = repeated(&lines).len();
+        println!("{bytes} bytes of {}", lines.lines().next().expect("a line"));
+        assert!(bytes > least, "{bytes} bytes of {lines}");
+    }
 }

@@ -8,7 +8,7 @@ use second::generate::padded;
 use second::lender;
 use second::library;
 use second::limits::{
-    BLOCK_BYTES, LISTING_BYTES, MOST_BLOCKS, MOST_STEPS, MOST_TERMS, SCRIPT_BYTES,
+    BLOCK_BYTES, LARGEST_PRIME, LISTING_BYTES, MOST_BLOCKS, MOST_STEPS, MOST_TERMS, SCRIPT_BYTES,
 };
 use second::monomial::Order;
 use second::polynomial::Term;
@@ -44,8 +44,11 @@ fn falling_terms(order: Order, count: usize) -> Vec<Term> {
     terms
 }
 
-fn settings() -> [Setting; 3] {
-    Order::ALL.map(|order| (order, 3, 32_003))
+fn settings() -> impl Iterator<Item = Setting> {
+    let primes = [32_003, LARGEST_PRIME];
+    primes
+        .into_iter()
+        .flat_map(|p| Order::ALL.map(|order| (order, 3, p)))
 }
 
 /// All buckets are filled, up to the most terms; then the lead leaves the last, and one term more makes each
@@ -130,7 +133,7 @@ fn a_listing_needs_little_stack() {
         Err(_) => OF_A_LISTING,
     };
     for order in Order::ALL {
-        let mut text = format!("prime 65521\norder {}\nvars 3\nadd", order.name());
+        let mut text = format!("prime {LARGEST_PRIME}\norder {}\nvars 3\nadd", order.name());
         for (exponents, coef) in falling_terms(order, MOST_TERMS) {
             let term = format!(" {coef}:{}.{}.0", exponents[0], exponents[1]);
             if text.len() + term.len() < SCRIPT_BYTES - 40 {

@@ -1,7 +1,7 @@
 //! The limits, each once, with the names and numbers of the header.
 
 /// The largest prime.
-pub const LARGEST_PRIME: u32 = 65_521;
+pub const LARGEST_PRIME: u32 = 2_147_483_647;
 
 /// The most variables.
 pub const MOST_VARIABLES: u32 = 6;

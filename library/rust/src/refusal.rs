@@ -7,7 +7,7 @@ use std::fmt;
 #[non_exhaustive]
 #[repr(u8)]
 pub enum Refusal {
-    /// p is not a prime from 2 to 65,521
+    /// p is not a prime from 2 to 2,147,483,647
     NotPrime = 1,
     /// the order is not 1, 2 or 3
     BadOrder = 2,
@@ -75,7 +75,7 @@ impl Refusal {
     #[rustfmt::skip]
     pub fn meaning(self) -> &'static str {
         match self {
-            Refusal::NotPrime => "p is not a prime from 2 to 65,521",
+            Refusal::NotPrime => "p is not a prime from 2 to 2,147,483,647",
             Refusal::BadOrder => "the order is not 1, 2 or 3",
             Refusal::BadVariables => "the number n of variables is not 1 to 6",
             Refusal::BadCoefficient => "a coefficient is 0, or not below p",

@@ -1,8 +1,8 @@
 //! The wrapper: known results, every refusal by its cause, and what stopped calls leave.
 use damselbuckle::{
     listing, raw, read_blocks, write_blocks, Engine, Operation, Order, Output, Polynomials,
-    Refusal, Refused, Setting, Tally, Term, BLOCK_BYTES, BUCKET_PLACES, MOST_BLOCKS, MOST_STEPS,
-    MOST_TERMS, SCRIPT_BYTES, WORK_PLACES,
+    Refusal, Refused, Setting, Tally, Term, BLOCK_BYTES, BUCKET_PLACES, LARGEST_PRIME, MOST_BLOCKS,
+    MOST_STEPS, MOST_TERMS, SCRIPT_BYTES, WORK_PLACES,
 };
 
 fn setting() -> Setting {
@@ -99,16 +99,39 @@ fn a_run_gives_leads_and_sums() {
 
 #[test]
 fn settings_are_judged() {
-    for p in [0, 1, 6, 65_537, u32::MAX] {
+    let products = [6, 65_536, 46_337 * 46_337];
+    let over = [2_147_483_648, 2_147_483_659, u32::MAX];
+    for p in [0, 1].into_iter().chain(products).chain(over) {
         refused(Setting::new(p, Order::Lex, 2), Refusal::NotPrime);
     }
     for n in [0, 7, u32::MAX] {
         refused(Setting::new(7, Order::Lex, n), Refusal::BadVariables);
     }
-    for (p, n) in [(2, 1), (65_521, 6)] {
+    for (p, n) in [(2, 1), (65_521, 6), (65_537, 3), (LARGEST_PRIME, 6)] {
         let good = Setting::new(p, Order::DegLex, n).expect("a setting");
         assert_eq!((good.p(), good.order(), good.n()), (p, Order::DegLex, n));
     }
+}
+
+/// x1 by 2·x1 + 1 leaves -1/2, also modulo the largest prime; and the divisor comes back from its blocks.
+#[test]
+fn the_largest_prime() {
+    let setting = Setting::new(LARGEST_PRIME, Order::Lex, 1).expect("a setting");
+    let (mut both, mut divisor) = (Polynomials::new(setting), Polynomials::new(setting));
+    both.push(&[(1, [1])]).expect("one exponent");
+    for polynomials in [&mut both, &mut divisor] {
+        let pushed = polynomials.push(&[(2, [1]), (1, [0])]);
+        pushed.expect("one exponent");
+    }
+    let reduction = Engine::new(1).reduce(&both, 2).expect("two leads");
+    let half = Term::new(LARGEST_PRIME / 2, [0]);
+    assert_eq!((reduction.remainder, reduction.leads), (vec![half], 2));
+    let block = write_blocks(&both, 1).expect("it can be written");
+    assert_eq!(
+        (&block[6..8], &block[10..12]),
+        (&[0xff, 0xff][..], &[0xff, 0x7f][..])
+    );
+    assert_eq!(read_blocks(&block), Ok(divisor));
 }
 
 /// What a call must say of polynomials that it refuses.
@@ -384,6 +407,8 @@ fn blocks_that_are_not_written_so() {
         (block[1..].to_vec(), Refusal::NotBlocks),
         (changed(&block, 20, 1), Refusal::BadCheck),
         (checked(changed(&block, 0, 1)), Refusal::BadBlock),
+        (checked(changed(&block, 12, 1)), Refusal::BadBlock),
+        (checked(changed(&block, 11, 0x80)), Refusal::NotPrime),
         (checked(changed(&block, 8, 4)), Refusal::BadOrder),
     ];
     for (bytes, refusal) in refusals {
@@ -433,7 +458,7 @@ fn calls_need_little_stack() {
         spawned.join().expect("it ends");
     }
     within(400_000, || {
-        let head = "prime 65521\norder dp\nvars 2\nadd";
+        let head = "prime 2147483647\norder dp\nvars 2\nadd";
         let mut script = head.to_string();
         for (coef, [a, b]) in long(MOST_TERMS) {
             let term = format!(" {coef}:{a}.{b}");

@@ -35,7 +35,7 @@ pub fn defined(header: &str) -> Vec<(&str, u64)> {
     pairs.map(|(name, text)| (name, number(text))).collect()
 }
 
-/// 65521 as `65,521`.
+/// 2147483647 as `2,147,483,647`.
 pub fn with_commas(number: u64) -> String {
     match number {
         0..=999 => number.to_string(),
