@@ -8,8 +8,6 @@ use crate::random::Random;
 use damselbuckle::{BLOCK_BYTES, MOST_BLOCKS, MOST_TERMS};
 use std::hint::black_box;
 
-const P: u32 = 32_003;
-
 /// Each is done so often in a row.
 const TIMES: usize = 20;
 
@@ -22,13 +20,13 @@ struct Row {
 }
 
 impl Row {
-    /// Makes a fresh polynomial, and times both over it, in turn.
-    fn pass(&mut self, random: &mut Random, round: usize) {
+    /// Makes a fresh polynomial modulo p, and times both over it, in turn.
+    fn pass(&mut self, random: &mut Random, round: usize, p: u32) {
         let order = self.order;
         let many = words(random, order, self.terms);
-        let terms = &list(random, order, P, many);
+        let terms = &list(random, order, p, many);
         let setting = Setting {
-            p: P,
+            p,
             order: order.number(),
             n: 6,
         };
@@ -71,8 +69,8 @@ fn repeat(mut f: impl FnMut() -> u64) -> u64 {
     (0..TIMES).map(|_| f()).last().expect("more than once")
 }
 
-/// Writing and reading: nanoseconds for each term.
-pub fn blocks() {
+/// Writing and reading modulo p: nanoseconds for each term.
+pub fn blocks(p: u32) {
     let mut rows = Vec::new();
     for order in [Order::DegRevLex, Order::Lex] {
         for terms in [BLOCK_TERMS, MOST_TERMS] {
@@ -87,7 +85,7 @@ pub fn blocks() {
     let random = &mut Random::new(71);
     for round in 0..ROUNDS {
         for row in &mut rows {
-            row.pass(random, round);
+            row.pass(random, round, p);
         }
     }
     println!("| Order | Terms | Proved, writing | Plain Rust | Proved / plain | Proved, reading | Plain Rust | Proved / plain |");

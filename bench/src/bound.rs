@@ -152,17 +152,17 @@ impl Maker {
     fn reduction(&mut self) -> Cost {
         let rows = Kind::rows();
         let (kind, order) = rows[self.below(rows.len() as u64) as usize];
-        let mut f = kind.polynomial(&mut self.random, order);
+        let mut f = kind.polynomial(&mut self.random, order, P);
         let terms = 1 + self.below(f.words.len() as u64) as usize;
         f.words.truncate(terms);
         f.coefs.truncate(terms);
-        let divisors = kind.divisors(&mut self.random, order);
+        let divisors = kind.divisors(&mut self.random, order, P);
         let limit = match self.below(3) {
             0 => self.below(200),
             _ => MOST_STEPS,
         };
         let Loan { memory, output } = &mut self.loan;
-        let given = reduction(&f, &divisors);
+        let given = reduction(P, &f, &divisors);
         let r = library::reduce(order.number(), &given, limit, memory, output);
         assert!(matches!(r.refusal, 0 | 13), "refused");
         checked(r.brought, r.comparisons)

@@ -1,8 +1,9 @@
 //! Times the proved functions beside the same in plain Rust, and prints the table that is asked for
-//! by its name; or does the calls of a workload's file: `calls FILE`, `time FILE SECONDS`,
-//! `passes FILE N` or `beside ENGINE ROUNDS FILE ..`; or prints such a file, of a run that only checks
-//! its polynomials: `opening ORDER TERMS`; or sets comparisons beside their bound: `bound PICTURE`. It
-//! fails only where results differ.
+//! by its name, with `reductions P` and `blocks P` modulo another prime; or does the calls of a
+//! workload's file: `calls FILE`, `time FILE SECONDS`, `passes FILE N` or
+//! `beside ENGINE ROUNDS FILE ..`, in plain Rust `plain FILE SECONDS`, or with both `agree FILE ..`; or
+//! prints such a file, of a run that only checks its polynomials: `opening ORDER TERMS`; or sets
+//! comparisons beside their bound: `bound PICTURE`. It fails only where results differ.
 use bench::beside::beside;
 use bench::blocks::blocks;
 use bench::bound::bound;
@@ -11,6 +12,7 @@ use bench::c_functions::Counts;
 use bench::checks::{checks, opening};
 use bench::lists::{pair, List, Order};
 use bench::merge::{branching, masks, Merge};
+use bench::primes::primes;
 use bench::proved;
 use bench::random::Random;
 use bench::reductions::reductions;
@@ -48,10 +50,13 @@ fn main() {
         ["leads"] => buckets::leads(),
         ["settling"] => buckets::settling(),
         ["runs"] => runs(),
-        ["reductions"] => reductions(),
+        ["reductions"] => reductions(P),
+        ["reductions", p] => reductions(prime(p)),
         ["singular"] => singular(),
-        ["blocks"] => blocks(),
+        ["blocks"] => blocks(P),
+        ["blocks", p] => blocks(prime(p)),
         ["checks"] => checks(),
+        ["primes"] => primes(),
         ["opening", order, terms] => opening(order_named(order), terms.parse().expect("terms")),
         ["bound", file] => bound(file),
         ["beside", engine, rounds, ref files @ ..] => {
@@ -59,13 +64,23 @@ fn main() {
         }
         ["calls", file] => workload(file).calls(),
         ["time", file, seconds] => workload(file).time(seconds.parse().expect("seconds")),
+        ["plain", file, seconds] => workload(file).plain().time(seconds.parse().expect("seconds")),
+        ["agree", ref files @ ..] => files.iter().for_each(|file| Workload::agree(&text(file))),
         ["passes", file, passes] => workload(file).passes(passes.parse().expect("passes")),
-        _ => panic!("merges, buckets, leads, settling, runs, reductions, singular, blocks, checks, bound, opening, beside, calls, time or passes"),
+        _ => panic!("merges, buckets, leads, settling, runs, reductions, singular, blocks, checks, primes, bound, opening, beside, calls, time, plain, agree or passes"),
     }
 }
 
+fn prime(text: &str) -> u32 {
+    text.parse().expect("a prime")
+}
+
+fn text(file: &str) -> String {
+    std::fs::read_to_string(file).expect("the workload's file")
+}
+
 fn workload(file: &str) -> Workload {
-    Workload::read(&std::fs::read_to_string(file).expect("the workload's file"))
+    Workload::read(&text(file))
 }
 
 /// The proved merge beside two in plain Rust.

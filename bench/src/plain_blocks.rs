@@ -129,7 +129,7 @@ fn judged(bytes: &[u8], out: &List) -> (u64, Setting, usize) {
         return (15, none, 0);
     }
     let setting = Setting {
-        p: two(&bytes[6..]),
+        p: two(&bytes[6..]) | two(&bytes[10..]) << 16,
         order: bytes[8].into(),
         n: bytes[9].into(),
     };
@@ -207,7 +207,9 @@ fn header(number: usize, count: usize, here: usize, setting: Setting) -> [u8; HE
     header[..2].copy_from_slice(&(number as u16).to_le_bytes());
     header[2..4].copy_from_slice(&(count as u16).to_le_bytes());
     header[4..6].copy_from_slice(&(here as u16).to_le_bytes());
-    header[6..8].copy_from_slice(&(setting.p as u16).to_le_bytes());
+    let p = setting.p.to_le_bytes();
+    header[6..8].copy_from_slice(&p[..2]);
+    header[10..12].copy_from_slice(&p[2..]);
     (header[8], header[9]) = (setting.order as u8, setting.n as u8);
     header
 }

@@ -40,8 +40,20 @@ pub fn polynomials_refusal(
     0
 }
 
+/// Whether p is prime, by division by 2, by 3 and by the numbers on both sides of each multiple of 6, up to
+/// the root.
 pub(crate) fn is_prime(p: u32) -> bool {
-    p >= 2 && (2..).take_while(|d| d * d <= p).all(|d| p % d != 0)
+    if p < 5 || p % 2 == 0 || p % 3 == 0 {
+        return p == 2 || p == 3;
+    }
+    let mut d = 5;
+    while u64::from(d) * u64::from(d) <= u64::from(p) {
+        if p % d == 0 || p % (d + 2) == 0 {
+            return false;
+        }
+        d += 6;
+    }
+    true
 }
 
 /// The bits of the exponents of n variables.

@@ -139,17 +139,17 @@ struct Divisor<'a> {
     /// The largest exponent of the tail in each field.
     largest: u64,
     /// -1 divided by the lead coefficient.
-    inverse: u32,
+    inverse: Factor,
     tail: Terms<'a>,
 }
 
 impl<'a> Divisor<'a> {
-    fn new(p: u32, (words, coefs): Terms<'a>) -> Self {
+    fn new(modulus: Modulus, (words, coefs): Terms<'a>) -> Self {
         let larger = |so_far, &word: &u64| larger_fields(so_far, word & FIELDS);
         Divisor {
             lead: words[0],
             largest: words[1..].iter().fold(0, larger),
-            inverse: p - inverse(coefs[0], p),
+            inverse: modulus.factor(modulus.p - inverse(coefs[0], modulus.p)),
             tail: (&words[1..], &coefs[1..]),
         }
     }
@@ -174,10 +174,51 @@ fn inverse(a: u32, p: u32) -> u32 {
     s.rem_euclid(i64::from(p)) as u32
 }
 
+/// A prime, and 2^64 - 1 divided by it.
+#[derive(Clone, Copy)]
+struct Modulus {
+    p: u32,
+    whole: u64,
+}
+
+impl Modulus {
+    fn new(p: u32) -> Self {
+        let whole = u64::MAX / u64::from(p);
+        Modulus { p, whole }
+    }
+
+    #[inline(always)]
+    fn factor(self, value: u32) -> Factor {
+        let share = (u128::from(value) * u128::from(self.whole)) >> 32;
+        Factor {
+            value,
+            share: share as u32,
+        }
+    }
+}
+
+/// A number below p, and 2^32 times it divided by p, or 1 less: since p is below 2^31, Shoup's product is
+/// still below 2p.
+#[derive(Clone, Copy)]
+struct Factor {
+    value: u32,
+    share: u32,
+}
+
+impl Factor {
+    #[inline(always)]
+    fn times(self, x: u32, p: u32) -> u32 {
+        let quotient = (u64::from(self.share) * u64::from(x)) >> 32;
+        let product = u64::from(self.value) * u64::from(x);
+        let rest = product.wrapping_sub(quotient * u64::from(p)) as u32;
+        rest.min(rest.wrapping_sub(p))
+    }
+}
+
 /// A reduction past the opening checks.
 struct Reduction<'a, K> {
     keys: PhantomData<K>,
-    p: u32,
+    modulus: Modulus,
     /// The lead words of the divisors without degree, which are searched at each step.
     leads: Vec<u64>,
     divisors: Vec<Divisor<'a>>,
@@ -190,11 +231,12 @@ struct Reduction<'a, K> {
 impl<'a, K: Keys> Reduction<'a, K> {
     fn new(given: &'a Given, memory: &'a mut Memory, output: &'a mut List) -> Self {
         let divisors = || (1..given.count()).map(|k| given.polynomial(k));
+        let modulus = Modulus::new(given.p);
         Reduction {
             keys: PhantomData,
-            p: given.p,
+            modulus,
             leads: divisors().map(|(words, _)| words[0] & FIELDS).collect(),
-            divisors: divisors().map(|f| Divisor::new(given.p, f)).collect(),
+            divisors: divisors().map(|f| Divisor::new(modulus, f)).collect(),
             memory,
             output,
             product: List::of(MOST_TERMS),
@@ -210,7 +252,7 @@ impl<'a, K: Keys> Reduction<'a, K> {
         }
         self.add(1, 0, f, &mut result);
         loop {
-            let mut lead = lead_by(same, self.p, self.memory);
+            let mut lead = lead_by(same, self.modulus.p, self.memory);
             result.comparisons += lead.comparisons;
             if lead.bucket == BUCKETS {
                 return result;
@@ -261,7 +303,7 @@ impl<'a, K: Keys> Reduction<'a, K> {
         if self.memory.held() - 1 + tail.0.len() > MOST_TERMS {
             return 11;
         }
-        let factor = lead.coef * divisor.inverse % self.p;
+        let factor = divisor.inverse.times(lead.coef, self.modulus.p);
         Plain::take(self.memory, lead.bucket);
         self.add(factor, quotient, tail, result);
         0
@@ -271,23 +313,27 @@ impl<'a, K: Keys> Reduction<'a, K> {
     #[inline(always)]
     fn add(&mut self, factor: u32, quotient: u64, f: Terms, result: &mut ReductionResult) {
         let len = f.0.len();
-        multiply::<K>(self.p, factor, quotient, f, &mut self.product);
+        multiply::<K>(self.modulus, factor, quotient, f, &mut self.product);
         let product = (&self.product.words[..len], &self.product.coefs[..len]);
-        result.comparisons += add_by(same, self.p, self.memory, product);
+        result.comparisons += add_by(same, self.modulus.p, self.memory, product);
         result.brought += len as u64;
     }
 }
 
 /// Puts the key and the coefficient of each term times factor·quotient into the first of some places.
-/// All coefficients are below 2^16, so that Shoup's product needs 32 bits.
 #[inline(always)]
-fn multiply<K: Keys>(p: u32, factor: u32, quotient: u64, (words, coefs): Terms, to: &mut List) {
-    let (growth, ratio) = (K::growth(quotient), (factor << 16) / p);
+fn multiply<K: Keys>(
+    modulus: Modulus,
+    factor: u32,
+    quotient: u64,
+    (words, coefs): Terms,
+    to: &mut List,
+) {
+    let (growth, factor) = (K::growth(quotient), modulus.factor(factor));
     for (out, &word) in to.words.iter_mut().zip(words) {
         *out = K::key(word).wrapping_add(growth);
     }
     for (out, &coef) in to.coefs.iter_mut().zip(coefs) {
-        let product = (factor * coef).wrapping_sub(((ratio * coef) >> 16) * p);
-        *out = product.min(product.wrapping_sub(p));
+        *out = factor.times(coef, modulus.p);
     }
 }

@@ -1,6 +1,6 @@
 //! Times whole reductions, with their opening checks and settling: the proved one beside the one in
 //! plain Rust. It fails only where results differ.
-use crate::buckets::{in_turn, Best, ORDERS, P, ROUNDS};
+use crate::buckets::{in_turn, Best, ORDERS, ROUNDS};
 use crate::given::Given;
 use crate::library;
 use crate::lists::{List, Order};
@@ -15,8 +15,9 @@ use damselbuckle::{MOST_STEPS, MOST_TERMS};
 pub(crate) const VARIABLES: usize = 4;
 const TERMS: usize = 60;
 
-/// A term by its coefficient, perhaps below 0, and its exponents.
-type Term = (i64, [u8; VARIABLES]);
+/// A monomial by its exponents, and a term with a coefficient, perhaps below 0.
+type Monomial = [u8; VARIABLES];
+type Term = (i64, Monomial);
 
 /// The reduced Gröbner basis of cyclic 4 under dp: of a+b+c+d, ab+bc+cd+da, abc+bcd+cda+dab and
 /// abcd-1.
@@ -99,18 +100,21 @@ impl Kind {
     }
 
     /// A fresh polynomial to be reduced.
-    pub(crate) fn polynomial(self, random: &mut Random, order: Order) -> List {
+    pub(crate) fn polynomial(self, random: &mut Random, order: Order, p: u32) -> List {
         let most = self.degree(order);
         let monomials = (0..TERMS).map(|_| any_monomial(random, most)).collect();
-        list(random, order, monomials)
+        list(random, order, p, monomials)
     }
 
-    pub(crate) fn divisors(self, random: &mut Random, order: Order) -> Vec<List> {
+    pub(crate) fn divisors(self, random: &mut Random, order: Order, p: u32) -> Vec<List> {
         match self {
             Kind::Random { tail } => (0..VARIABLES)
-                .map(|k| cube_and_tail(random, order, k, tail))
+                .map(|k| {
+                    let monomials = cube_and_tail(random, order, k, tail);
+                    list(random, order, p, monomials)
+                })
                 .collect(),
-            Kind::Cyclic4 => CYCLIC_4.iter().map(|f| of_terms(order, f)).collect(),
+            Kind::Cyclic4 => CYCLIC_4.iter().map(|f| of_terms(order, p, f)).collect(),
         }
     }
 }
@@ -123,8 +127,8 @@ pub(crate) fn by_exponents(order: Order) -> monomial::Order {
     }
 }
 
-fn of_terms(order: Order, terms: &[Term]) -> List {
-    let coef = |c: i64| c.rem_euclid(i64::from(P)) as u32;
+fn of_terms(order: Order, p: u32, terms: &[Term]) -> List {
+    let coef = |c: i64| c.rem_euclid(i64::from(p)) as u32;
     List {
         words: terms
             .iter()
@@ -135,7 +139,7 @@ fn of_terms(order: Order, terms: &[Term]) -> List {
 }
 
 /// A monomial of a degree up to this.
-fn any_monomial(random: &mut Random, most: u64) -> [u8; VARIABLES] {
+fn any_monomial(random: &mut Random, most: u64) -> Monomial {
     let mut monomial = [0; VARIABLES];
     for _ in 0..random.below(most + 1) {
         monomial[random.below(VARIABLES as u64) as usize] += 1;
@@ -144,17 +148,17 @@ fn any_monomial(random: &mut Random, most: u64) -> [u8; VARIABLES] {
 }
 
 /// Falling monomials with random coefficients.
-fn list(random: &mut Random, order: Order, mut monomials: Vec<[u8; VARIABLES]>) -> List {
+fn list(random: &mut Random, order: Order, p: u32, mut monomials: Vec<Monomial>) -> List {
     let by_exponents = by_exponents(order);
     monomials.sort_by(|x, y| by_exponents.compare(y, x));
     monomials.dedup();
-    let coef = |m| (1 + random.below(u64::from(P - 1)) as i64, m);
+    let coef = |m| (1 + random.below(u64::from(p - 1)) as i64, m);
     let terms: Vec<Term> = monomials.into_iter().map(coef).collect();
-    of_terms(order, &terms)
+    of_terms(order, p, &terms)
 }
 
 /// The third power of a variable, and about so many smaller monomials of no higher degree.
-fn cube_and_tail(random: &mut Random, order: Order, k: usize, tail: usize) -> List {
+fn cube_and_tail(random: &mut Random, order: Order, k: usize, tail: usize) -> Vec<Monomial> {
     let mut cube = [0; VARIABLES];
     cube[k] = 3;
     let mut monomials = vec![cube];
@@ -165,12 +169,12 @@ fn cube_and_tail(random: &mut Random, order: Order, k: usize, tail: usize) -> Li
             monomials.push(monomial);
         }
     }
-    list(random, order, monomials)
+    monomials
 }
 
-/// A reduction of a polynomial by divisors.
-pub(crate) fn reduction(f: &List, divisors: &[List]) -> Given {
-    let mut given = Given::new(P, VARIABLES as u32);
+/// A reduction of a polynomial by divisors, modulo p.
+pub(crate) fn reduction(p: u32, f: &List, divisors: &[List]) -> Given {
+    let mut given = Given::new(p, VARIABLES as u32);
     given.push(f);
     divisors.iter().for_each(|g| given.push(g));
     given
@@ -198,11 +202,11 @@ impl Row {
         }
     }
 
-    /// Makes a fresh reduction, and times both over it once, in turn.
-    fn pass(&mut self, random: &mut Random, round: usize) {
+    /// Makes a fresh reduction modulo p, and times both over it once, in turn.
+    fn pass(&mut self, random: &mut Random, round: usize, p: u32) {
         let order = self.order;
-        let f = self.kind.polynomial(random, order);
-        let given = reduction(&f, &self.kind.divisors(random, order));
+        let f = self.kind.polynomial(random, order, p);
+        let given = reduction(p, &f, &self.kind.divisors(random, order, p));
         let (mut proved, mut plain) = (Loan::new(MOST_TERMS), Loan::new(MOST_TERMS));
         let mut results = [ReductionResult::default(); 2];
         let [first, second] = &mut results;
@@ -244,14 +248,14 @@ impl Row {
     }
 }
 
-/// Whole reductions: nanoseconds for each comparison, and for each lead.
-pub fn reductions() {
+/// Whole reductions modulo p: nanoseconds for each comparison, and for each lead.
+pub fn reductions(p: u32) {
     let kinds = Kind::rows().into_iter();
     let mut rows: Vec<Row> = kinds.map(|(kind, order)| Row::new(kind, order)).collect();
     let random = &mut Random::new(54);
     for round in 0..ROUNDS {
         for row in &mut rows {
-            row.pass(random, round);
+            row.pass(random, round, p);
         }
     }
     println!("| Divisors | Order | Leads | Comparisons for each lead | Proved, each comparison | Plain Rust | Proved / plain | Proved, each lead | Plain Rust | Proved / plain |");

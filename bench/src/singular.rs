@@ -40,10 +40,10 @@ struct Row {
 
 impl Row {
     fn new(random: &mut Random, kind: Kind, order: Order) -> Self {
-        let mut divisors = kind.divisors(random, order);
+        let mut divisors = kind.divisors(random, order, P);
         let lead = |g: &List| by_exponents(order).fields(g.words[0]);
         divisors.sort_by(|g, h| by_exponents(order).compare(&lead(g), &lead(h)));
-        let polynomials = (0..POLYNOMIALS).map(|_| kind.polynomial(random, order));
+        let polynomials = (0..POLYNOMIALS).map(|_| kind.polynomial(random, order, P));
         let mut row = Row {
             kind,
             order,
@@ -61,7 +61,7 @@ impl Row {
     fn reduce_all(&mut self) {
         let mut loan = Loan::new(MOST_TERMS);
         for f in &self.polynomials {
-            let given = reduction(f, &self.divisors);
+            let given = reduction(P, f, &self.divisors);
             let Loan { memory, output } = &mut loan;
             let number = self.order.number();
             let r = library::reduce(number, &given, MOST_STEPS, memory, output);
@@ -79,7 +79,7 @@ impl Row {
         let calls: Vec<Given> = self
             .polynomials
             .iter()
-            .map(|f| reduction(f, &self.divisors))
+            .map(|f| reduction(P, f, &self.divisors))
             .collect();
         let mut loan = Loan::new(MOST_TERMS);
         let Loan { memory, output } = &mut loan;

@@ -7,10 +7,11 @@
 //! A line that begins with `#` is a comment.
 use crate::given::Given;
 use crate::library;
-use crate::lists::List;
+use crate::lists::{self, List};
 use crate::loan::Loan;
 use crate::monomial::Order;
-use crate::plain_run::{ADD, LEAD, SUM};
+use crate::plain_reduction;
+use crate::plain_run::{self, ADD, LEAD, SUM};
 use crate::results::{ReductionResult, RunResult};
 use damselbuckle::MOST_STEPS;
 use std::time::{Duration, Instant};
@@ -25,7 +26,7 @@ enum Call {
 }
 
 /// What a call gave, or the sum of what several gave.
-#[derive(Clone, Copy, Default)]
+#[derive(Clone, Copy, Debug, Default, PartialEq, Eq)]
 struct Outcome {
     refusal: u64,
     finished: u64,
@@ -135,7 +136,9 @@ impl<'a> Lines<'a> {
 /// The calls of a workload, and what is lent to them.
 pub struct Workload {
     name: String,
-    order: u32,
+    order: Order,
+    /// The order for plain Rust, where it does the calls and not the library.
+    plain: Option<lists::Order>,
     calls: Vec<Call>,
     loan: Loan,
 }
@@ -150,21 +153,52 @@ impl Workload {
         };
         Workload {
             name: lines.value("workload").unwrap_or_default().to_string(),
-            order: lines.order().number(),
+            order: lines.order(),
+            plain: None,
             calls,
             loan: Loan::new(lines.value("places").map_or(places, number)),
         }
     }
 
+    /// The same, to be done in plain Rust.
+    pub fn plain(self) -> Self {
+        let order = match self.order {
+            Order::Lex => lists::Order::Lex,
+            Order::DegRevLex => lists::Order::DegRevLex,
+            Order::DegLex => panic!("plain Rust has no Dp"),
+        };
+        Workload {
+            plain: Some(order),
+            ..self
+        }
+    }
+
     fn call(&mut self, k: usize) -> Outcome {
-        let Loan { memory, output } = &mut self.loan;
-        match &self.calls[k] {
-            Call::Run(given, pairs) => {
-                library::run(self.order, given, pairs, memory, output).into()
+        let (number, Loan { memory, output }) = (self.order.number(), &mut self.loan);
+        match (&self.calls[k], self.plain) {
+            (Call::Run(given, pairs), None) => {
+                library::run(number, given, pairs, memory, output).into()
             }
-            Call::Reduction(given, limit) => {
-                library::reduce(self.order, given, *limit, memory, output).into()
+            (Call::Run(given, pairs), Some(order)) => {
+                plain_run::run(order, given, pairs, memory, output).into()
             }
+            (Call::Reduction(given, limit), None) => {
+                library::reduce(number, given, *limit, memory, output).into()
+            }
+            (Call::Reduction(given, limit), Some(order)) => {
+                plain_reduction::reduce(order, given, *limit, memory, output).into()
+            }
+        }
+    }
+
+    /// Does each call by the library and in plain Rust; answers, tallies, output and spaces must be the same.
+    pub fn agree(text: &str) {
+        let (mut proved, mut plain) = (Workload::read(text), Workload::read(text).plain());
+        for k in 0..proved.calls.len() {
+            let (own, other) = (proved.call(k), plain.call(k));
+            assert_eq!(own, other, "results differ in call {k}");
+            proved.loan.compare(&plain.loan);
+            println!("{} call {k} refusal {} agrees", proved.name, own.refusal);
         }
     }
 
