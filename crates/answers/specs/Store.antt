@@ -7,4 +7,4 @@ abbrev pub writeAnswered : WriteAnswer → WriteStated
 writeAnswered a = record { number = a .refusal; finished = a .finished; blocks = a .blocks }
 
 abbrev pub readAnswered : ReadAnswer → ReadStated
-readAnswered a = record { number = a .refusal; finished = a .finished; p = a .p; order = a .order; n = a .n; terms = a .terms }
+readAnswered a = record { number = a .refusal; finished = a .finished; p = a .p; order = a .order; n = a .n; weights = a .weights; terms = a .terms }

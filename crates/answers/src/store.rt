@@ -14,7 +14,8 @@ pub struct WriteAnswer {
     pub blocks: u64,
 }
 
-// The setting and the terms read, all 0 where there is a refusal. `finished` is always 0.
+// The setting and the terms read, all 0 where there is a refusal; the weights are one number, as a
+// block's header has them. `finished` is always 0.
 #[repr(C)]
 pub struct ReadAnswer {
     pub refusal: u64,
@@ -22,6 +23,7 @@ pub struct ReadAnswer {
     pub p: u64,
     pub order: u64,
     pub n: u64,
+    pub weights: u64,
     pub terms: u64,
 }
 
@@ -46,12 +48,19 @@ pub fn of_reading(answer: Reading) -> ReadAnswer
     ensures { λ r. ⌜ readAnswered r ≡ readStated answer ⌝ }
 {
     match answer {
-        Reading::Done { p, order, n, terms } => ReadAnswer {
+        Reading::Done {
+            p,
+            order,
+            n,
+            weights,
+            terms,
+        } => ReadAnswer {
             refusal: 0,
             finished: 0,
             p: p as u64,
             order: order as u64,
             n: n as u64,
+            weights,
             terms,
         },
         Reading::Refused { refusal, finished } => ReadAnswer {
@@ -60,6 +69,7 @@ pub fn of_reading(answer: Reading) -> ReadAnswer
             p: 0,
             order: 0,
             n: 0,
+            weights: 0,
             terms: 0,
         },
     }

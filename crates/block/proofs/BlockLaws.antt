@@ -17,19 +17,21 @@ use Rattle.polynomial.proofs.TermLists.{length-terms, term-at}
 use Rattle.merge_common.specs.Lent.{part}
 use Rattle.merge_common.proofs.Lists.{sets-snoc}
 use Rattle.polynomial.specs.declared.setting.Setting.{Setting}
-use Rattle.block.specs.Block.{numberAt, settingBytes, headerWith, header, place, places, unused, sumWords, checkOf, body, blockWith, block, same, zeros}
+use Rattle.block.specs.Block.{numberAt, weightNumber, settingBytes, headerWith, header, place, places, unused, sumWords, checkOf, body, blockWith, block, same, zeros}
 use Rattle.block.proofs.ByteLaws.{part-part, part-put, part-cons, joined}
 
 -- ---- the header
-pub setting-put : (s s1 s2 s3 s4 s5 : List ℕ) (at : ℕ) (t : Setting) → s1 ≡ sets s at (bytes 2 (t .p)) → s2 ≡ sets s1 (at + 2) (bytes 1 (t .order)) → s3 ≡ sets s2 (at + 3) (bytes 1 (t .n)) → s4 ≡ sets s3 (at + 4) (bytes 2 (t .p / 65536)) → s5 ≡ sets s4 (at + 6) (replicate 4 0) → s5 ≡ sets s at (settingBytes t)
+pub setting-put : (s s1 s2 s3 s4 s5 s6 : List ℕ) (at weights : ℕ) (t : Setting) → weights ≡ weightNumber (t .weights) → s1 ≡ sets s at (bytes 2 (t .p)) → s2 ≡ sets s1 (at + 2) (bytes 1 (t .order)) → s3 ≡ sets s2 (at + 3) (bytes 1 (t .n)) → s4 ≡ sets s3 (at + 4) (bytes 2 (t .p / 65536)) → s5 ≡ sets s4 (at + 6) (bytes 3 weights) → s6 ≡ sets s5 (at + 9) (replicate 1 0) → s6 ≡ sets s at (settingBytes t)
 unfolding settingBytes bytes
-setting-put s s1 s2 s3 s4 s5 at t e1 e2 e3 e4 e5 =
+setting-put s s1 s2 s3 s4 s5 s6 at weights t e e1 e2 e3 e4 e5 e6 =
     let o = bytes 2 (t .p) ++ bytes 1 (t .order) in
     let q = o ++ bytes 1 (t .n) in
+    let u = q ++ bytes 2 (t .p / 65536) in
     let f2 = joined s s1 s2 at (bytes 2 (t .p)) (bytes 1 (t .order)) (at + 2) refl e1 e2 in
     let f3 = joined s s2 s3 at o (bytes 1 (t .n)) (at + 3) refl f2 e3 in
     let f4 = joined s s3 s4 at q (bytes 2 (t .p / 65536)) (at + 4) refl f3 e4 in
-    joined s s4 s5 at (q ++ bytes 2 (t .p / 65536)) (replicate 4 0) (at + 6) refl f4 e5
+    let f5 = joined s s4 s5 at u (bytes 3 (weightNumber (t .weights))) (at + 6) refl f4 (e5 ∙ ap (λ (n : ℕ). sets s4 (at + 6) (bytes 3 n)) e) in
+    joined s s5 s6 at (u ++ bytes 3 (weightNumber (t .weights))) (replicate 1 0) (at + 9) refl f5 e6
 
 pub header-put : (s s1 s2 s3 s4 : List ℕ) (at number count here : ℕ) (t : Setting) → s1 ≡ sets s at (bytes 2 number) → s2 ≡ sets s1 (at + 2) (bytes 2 count) → s3 ≡ sets s2 (at + 4) (bytes 2 here) → s4 ≡ sets s3 (at + 6) (settingBytes t) → s4 ≡ sets s at (header number count here t)
 unfolding headerWith bytes

@@ -64,6 +64,13 @@ module _ (s : List ℕ) (at x : ℕ) where
   unfolding bytes
   put-2 = rw (add-one at)
 
+  pub put-3 : set (set (set s at (x % 256)) (at + 1) (x / 256 % 256)) (at + 2) (x / 256 / 256 % 256) ≡ sets s at (bytes 3 x)
+  unfolding bytes
+  put-3 =
+      let e1 : at + 1 ≡ suc at = omega arith in
+      let e2 : at + 2 ≡ suc (suc at) = omega arith in
+      rw (e1, e2)
+
   pub put-4 : set (set (set (set s at (x % 256)) (at + 1) (x / 256 % 256)) (at + 2) (x / 256 / 256 % 256)) (at + 3) (x / 256 / 256 / 256 % 256) ≡ sets s at (bytes 4 x)
   unfolding bytes
   put-4 =
@@ -92,20 +99,28 @@ module _ (s : List ℕ) (at : ℕ) where
   pub part-2 : at + 2 ≤ length s → part at 2 s ≡ getD s at 0 ∷ (getD s (at + 1) 0 ∷ [])
   part-2 h = part-cons s at 1 (omega arith) ∙ ap (λ (l : List ℕ). getD s at 0 ∷ l) (part-cons s (at + 1) 0 (omega arith))
 
+  pub part-3 : at + 3 ≤ length s → part at 3 s ≡ getD s at 0 ∷ (getD s (at + 1) 0 ∷ (getD s (at + 2) 0 ∷ []))
+  part-3 h =
+      let e : at + 1 + 1 ≡ at + 2 = omega arith in
+      part-cons s at 2 (omega arith)
+      ∙ ap (λ (l : List ℕ). getD s at 0 ∷ l) (part-cons s (at + 1) 1 (omega arith)
+      ∙ ap (λ (l : List ℕ). getD s (at + 1) 0 ∷ l) (ap (λ (n : ℕ). part n 1 s) e ∙ part-cons s (at + 2) 0 (omega arith)))
+
   pub part-4 : at + 4 ≤ length s → part at 4 s ≡ getD s at 0 ∷ (getD s (at + 1) 0 ∷ (getD s (at + 2) 0 ∷ (getD s (at + 3) 0 ∷ [])))
   part-4 h =
-      let e2 : at + 1 + 1 ≡ at + 2 = omega arith in
-      let e3 : at + 2 + 1 ≡ at + 3 = omega arith in
-      part-cons s at 3 (omega arith)
-      ∙ ap (λ (l : List ℕ). getD s at 0 ∷ l) (part-cons s (at + 1) 2 (omega arith)
-      ∙ ap (λ (l : List ℕ). getD s (at + 1) 0 ∷ l) (ap (λ (n : ℕ). part n 2 s) e2 ∙ (part-cons s (at + 2) 1 (omega arith)
-      ∙ ap (λ (l : List ℕ). getD s (at + 2) 0 ∷ l) (ap (λ (n : ℕ). part n 1 s) e3 ∙ part-cons s (at + 3) 0 (omega arith)))))
+      part-append at 3 1 s
+      ∙ ap₂ _++_ (part-3 (omega arith)) (part-cons s (at + 3) 0 (omega arith))
 
   pub number-1 : at + 1 ≤ length s → numberAt 1 at s ≡ getD s at 0
   number-1 h = ap ofBytes (part-1 h) ∙ (let e : getD s at 0 + 256 * 0 ≡ getD s at 0 = omega arith in e)
 
   pub number-2 : at + 2 ≤ length s → numberAt 2 at s ≡ getD s at 0 + 256 * getD s (at + 1) 0
   number-2 h = ap ofBytes (part-2 h) ∙ (let e : getD s at 0 + 256 * (getD s (at + 1) 0 + 256 * 0) ≡ getD s at 0 + 256 * getD s (at + 1) 0 = omega arith in e)
+
+  pub number-3 : at + 3 ≤ length s → numberAt 3 at s ≡ getD s at 0 + 256 * (getD s (at + 1) 0 + 256 * getD s (at + 2) 0)
+  number-3 h =
+      ap ofBytes (part-3 h)
+      ∙ (let e : getD s at 0 + 256 * (getD s (at + 1) 0 + 256 * (getD s (at + 2) 0 + 256 * 0)) ≡ getD s at 0 + 256 * (getD s (at + 1) 0 + 256 * getD s (at + 2) 0) = omega arith in e)
 
   pub number-4 : at + 4 ≤ length s → numberAt 4 at s ≡ getD s at 0 + 256 * (getD s (at + 1) 0 + 256 * (getD s (at + 2) 0 + 256 * getD s (at + 3) 0))
   number-4 h =

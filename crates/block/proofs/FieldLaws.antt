@@ -16,8 +16,9 @@ use Rattle.monomial.proofs.Places.{and-both}
 use Rattle.merge_common.specs.Lent.{part}
 use Rattle.merge_common.proofs.Lists.{length-part}
 use Rattle.polynomial.specs.declared.setting.Setting.{Setting}
-use Rattle.block.specs.Block.{numberAt, settingBytes, settingAt, headerWith, header, sumWords, same}
+use Rattle.block.specs.Block.{numberAt, weightNumber, settingBytes, settingAt, headerWith, header, sumWords, same}
 use Rattle.block.proofs.ByteLaws.{part-append, part-part, bytes-cut}
+use Rattle.block.proofs.WeightLaws.{number-below, number-back}
 
 -- ---- the test of equal bytes
 pub same-true : (xs ys : List ℕ) → same xs ys ≡ true → xs ≡ ys
@@ -87,9 +88,14 @@ module _ (number count here : ℕ) (t : Setting) where
   unfolding headerWith settingBytes bytes
   upper-in = refl
 
-  zeros-in : part 12 4 (header number count here t) ≡ replicate 4 0
+  -- "bytes 12 to 14 hold weight minus 1 in four bits each"
+  pub weights-in : part 12 3 (header number count here t) ≡ bytes 3 (weightNumber (t .weights))
   unfolding headerWith settingBytes bytes
-  zeros-in = refl
+  weights-in = refl
+
+  zero-in : part 15 1 (header number count here t) ≡ replicate 1 0
+  unfolding headerWith settingBytes bytes
+  zero-in = refl
 
   -- ---- the bytes from `at` on are a header
   module _ (s : List ℕ) (at : ℕ) (e : part at 16 s ≡ header number count here t) where
@@ -117,8 +123,11 @@ module _ (number count here : ℕ) (t : Setting) where
     pub n-is : t .n < 256 ^ 1 → numberAt 1 (at + 9) s ≡ t .n
     n-is h = ap ofBytes (field 9 1 (omega arith) ∙ n-in) ∙ got-back 1 (t .n) h
 
-    pub zeros-are : part (at + 12) 4 s ≡ replicate 4 0
-    zeros-are = field 12 4 (omega arith) ∙ zeros-in
+    pub weights-are : length (t .weights) ≡ 6 → numberAt 3 (at + 12) s ≡ weightNumber (t .weights)
+    weights-are h = ap ofBytes (field 12 3 (omega arith) ∙ weights-in) ∙ got-back 3 (weightNumber (t .weights)) (number-below 6 (t .weights) h)
+
+    pub zero-is : part (at + 15) 1 s ≡ replicate 1 0
+    zero-is = field 15 1 (omega arith) ∙ zero-in
 
 -- bytes that say what a header says are the header
 module _ (s : List ℕ) (u : Below 256 s) (at : ℕ) where
@@ -135,10 +144,15 @@ module _ (s : List ℕ) (u : Below 256 s) (at : ℕ) where
     upper-from : part (at + 10) 2 s ≡ bytes 2 (t .p / 65536)
     upper-from = bytes-from 2 (at + 10) (t .p / 65536) (omega arith) (omega (arith, whole-p, number-fits s u 2 (at + 6) (omega arith)))
 
-    pub header-from : numberAt 2 at s ≡ number → numberAt 2 (at + 2) s ≡ count → numberAt 2 (at + 4) s ≡ here → part (at + 12) 4 s ≡ replicate 4 0 → part at 16 s ≡ header number count here t
+    weights-from : part (at + 12) 3 s ≡ bytes 3 (weightNumber (t .weights))
+    weights-from = bytes-from 3 (at + 12) (weightNumber (t .weights)) (omega arith) (sym (number-back 6 (numberAt 3 (at + 12) s) (number-fits s u 3 (at + 12) (omega arith))) ∙ ap (λ (x : Setting). weightNumber (x .weights)) e)
+
+    pub header-from : numberAt 2 at s ≡ number → numberAt 2 (at + 2) s ≡ count → numberAt 2 (at + 4) s ≡ here → part (at + 15) 1 s ≡ replicate 1 0 → part at 16 s ≡ header number count here t
     unfolding headerWith settingBytes bytes
     header-from e1 e2 e3 e4 =
-        part-append at 12 4 s
+        part-append at 15 1 s
+        ∙ ap₂ _++_
+        (part-append at 12 3 s
         ∙ ap₂ _++_
         (part-append at 10 2 s
         ∙ ap₂ _++_
@@ -156,6 +170,7 @@ module _ (s : List ℕ) (u : Below 256 s) (at : ℕ) where
         (bytes-from 1 (at + 8) (t .order) (omega arith) (ap (λ (x : Setting). x .order) e)))
         (bytes-from 1 (at + 9) (t .n) (omega arith) (ap (λ (x : Setting). x .n) e)))
         upper-from)
+        weights-from)
         e4
 
 -- ---- the words that a check adds up, in the block and from its start on

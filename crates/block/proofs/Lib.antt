@@ -1,3 +1,4 @@
 pub mod ByteLaws
+pub mod WeightLaws
 pub mod BlockLaws
 pub mod FieldLaws

@@ -1,4 +1,4 @@
--- The blocks of a polynomial (document 01, "Blocks"; document 02, "Larger primes."). "Numbers are little-endian": `bytes k x` are the k lowest bytes of x, from the lowest up. Assumes nothing.
+-- The blocks of a polynomial (document 01, "Blocks"; document 02, "Larger primes." and "Weighted degrees."). "Numbers are little-endian": `bytes k x` are the k lowest bytes of x, from the lowest up. Assumes nothing.
 use Prim.Native.Nat.{ℕ, zero, suc, _+_, _-_, _*_, _/_, _%_, _^_}
 use mathlib.Core.Bool.{Bool, true, false, _&&_}
 use mathlib.Core.List.{List, [], _∷_, _++_}
@@ -15,13 +15,28 @@ numberAt k at s = ofBytes (part at k s)
 
 -- ---- the header, 16 bytes
 
--- "p (2), order (1), n (1), six zero bytes": the problem's setting, ten bytes from byte 6 on; "In a block the upper 16 bits of p take the first two of the six zero bytes."
+-- "weight minus 1 in four bits each", x1's lowest: the weights of x1, x2, .. as one number (a weight outside 1 to 16 is refused before it is put so)
+unfoldable pub weightNumber : List ℕ → ℕ
+weightNumber [] = 0
+weightNumber (v ∷ vs) = (v + 15) % 16 + 16 * weightNumber vs
+
+-- and back: the k weights in the lowest half bytes of a number
+unfoldable pub weightsOf : (k number : ℕ) → List ℕ
+weightsOf zero number = []
+weightsOf (suc k) number = (number % 16 + 1) ∷ weightsOf k (number / 16)
+
+-- "p (2), order (1), n (1), six zero bytes": the problem's setting, ten bytes from byte 6 on; "In a block the upper 16 bits of p take the first two of the six zero bytes.", and "bytes 12 to 14 hold weight minus 1 in four bits each". Byte 15 is 0.
 unfoldable pub settingBytes : Setting → List ℕ
-settingBytes s = bytes 2 (s .p) ++ (bytes 1 (s .order) ++ (bytes 1 (s .n) ++ (bytes 2 (s .p / 65536) ++ replicate 4 0)))
+settingBytes s = bytes 2 (s .p) ++ (bytes 1 (s .order) ++ (bytes 1 (s .n) ++ (bytes 2 (s .p / 65536) ++ (bytes 3 (weightNumber (s .weights)) ++ replicate 1 0))))
 
 -- the setting that a block's header has, from place `at` on
 abbrev pub settingAt : (at : ℕ) → List ℕ → Setting
-settingAt at s = record { p = numberAt 2 (at + 6) s + 65536 * numberAt 2 (at + 10) s; order = numberAt 1 (at + 8) s; n = numberAt 1 (at + 9) s }
+settingAt at s = record {
+  p = numberAt 2 (at + 6) s + 65536 * numberAt 2 (at + 10) s;
+  order = numberAt 1 (at + 8) s;
+  n = numberAt 1 (at + 9) s;
+  weights = weightsOf 6 (numberAt 3 (at + 12) s);
+}
 
 -- the first block's
 abbrev pub settingIn : List ℕ → Setting

@@ -2,8 +2,12 @@
 use crate::filler::clear;
 use crate::number::get_1;
 use crate::number::get_2;
+use crate::number::get_3;
 use crate::number::put_1;
 use crate::number::put_2;
+use crate::number::put_3;
+use crate::weights::weight_number;
+use crate::weights::weights_of;
 use polynomial::setting::Setting;
 ghost use mathlib.Core.Path.{_≡_};
 ghost use Prim.Native.Nat.{_+_, _≤_};
@@ -17,11 +21,13 @@ pub fn put_setting(s: &mut [u8], at: usize, setting: Setting)
     requires { ⌜ at + 10 ≤ length (now s) ⌝ }
     ensures { λ _. ⌜ now (s .exit) ≡ sets (now (s .entry)) at (settingBytes setting) ⌝ }
 {
+    let weights = setting.weights;
     put_2(s, at, setting.p);
     put_1(s, at + 2, setting.order);
     put_1(s, at + 3, setting.n);
     put_2(s, at + 4, setting.p / 65536);
-    clear(s, at + 6, 4);
+    put_3(s, at + 6, weight_number(&weights));
+    clear(s, at + 9, 1);
 }
 
 // The setting in the header from place `at` on.
@@ -36,6 +42,7 @@ pub fn get_setting(s: &[u8], at: usize) -> Setting
         p,
         order: get_1(s, at + 8),
         n: get_1(s, at + 9),
+        weights: weights_of(get_3(s, at + 12)),
     }
 }
 

@@ -1,4 +1,4 @@
-// "Numbers are little-endian": numbers of 1, 2, 4 and 8 bytes in a slice of bytes.
+// "Numbers are little-endian": numbers of 1, 2, 3, 4 and 8 bytes in a slice of bytes.
 ghost use mathlib.Core.Path.{_≡_};
 ghost use Prim.Native.Nat.{_+_, _≤_, _<_};
 ghost use lib.ListN.{length};
@@ -21,6 +21,16 @@ pub fn put_2(s: &mut [u8], at: usize, x: u32)
 {
     s[at] = (x % 256) as u8;
     s[at + 1] = (x / 256 % 256) as u8;
+}
+
+// The same with 3 bytes.
+pub fn put_3(s: &mut [u8], at: usize, x: u32)
+    requires { ⌜ at + 3 ≤ length (now s) ⌝ }
+    ensures { λ _. ⌜ now (s .exit) ≡ sets (now (s .entry)) at (bytes 3 x) ⌝ }
+{
+    s[at] = (x % 256) as u8;
+    s[at + 1] = (x / 256 % 256) as u8;
+    s[at + 2] = (x / 256 / 256 % 256) as u8;
 }
 
 // The same with 4 bytes.
@@ -57,6 +67,14 @@ pub fn get_2(s: &[u8], at: usize) -> u32
     ensures { λ r. ⌜ (r ≡ numberAt 2 at (now (s .entry))) × (r < 65536) ⌝ }
 {
     wide(s[at]) + 256 * wide(s[at + 1])
+}
+
+// The same with 3 bytes.
+pub fn get_3(s: &[u8], at: usize) -> u32
+    requires { ⌜ at + 3 ≤ length (now s) ⌝ }
+    ensures { λ r. ⌜ (r ≡ numberAt 3 at (now (s .entry))) × (r < 16777216) ⌝ }
+{
+    wide(s[at]) + 256 * (wide(s[at + 1]) + 256 * wide(s[at + 2]))
 }
 
 // The same with 4 bytes.

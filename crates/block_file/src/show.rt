@@ -14,6 +14,23 @@ pub fn number(name: &[u8], n: u64) {
     put(b"\n");
 }
 
+// The weights of x1 to x6, by their number in a header, where they are not all 1.
+pub fn weights(number: u64) {
+    if number == 0 {
+        return;
+    }
+    put(b"weights");
+    let mut left = number;
+    let mut i: usize = 0;
+    while i < 6 {
+        put(b" ");
+        io::print_decimal(1, left % 16 + 1);
+        left /= 16;
+        i += 1;
+    }
+    put(b"\n");
+}
+
 // A block: its header, its first five places and its check, byte by byte.
 pub fn block(bytes: &[u8])
     requires { ⌜ 512 ≡ length (now bytes) ⌝ }

@@ -1,50 +1,52 @@
--- The form of blocks of the first kind and of today's. Where p fits 16 bits they are the same; what else has today's form gets 16 from "a reader of the first kind". Assumes nothing.
-use mathlib.Core.Path.{_≡_, refl, sym, ap, _∙_}
+-- The form of blocks of the first kind and of today's. Where p fits 16 bits and all weights are 1 they are the same; what else has today's form gets 16 from "a reader of the first kind". Assumes nothing.
+use mathlib.Core.Path.{_≡_, refl, sym, ap, ap₂, _∙_}
 use mathlib.Core.Bool.{Bool, true, false, _&&_, and-false}
 use mathlib.Core.List.{List, _++_}
-use Prim.Native.Nat.{ℕ, _/_, _<_, _≤_}
+use Prim.Native.Nat.{ℕ, zero, suc, _+_, _/_, _<_, _≤_}
 use native.Mathlib.Omega.{arith}
 use lib.Dec.{leb, eqb}
 use lib.ListN.{replicate}
 use Rattle.limits.specs.Limits.{mostTerms}
+use Rattle.monomial.specs.Exponents.{ones}
 use Rattle.monomial.specs.Layout.{bytes, ofBytes, Below}
 use Rattle.merge_common.specs.Lent.{part}
 use Rattle.polynomial.specs.Terms.{Term}
 use Rattle.polynomial.specs.declared.setting.Setting.{Setting}
 use Rattle.opening.specs.Run.{unless}
-use Rattle.block.specs.Block.{numberAt, settingBytes, headerWith, blockCount, blocksWith, blocksOf, same, settingIn}
+use Rattle.block.specs.Block.{numberAt, weightNumber, weightsOf, settingBytes, headerWith, blockCount, blocksWith, blocksOf, same, settingIn}
 use Rattle.block.proofs.ByteLaws.{part-part}
 use Rattle.block.proofs.FieldLaws.{same-true, number-fits}
 use Rattle.block_form.specs.Form.{countIn, totalIn, hereOf, unusedClear, standsWith, allStandWith, formRefusalWith, formRefusal}
 use Rattle.block_form.specs.FirstKind.{firstKindBytes, firstKindBlocks, firstKindSetting, firstKindForm}
 use Rattle.block_form.proofs.FormLaws.{all-fails, form-passes, form-with}
 
--- ---- p that fits 16 bits
-pub small-bytes : (t : Setting) → t .p < 65536 → settingBytes t ≡ firstKindBytes t
-unfolding settingBytes firstKindBytes bytes
-small-bytes t h =
+-- ---- p that fits 16 bits, and weights of 1
+pub small-bytes : (t : Setting) → t .p < 65536 → t .weights ≡ ones → settingBytes t ≡ firstKindBytes t
+unfolding settingBytes firstKindBytes bytes weightNumber
+small-bytes t h unit =
     let e : t .p / 65536 ≡ 0 = omega arith in
-    ap (λ (x : ℕ). bytes 2 (t .p) ++ (bytes 1 (t .order) ++ (bytes 1 (t .n) ++ (bytes 2 x ++ replicate 4 0)))) e
+    ap₂ (λ (x : ℕ) (vs : List ℕ). bytes 2 (t .p) ++ (bytes 1 (t .order) ++ (bytes 1 (t .n) ++ (bytes 2 x ++ (bytes 3 (weightNumber vs) ++ replicate 1 0))))) e unit
 
--- "Blocks for primes up to 65,521 keep their bytes"
-pub small-blocks : (t : Setting) (ts : List (Term ℕ)) → t .p < 65536 → blocksOf t ts ≡ firstKindBlocks t ts
-small-blocks t ts h = ap (λ (b : List ℕ). blocksWith b ts) (small-bytes t h)
+-- "Blocks for primes up to 65,521 keep their bytes", and "Weights of 1 leave old blocks unchanged."
+pub small-blocks : (t : Setting) (ts : List (Term ℕ)) → t .p < 65536 → t .weights ≡ ones → blocksOf t ts ≡ firstKindBlocks t ts
+small-blocks t ts h unit = ap (λ (b : List ℕ). blocksWith b ts) (small-bytes t h unit)
 
-module _ (s : List ℕ) (h : settingIn s .p < 65536) where
+module _ (s : List ℕ) (h : settingIn s .p < 65536) (unit : settingIn s .weights ≡ ones) where
   pub small-setting : settingIn s ≡ firstKindSetting s
-  small-setting = let e : settingIn s .p ≡ numberAt 2 6 s = omega arith in ap (λ (x : ℕ). record { p = x; order = numberAt 1 8 s; n = numberAt 1 9 s }) e
+  small-setting = let e : settingIn s .p ≡ numberAt 2 6 s = omega arith in ap₂ (λ (x : ℕ) (vs : List ℕ). record { p = x; order = numberAt 1 8 s; n = numberAt 1 9 s; weights = vs }) e unit
 
   pub small-form : (ow oc : ℕ) → formRefusal s ow oc ≡ firstKindForm s ow oc
-  small-form ow oc = ap (λ (b : List ℕ). formRefusalWith b s ow oc) (small-bytes (settingIn s) h ∙ ap firstKindBytes small-setting)
+  small-form ow oc = ap (λ (b : List ℕ). formRefusalWith b s ow oc) (small-bytes (settingIn s) h unit ∙ ap firstKindBytes small-setting)
 
--- ---- larger p
-module _ (s : List ℕ) (some : 1 ≤ numberAt 2 10 s) where
-  -- the header that the first kind asks for has zeros where the upper half is
+-- ---- larger p, or other weights
+module _ (s : List ℕ) (some : 1 ≤ numberAt 2 10 s + numberAt 3 12 s) where
+  -- the header that the first kind asks for has zeros where the upper half and the weights are
   other-header : (number count here : ℕ) (t : Setting) → part 0 16 s ≡ headerWith (firstKindBytes t) number count here → ⊥
   unfolding headerWith firstKindBytes bytes
   other-header number count here t e =
       let z : numberAt 2 10 s ≡ 0 = ap ofBytes (sym (part-part 0 16 s 10 2 (omega arith)) ∙ ap (part 10 2) e) in
-      let q : ⊥ = omega (arith, z) in
+      let w : numberAt 3 12 s ≡ 0 = ap ofBytes (sym (part-part 0 16 s 12 3 (omega arith)) ∙ ap (part 12 3) e) in
+      let q : ⊥ = omega (arith, z, w) in
       q
 
   no-first : (t : Setting) → standsWith (firstKindBytes t) s 0 ≡ false
@@ -75,3 +77,12 @@ larger-sixteen s ow oc u e h =
     let w = form-passes s ow oc e .whole in
     let l : numberAt 2 6 s < 65536 = number-fits s u 2 6 (omega (arith, w .some)) in
     upper-sixteen s (omega arith) ow oc e
+
+-- and so with weights that are not all 1
+pub weighted-sixteen : (s : List ℕ) (ow oc : ℕ) → formRefusal s ow oc ≡ 0 → (settingIn s .weights ≡ ones → ⊥) → firstKindForm s ow oc ≡ 16
+unfolding weightsOf
+weighted-sixteen s ow oc e other = go (numberAt 3 12 s) refl
+  where
+    go : (x : ℕ) → numberAt 3 12 s ≡ x → firstKindForm s ow oc ≡ 16
+    go zero q = absurd (other (ap (weightsOf 6) q))
+    go (suc x) q = upper-sixteen s (omega (arith, q)) ow oc e

@@ -11,14 +11,15 @@ use lib.Dec.{eqb}
 use lib.ListN.{length, getD, drop, replicate}
 use Rattle.monomial.specs.Layout.{Below}
 use Rattle.monomial.proofs.Places.{and-both, below-true, true-below}
-use Rattle.monomial.proofs.Places as M
 use Rattle.merge_common.specs.Lent.{part}
 use Rattle.merge_common.proofs.Lists.{length-part, getD-part}
 use Rattle.limits.specs.Limits.{mostTerms}
 use Rattle.refusal.specs.Judgement.{condition, Judged}
 use Rattle.opening.proofs.Judging.{judged-unless, judged-first}
-use Rattle.block.specs.Block.{numberAt, header, sumWords, checkOf, blockCount, same, zeros, settingAt, settingIn}
-use Rattle.block.proofs.FieldLaws.{same-true, same-self, number-fits, number-is, count-is, here-is, low-is, upper-is, order-is, n-is, zeros-are, header-from, sum-part}
+use Rattle.block.specs.Block.{numberAt, header, sumWords, checkOf, blockCount, same, zeros, weightsOf, settingAt, settingIn}
+use Rattle.block.proofs.ByteLaws.{part-1}
+use Rattle.block.proofs.WeightLaws.{length-weights, number-back}
+use Rattle.block.proofs.FieldLaws.{same-true, same-self, number-fits, number-is, count-is, here-is, low-is, upper-is, order-is, n-is, weights-are, zero-is, header-from, sum-part}
 use Rattle.block_form.specs.Form.{wholeBlocks, countIn, totalIn, hereOf, checkStands, checksStand, unusedClear, standsWith, blockStands, blocksStand, formRefusalWith, formRefusal}
 use Rattle.block_form.specs.Judgement.{WholeBlocks, GoodCheck, termsHere, GoodBlock, GoodBlocks, formConditions}
 use Rattle.block_form.proofs.FormLaws.{all-each, all-of, whole-passes, whole-is, blocks-pass}
@@ -112,22 +113,22 @@ module _ (s : List ℕ) (u : Below 256 s) (w : WholeBlocks s) where
           upper-p = upper-is k count here t s (512 * k) (a .0) (omega (arith, low-fits, upper-fits)) ∙ upper-part;
           order = order-is k count here t s (512 * k) (a .0) (number-fits s u 1 8 (omega arith));
           n = n-is k count here t s (512 * k) (a .0) (number-fits s u 1 9 (omega arith));
-          zero-bytes = λ j l r. zeros-good s (512 * k + 12) 4 (ap zeros (zeros-are k count here t s (512 * k) (a .0))) (512 * k + j) (omega arith) (omega arith);
+          weights = weights-are k count here t s (512 * k) (a .0) (length-weights 6 (numberAt 3 12 s)) ∙ number-back 6 (numberAt 3 12 s) (number-fits s u 3 12 (omega arith));
+          zero-byte = zeros-good s (512 * k + 15) 1 (ap zeros (zero-is k count here t s (512 * k) (a .0))) (512 * k + 15) (omega arith) (omega arith);
           unused = λ j l r. zeros-good s (512 * k + 16 + 12 * here) (12 * (41 - here)) (a .1) (512 * k + j) (omega (arith, hi)) (omega arith);
         }
 
     setting-same : GoodBlock s k → settingAt (512 * k) s ≡ settingIn s
     setting-same g =
-        ap₂ (λ (x y : ℕ). record { p = x + 65536 * y; order = numberAt 1 (512 * k + 8) s; n = numberAt 1 (512 * k + 9) s }) (g .p) (g .upper-p)
-        ∙ ap₂ (λ (x y : ℕ). record { p = settingIn s .p; order = x; n = y }) (g .order) (g .n)
+        ap₂ (λ (x y : ℕ). record { p = x + 65536 * y; order = numberAt 1 (512 * k + 8) s; n = numberAt 1 (512 * k + 9) s; weights = weightsOf 6 (numberAt 3 (512 * k + 12) s) }) (g .p) (g .upper-p)
+        ∙ (ap₂ (λ (x y : ℕ). record { p = settingIn s .p; order = x; n = y; weights = weightsOf 6 (numberAt 3 (512 * k + 12) s) }) (g .order) (g .n)
+        ∙ ap (λ (x : ℕ). record { p = settingIn s .p; order = numberAt 1 8 s; n = numberAt 1 9 s; weights = weightsOf 6 x }) (g .weights))
 
     good-block : GoodBlock s k → hereOf (totalIn s) k ≡ termsHere s k → blockStands s k ≡ true
     unfolding standsWith
     good-block g e =
         let i = inside k h in
-        let z : part (512 * k + 12) 4 s ≡ replicate 4 0 =
-        M.zeros (part (512 * k + 12) 4 s) (true-below 1 (part (512 * k + 12) 4 s) (good-zeros s (512 * k + 12) 4 (omega arith) (λ j l r. let q : j ≡ 512 * k + (j - 512 * k) = omega arith in ap (λ (x : ℕ). getD s x 0) q ∙ g .zero-bytes (j - 512 * k) (omega arith) (omega arith))))
-        ∙ ap (λ (x : ℕ). replicate x 0) (length-part (512 * k + 12) 4 s (omega arith)) in
+        let z : part (512 * k + 15) 1 s ≡ replicate 1 0 = part-1 s (512 * k + 15) (omega arith) ∙ ap (λ (x : ℕ). x ∷ []) (g .zero-byte) in
         let eh : part (512 * k) 16 s ≡ top = header-from s u (512 * k) k count here (settingIn s) (omega arith) (setting-same g) (g .number) (g .count) (sym e) z in
         ap₂ _&&_
         (ap (λ (l : List ℕ). same l top) eh ∙ same-self top)

@@ -1,4 +1,4 @@
--- Whether bytes have the form of blocks, which is whether writing would put their checks, headers and filler there (document 01, "Blocks" and "Refusals by cause"; document 02, "Larger primes."). Assumes nothing.
+-- Whether bytes have the form of blocks, which is whether writing would put their checks, headers and filler there (document 01, "Blocks" and "Refusals by cause"; document 02, "Larger primes." and "Weighted degrees."). Assumes nothing.
 use Prim.Native.Nat.{ℕ, zero, suc, _+_, _-_, _*_, _/_, _%_, _≤_, min}
 use mathlib.Core.Path.{_≡_}
 use mathlib.Core.Bool.{Bool, true, _&&_}
@@ -41,7 +41,7 @@ checkStands s k = eqb (numberAt 4 (512 * k + 508) s) (checkOf (part (512 * k) 50
 abbrev pub checksStand : List ℕ → Bool
 checksStand s = allBelow (countIn s) (checkStands s)
 
--- ---- "16: a block number, count, number of terms or filler that writing would not put there, p, order or n unlike the first block's, or over 4,096 terms."
+-- ---- "16: a block number, count, number of terms or filler that writing would not put there, p, order or n unlike the first block's, or over 4,096 terms."; "Weights unlike the first block's give 16."
 
 -- the places of block k that so many terms leave unused are 0
 abbrev pub unusedClear : List ℕ → (k here : ℕ) → Bool
@@ -56,7 +56,7 @@ standsWith setting s k =
 abbrev pub allStandWith : (setting s : List ℕ) → Bool
 allStandWith setting s = eqb (blockCount (totalIn s)) (countIn s) && (leb (totalIn s) mostTerms && allBelow (countIn s) (standsWith setting s))
 
--- with the first block's p, order and n
+-- with the first block's p, order, n and weights
 abbrev pub blockStands : List ℕ → ℕ → Bool
 blockStands s = standsWith (settingBytes (settingIn s)) s
 

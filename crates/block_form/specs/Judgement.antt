@@ -1,4 +1,4 @@
--- What document 01 asks of the form of blocks that are read, in its words ("Blocks" and "Refusals by cause"), and its order, with the header of document 02 ("Larger primes."). Assumes nothing.
+-- What document 01 asks of the form of blocks that are read, in its words ("Blocks" and "Refusals by cause"), and its order, with the header of document 02 ("Larger primes." and "Weighted degrees."). Assumes nothing.
 use Prim.Native.Nat.{ℕ, _+_, _-_, _*_, _%_, _^_, _<_, _≤_}
 use mathlib.Core.Path.{_≡_}
 use mathlib.Core.List.{List, [], _∷_}
@@ -36,8 +36,10 @@ pub record GoodBlock (s : List ℕ) (k : ℕ) : Type 0 where
   pub upper-p : numberAt 2 (512 * k + 10) s ≡ numberAt 2 10 s
   pub order : numberAt 1 (512 * k + 8) s ≡ numberAt 1 8 s
   pub n : numberAt 1 (512 * k + 9) s ≡ numberAt 1 9 s
-  -- the last four of "six zero bytes"; "unused places are 0"
-  pub zero-bytes : (i : ℕ) → 12 ≤ i → i < 16 → getD s (512 * k + i) 0 ≡ 0
+  -- "bytes 12 to 14 hold weight minus 1 in four bits each"; "Weights unlike the first block's give 16."
+  pub weights : numberAt 3 (512 * k + 12) s ≡ numberAt 3 12 s
+  -- the last of "six zero bytes"; "unused places are 0"
+  pub zero-byte : getD s (512 * k + 15) 0 ≡ 0
   pub unused : (i : ℕ) → 16 + 12 * termsHere s k ≤ i → i < 508 → getD s (512 * k + i) 0 ≡ 0
 
 -- 16 for all blocks, with "or over 4,096 terms"

@@ -18,6 +18,7 @@ use Rattle.merge_common.proofs.Lists.{length-part}
 use Rattle.polynomial.specs.declared.setting.Setting.{Setting}
 use Rattle.block.specs.Block.{numberAt, header, place, places, unused, checkOf, body, blockWith, block, termsOf, blockCount, firstBlocksWith, firstBlocks, blocksOf, same, zeros, settingIn}
 use Rattle.block.proofs.ByteLaws.{part-append}
+use Rattle.block.proofs.WeightLaws.{length-weights}
 use Rattle.block.proofs.BlockLaws.{places-append}
 use Rattle.block.proofs.FieldLaws.{same-true, number-bytes}
 use Rattle.block_form.specs.Form.{countIn, totalIn, hereOf, checkStands, standsWith, blockStands}
@@ -141,7 +142,7 @@ accepted-written s ow oc h =
     let lw : length (words ts) ≡ totalIn s = length-map ts (λ u. u .mono) ∙ length-first s (totalIn s) in
     let lc : length (coefs ts) ≡ totalIn s = length-map ts (λ u. u .coef) ∙ length-first s (totalIn s) in
     let e : blockCount (length (words ts)) ≡ countIn s = ap blockCount lw ∙ f .fits in
-    sym (no-stop t (words ts) (coefs ts) (length s) (r .content .set) (lw ∙ sym lc)
+    sym (no-stop t (words ts) (coefs ts) (length s) (r .content .set) (length-weights 6 (numberAt 3 12 s)) (lw ∙ sym lc)
     (ap (polynomialRefusal t) (terms-of ts) ∙ r .content .good)
     (omega (arith, lw, f .few)) (omega (arith, e, w .whole)))
 

@@ -1,13 +1,15 @@
--- The refusals of writing and of reading blocks are those that document 01's conditions come to, and which numbers can come at all. Assumes nothing.
-use mathlib.Core.Path.{_≡_, refl, sym, ap, _∙_}
+-- The refusals of writing and of reading blocks are those that the documents' conditions come to, and which numbers can come at all. Assumes nothing.
+use mathlib.Core.Path.{_≡_, refl, sym, ap, ap₂, _∙_}
+use mathlib.Core.Bool.{true, _&&_}
 use mathlib.Core.List.{List, [], _∷_, _++_}
 use Prim.Native.Nat.{ℕ, _*_, _≤_}
 use native.Mathlib.Omega.{arith}
 use borrow.Author.Tests.{eqb-true, leb-true, eq-eqb, le-leb}
 use lib.Dec.{leb, eqb}
 use lib.ListN.{length}
-use Rattle.limits.specs.Limits.{mostTerms}
+use Rattle.limits.specs.Limits.{mostTerms, weightCount}
 use Rattle.monomial.specs.Layout.{Below}
+use Rattle.monomial.proofs.Places.{and-both}
 use Rattle.refusal.specs.Judgement.{Condition, condition, Judged, OneOf}
 use Rattle.refusal.proofs.JudgementLaws.{judged-numbers, numbered-then}
 use Rattle.polynomial.specs.Terms.{Term, terms}
@@ -25,8 +27,8 @@ use Rattle.block_form.specs.Form.{totalIn, formRefusal}
 use Rattle.block_form.specs.Judgement.{formConditions}
 use Rattle.block_form.proofs.Judgements.{form-judged}
 use Rattle.blocks.specs.Reading.{termsIn, contentWith, contentRefusal, readRefusal}
-use Rattle.blocks.specs.Outcome.{writeRefusal}
-use Rattle.blocks.specs.Judgement.{writeConditions, readConditions}
+use Rattle.blocks.specs.Outcome.{sizesGood, writeRefusal}
+use Rattle.blocks.specs.Judgement.{GoodSizes, writeConditions, readConditions}
 use Rattle.blocks.proofs.PlaceLaws.{length-first}
 use Rattle.blocks.proofs.Counts.{long-blocks}
 
@@ -45,29 +47,38 @@ module _ (t : Setting) (ws cs : List ℕ) (room : ℕ) where
   all-bytes : length ws ≡ length cs → length (blocksOf t ts) ≡ 512 * blockCount (length ws)
   all-bytes l = long-blocks t ts ∙ ap (λ (n : ℕ). 512 * blockCount n) (length-terms ws cs (sym l))
 
+  sizes-good : sizesGood (length (t .weights)) (length ws) (length cs) ≡ true → GoodSizes (t .weights) ws cs
+  sizes-good e =
+      let a = and-both (eqb (length (t .weights)) weightCount) (eqb (length ws) (length cs)) e in
+      record { weights-six = eqb-true (length (t .weights)) weightCount (a .0); coefs-alike = eqb-true (length ws) (length cs) (a .1) }
+
+  good-sizes : GoodSizes (t .weights) ws cs → sizesGood (length (t .weights)) (length ws) (length cs) ≡ true
+  good-sizes g = ap₂ _&&_ (eq-eqb (length (t .weights)) weightCount (g .weights-six)) (eq-eqb (length ws) (length cs) (g .coefs-alike))
+
   pub write-judged : Judged (writeConditions t ws cs room) (writeRefusal t ws cs room)
   unfolding writeRefusal
   write-judged =
-      let eight = condition 8 (length ws ≡ length cs) in
+      let eight = condition 8 (GoodSizes (t .weights) ws cs) in
       let last = eleven ∷ (ten ∷ []) in
       let r = polynomialRefusal t ts in
+      let sizes = sizesGood (length (t .weights)) (length ws) (length cs) in
       let full = unless (leb (512 * blockCount (length ws)) room) 10 in
       let late = first (unless (leb (length ws) mostTerms) 11) full in
-      judged-first (settingConditions t) (eight ∷ (polynomialConditions t ts ++ last)) (setting t) (first (unless (eqb (length ws) (length cs)) 8) (first r late)) (setting-counted t) (setting-judged t)
-      (λ s. judged-test eight (polynomialConditions t ts ++ last) (eqb (length ws) (length cs)) (first r late) (omega arith) (eqb-true (length ws) (length cs)) (eq-eqb (length ws) (length cs))
+      judged-first (settingConditions t) (eight ∷ (polynomialConditions t ts ++ last)) (setting t) (first (unless sizes 8) (first r late)) (setting-counted t) (setting-judged t)
+      (λ s. judged-test eight (polynomialConditions t ts ++ last) sizes (first r late) (omega arith) sizes-good good-sizes
       (λ l. judged-first (polynomialConditions t ts) last r late (polynomial-counted t ts) (polynomial-judged t (s .1 .1 .0 .1) ts)
       (λ a. judged-test eleven (ten ∷ []) (leb (length ws) mostTerms) full (omega arith) (leb-true (length ws) mostTerms) (le-leb (length ws) mostTerms)
-      (λ f. judged-unless ten (leb (512 * blockCount (length ws)) room) (λ e. omega (arith, all-bytes l, leb-true (512 * blockCount (length ws)) room e)) (λ g. le-leb (512 * blockCount (length ws)) room (omega (arith, all-bytes l, g)))))))
+      (λ f. judged-unless ten (leb (512 * blockCount (length ws)) room) (λ e. omega (arith, all-bytes (l .coefs-alike), leb-true (512 * blockCount (length ws)) room e)) (λ g. le-leb (512 * blockCount (length ws)) room (omega (arith, all-bytes (l .coefs-alike), g)))))))
 
   abbrev writeNumbers : List ℕ
-  writeNumbers = 1 ∷ 2 ∷ 3 ∷ 4 ∷ 5 ∷ 6 ∷ 8 ∷ 10 ∷ 11 ∷ []
+  writeNumbers = 1 ∷ 2 ∷ 3 ∷ 4 ∷ 5 ∷ 6 ∷ 8 ∷ 10 ∷ 11 ∷ 24 ∷ []
 
-  pub write-numbers : OneOf (0 ∷ 1 ∷ 2 ∷ 3 ∷ 4 ∷ 5 ∷ 6 ∷ 8 ∷ 10 ∷ 11 ∷ []) (writeRefusal t ws cs room)
+  pub write-numbers : OneOf (0 ∷ 1 ∷ 2 ∷ 3 ∷ 4 ∷ 5 ∷ 6 ∷ 8 ∷ 10 ∷ 11 ∷ 24 ∷ []) (writeRefusal t ws cs room)
   write-numbers =
-      let eight = condition 8 (length ws ≡ length cs) in
+      let eight = condition 8 (GoodSizes (t .weights) ws cs) in
       let last = eleven ∷ (ten ∷ []) in
       judged-numbers writeNumbers (writeConditions t ws cs room) (writeRefusal t ws cs room)
-      (numbered-then writeNumbers (settingConditions t) (eight ∷ (polynomialConditions t ts ++ last)) (setting-by writeNumbers t refl refl refl)
+      (numbered-then writeNumbers (settingConditions t) (eight ∷ (polynomialConditions t ts ++ last)) (setting-by writeNumbers t refl refl refl refl)
       (refl, numbered-then writeNumbers (polynomialConditions t ts) last (polynomial-by writeNumbers t refl refl refl ts) (refl, (refl, tt))))
       write-judged
 
@@ -94,15 +105,15 @@ module _ (s : List ℕ) (ow oc : ℕ) (u : Below 256 s) where
       (omega arith, (omega arith, (omega arith, (omega arith, tt)))) (form-judged s ow oc u) (λ f. content-judged)
 
   abbrev readNumbers : List ℕ
-  readNumbers = 1 ∷ 2 ∷ 3 ∷ 4 ∷ 5 ∷ 6 ∷ 8 ∷ 10 ∷ 14 ∷ 15 ∷ 16 ∷ []
+  readNumbers = 1 ∷ 2 ∷ 3 ∷ 4 ∷ 5 ∷ 6 ∷ 8 ∷ 10 ∷ 14 ∷ 15 ∷ 16 ∷ 24 ∷ []
 
-  pub read-numbers : OneOf (0 ∷ 1 ∷ 2 ∷ 3 ∷ 4 ∷ 5 ∷ 6 ∷ 8 ∷ 10 ∷ 14 ∷ 15 ∷ 16 ∷ []) (readRefusal s ow oc)
+  pub read-numbers : OneOf (0 ∷ 1 ∷ 2 ∷ 3 ∷ 4 ∷ 5 ∷ 6 ∷ 8 ∷ 10 ∷ 14 ∷ 15 ∷ 16 ∷ 24 ∷ []) (readRefusal s ow oc)
   read-numbers =
       let t = settingIn s in
       let us = termsIn s in
       let last = polynomialConditions t us ++ (room ∷ []) in
       judged-numbers readNumbers (readConditions s ow oc) (readRefusal s ow oc)
       (numbered-then readNumbers (formConditions s ow oc) (settingConditions t ++ last) (refl, (refl, (refl, (refl, tt))))
-      (numbered-then readNumbers (settingConditions t) last (setting-by readNumbers t refl refl refl)
+      (numbered-then readNumbers (settingConditions t) last (setting-by readNumbers t refl refl refl refl)
       (numbered-then readNumbers (polynomialConditions t us) (room ∷ []) (polynomial-by readNumbers t refl refl refl us) (refl, tt))))
       read-judged

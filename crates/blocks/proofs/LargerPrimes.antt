@@ -10,6 +10,7 @@ use lib.Dec.{leb, ltb, eqb}
 use lib.ListN.{length, getD, take, drop, length-append}
 use Rattle.residue.specs.Prime.{Prime, isPrime}
 use Rattle.residue.proofs.Primality.{prime-none, true-prime}
+use Rattle.monomial.specs.Exponents.{ones}
 use Rattle.monomial.specs.Layout.{ofBytes, Below}
 use Rattle.monomial.proofs.Places.{and-both}
 use Rattle.polynomial.specs.Terms.{terms}
@@ -71,30 +72,30 @@ same-limit t r h one = go (decLe (t .p) 65521)
     go (yes l) = rw (le-leb (t .p) 65521 l)
     go (no l) = one (sym (no-prime t (not-prime (t .p) (omega arith) h))) ∙ rw (lt-leb (t .p) 65521 (let z : 65521 < t .p = omega arith in z))
 
--- "Blocks for primes up to 65,521 keep their bytes": every call that writes, refused or not, has the first kind's outcome
-pub small-written : (t : Setting) (ws cs bytes : List ℕ) → t .p < 65536 → _≡_ {A = WriteOutcome} (writeOutcome t ws cs bytes) (firstKindWritten t ws cs bytes)
-small-written t ws cs bytes h =
+-- "Blocks for primes up to 65,521 keep their bytes", and "Weights of 1 leave old blocks unchanged.": every call that writes, refused or not, has the first kind's outcome
+pub small-written : (t : Setting) (ws cs bytes : List ℕ) → t .p < 65536 → t .weights ≡ ones → _≡_ {A = WriteOutcome} (writeOutcome t ws cs bytes) (firstKindWritten t ws cs bytes)
+small-written t ws cs bytes h unit =
     let r = writeRefusal t ws cs (length bytes) in
     ap₂ (λ (n : ℕ) (b : List ℕ). writtenWith n b (terms ws cs) bytes)
     (same-limit t r h (λ e. sym (stop-setting t ws cs (length bytes) 1 (sym e) (λ q. let z : ⊥ = omega (arith, q) in z))))
-    (small-bytes t h)
+    (small-bytes t h unit)
 
 stopped : (t : Setting) (s : List ℕ) (ow : ℕ) → setting t ≡ 1 → contentWith t s ow ≡ 1
 unfolding contentWith
 stopped t s ow z = rw z
 
 -- and so has every call that reads such bytes
-pub small-read : (bytes ws cs : List ℕ) → settingIn bytes .p < 65536 → _≡_ {A = ReadOutcome} (readOutcome bytes ws cs) (firstKindRead bytes ws cs)
-small-read bytes ws cs h =
-    let e = small-setting bytes h in
+pub small-read : (bytes ws cs : List ℕ) → settingIn bytes .p < 65536 → settingIn bytes .weights ≡ ones → _≡_ {A = ReadOutcome} (readOutcome bytes ws cs) (firstKindRead bytes ws cs)
+small-read bytes ws cs h unit =
+    let e = small-setting bytes h unit in
     let t = firstKindSetting bytes in
     let l : t .p < 65536 = omega arith in
     let content : contentRefusal bytes (length ws) ≡ limited t (contentWith t bytes (length ws)) =
     ap (λ (u : Setting). contentWith u bytes (length ws)) e ∙ same-limit t (contentWith t bytes (length ws)) l (stopped t bytes (length ws)) in
-    ap₂ (λ (n : ℕ) (u : Setting). readBy n u (termsIn bytes) ws cs) (ap₂ first (small-form bytes h (length ws) (length cs)) content) e
+    ap₂ (λ (n : ℕ) (u : Setting). readBy n u (termsIn bytes) ws cs) (ap₂ first (small-form bytes h unit (length ws) (length cs)) content) e
 
 -- ---- larger p
-turned-away : (s ow oc : List ℕ) → firstKindForm s (length ow) (length oc) ≡ 16 → _≡_ {A = ReadOutcome} (firstKindRead s ow oc) (turnedAway ow oc)
+pub turned-away : (s ow oc : List ℕ) → firstKindForm s (length ow) (length oc) ≡ 16 → _≡_ {A = ReadOutcome} (firstKindRead s ow oc) (turnedAway ow oc)
 turned-away s ow oc e = ap (λ (n : ℕ). readBy (first n (limited (firstKindSetting s) (contentWith (firstKindSetting s) s (length ow)))) (firstKindSetting s) (termsIn s) ow oc) e
 
 -- what is written
@@ -109,7 +110,7 @@ module _ (t : Setting) (ws cs bytes : List ℕ) (done : wrote t ws cs bytes .ans
       ap (λ (w : WriteOutcome). getD (w .bytes) at 0 + 256 * getD (w .bytes) (at + 1) 0) (demand-2-written t ws cs bytes done)
       ∙ (sym (number-2 (s ++ r) at (omega (arith, length-append s r))) ∙ (ap ofBytes (part-left s r at 2 h) ∙ e))
 
-  inside : (k : ℕ) → k < wrote t ws cs bytes .answer .blocks → (k < blockCount (length (terms ws cs))) × (512 * k + 512 ≤ length s)
+  pub inside : (k : ℕ) → k < wrote t ws cs bytes .answer .blocks → (k < blockCount (length (terms ws cs))) × (512 * k + 512 ≤ length s)
   inside k h =
       let q : wrote t ws cs bytes .answer .blocks ≡ blockCount (length (terms ws cs)) = ap (λ (w : WriteOutcome). w .answer .blocks) (demand-2-written t ws cs bytes done) in
       let l : k < blockCount (length (terms ws cs)) = omega arith in

@@ -9,3 +9,4 @@ mod Outcomes
 pub mod Judgements
 pub mod Demands
 pub mod LargerPrimes
+pub mod WeightedDegrees

@@ -67,14 +67,14 @@ first-at s (suc k) i h = go (λ l. first-at s k i l) (decLe k i)
     go again (no l) = List·getD-append (firstTerms s k) (termAt s k ∷ []) (term 0 0) i (omega (arith, length-first s k)) ∙ again (omega arith)
 
 -- ---- the opening check over the places
-module _ (o : Order) (n p : ℕ) (s : List ℕ) (total : ℕ) where
+module _ (o : Order) (n : ℕ) (vs : List ℕ) (p : ℕ) (s : List ℕ) (total : ℕ) where
   -- i terms are looked at, and the next is at `at`
   pub record Going (late : ℕ) (seen : Bool) (last at i : ℕ) : Type 0 where
     pub place : at ≡ placeAt i
-    pub looked : Looked (termRefusal o n p) (compareWords o) (unseen 0) (firstTerms s total) i late seen last
+    pub looked : Looked (termRefusal o n vs p) (compareWords o) (unseen 0) (firstTerms s total) i late seen last
 
   pub going-start : Going 0 false 0 16 0
-  going-start = record { place = refl; looked = look-start (termRefusal o n p) (compareWords o) 0 false 0 (firstTerms s total) }
+  going-start = record { place = refl; looked = look-start (termRefusal o n vs p) (compareWords o) 0 false 0 (firstTerms s total) }
 
   module _ (late : ℕ) (seen : Bool) (last at i : ℕ) (g : Going late seen last at i) (h : i < total) (word coef : ℕ) (ew : word ≡ numberAt 8 at s) (ec : coef ≡ numberAt 4 (at + 8) s) where
     term-is : termAt s i ≡ term word coef
@@ -88,23 +88,23 @@ module _ (o : Order) (n p : ℕ) (s : List ℕ) (total : ℕ) where
     inside : i < length (firstTerms s total)
     inside = omega (arith, length-first s total)
 
-    module _ (r late' : ℕ) (e : r ≡ termRefusal o n p (term word coef)) (q : late' ≡ lateAfter (compareWords o) seen last word late) where
-      pub going-stop : (r ≡ 0 → ⊥) → r ≡ refusalOf (termRefusal o n p) (compareWords o) (firstTerms s total)
+    module _ (r late' : ℕ) (e : r ≡ termRefusal o n vs p (term word coef)) (q : late' ≡ lateAfter (compareWords o) seen last word late) where
+      pub going-stop : (r ≡ 0 → ⊥) → r ≡ refusalOf (termRefusal o n vs p) (compareWords o) (firstTerms s total)
       going-stop f =
           stop-first r late' f
-          ∙ (ap (λ (c : Carried ℕ). verdict c) (look-stop (termRefusal o n p) (compareWords o) (unseen 0) (firstTerms s total) i late seen last (g .looked) inside (term word coef) lead r late' e q f)
-          ∙ carry-whole (termRefusal o n p) (compareWords o) 0 (firstTerms s total))
+          ∙ (ap (λ (c : Carried ℕ). verdict c) (look-stop (termRefusal o n vs p) (compareWords o) (unseen 0) (firstTerms s total) i late seen last (g .looked) inside (term word coef) lead r late' e q f)
+          ∙ carry-whole (termRefusal o n vs p) (compareWords o) 0 (firstTerms s total))
 
       pub going-next : (at' : ℕ) → r ≡ 0 → at' ≡ nextPlace at → Going late' true word at' (i + 1)
       going-next at' z w = record {
         place = w ∙ (ap nextPlace (g .place) ∙ next-is i);
-        looked = look-next (termRefusal o n p) (compareWords o) (unseen 0) (firstTerms s total) i late seen last (g .looked) inside (term word coef) lead r late' e q z;
+        looked = look-next (termRefusal o n vs p) (compareWords o) (unseen 0) (firstTerms s total) i late seen last (g .looked) inside (term word coef) lead r late' e q z;
       }
 
-  pub going-ends : (late : ℕ) (seen : Bool) (last at i : ℕ) → Going late seen last at i → total ≤ i → late ≡ refusalOf (termRefusal o n p) (compareWords o) (firstTerms s total)
+  pub going-ends : (late : ℕ) (seen : Bool) (last at i : ℕ) → Going late seen last at i → total ≤ i → late ≡ refusalOf (termRefusal o n vs p) (compareWords o) (firstTerms s total)
   going-ends late seen last at i g h =
-      ap (λ (c : Carried ℕ). verdict c) (look-ends (termRefusal o n p) (compareWords o) (unseen 0) (firstTerms s total) i late seen last (g .looked) (omega (arith, length-first s total)))
-      ∙ carry-whole (termRefusal o n p) (compareWords o) 0 (firstTerms s total)
+      ap (λ (c : Carried ℕ). verdict c) (look-ends (termRefusal o n vs p) (compareWords o) (unseen 0) (firstTerms s total) i late seen last (g .looked) (omega (arith, length-first s total)))
+      ∙ carry-whole (termRefusal o n vs p) (compareWords o) 0 (firstTerms s total)
 
 -- ---- the terms copied
 -- the first i terms are put

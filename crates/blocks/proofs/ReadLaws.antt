@@ -15,7 +15,7 @@ use Rattle.polynomial.proofs.OpeningLaws.{first-none}
 use Rattle.opening.proofs.Tests.{first-some, passed}
 use Rattle.opening.proofs.ListedLaws.{Numbered, first-numbered, unless-numbered, setting-numbered, polynomial-numbered}
 use Rattle.polynomial.specs.declared.setting.Setting.{Setting}
-use Rattle.block.specs.Block.{settingIn}
+use Rattle.block.specs.Block.{weightNumber, settingIn}
 use Rattle.block_form.specs.Form.{totalIn, wholeBlocks, checksStand, blocksStand, formRefusalWith, formRefusal}
 use Rattle.blocks.specs.Reading.{firstTerms, termsIn, contentWith, contentRefusal, readRefusal}
 use Rattle.blocks.specs.Outcome.{ReadOutcome, readBy}
@@ -89,7 +89,7 @@ read-passes s ow oc h =
     record { form = form-passes s ow oc (a .0); content = content-passes s ow (a .1) }
 
 -- ---- the outcome
-pub read-refused : (r : ℕ) (t : Setting) (ts : List (Term ℕ)) (ws cs : List ℕ) → (r ≡ 0 → ⊥) → _≡_ {A = ReadOutcome} (record { answer = record { number = r; finished = 0; p = 0; order = 0; n = 0; terms = 0 }; ws = ws; cs = cs }) (readBy r t ts ws cs)
+pub read-refused : (r : ℕ) (t : Setting) (ts : List (Term ℕ)) (ws cs : List ℕ) → (r ≡ 0 → ⊥) → _≡_ {A = ReadOutcome} (record { answer = record { number = r; finished = 0; p = 0; order = 0; n = 0; weights = 0; terms = 0 }; ws = ws; cs = cs }) (readBy r t ts ws cs)
 read-refused zero t ts ws cs h = absurd (h refl)
 read-refused (suc r) t ts ws cs h = refl
 
@@ -97,10 +97,10 @@ read-refused (suc r) t ts ws cs h = refl
 over : (l vs : List ℕ) (n : ℕ) → length vs ≡ n → n ≤ length l → sets l 0 vs ≡ vs ++ drop n l
 over l vs n e h = sets-eq vs l 0 (omega arith) ∙ ap (λ (k : ℕ). vs ++ drop k l) (let q : 0 + length vs ≡ n = omega arith in q)
 
-pub read-done : (r : ℕ) (s ws cs ws' cs' : List ℕ) (t : Setting) (total : ℕ) → r ≡ readRefusal s (length ws) (length cs) → r ≡ 0 → t ≡ settingIn s → total ≡ totalIn s
+pub read-done : (r : ℕ) (s ws cs ws' cs' : List ℕ) (t : Setting) (weights total : ℕ) → r ≡ readRefusal s (length ws) (length cs) → r ≡ 0 → t ≡ settingIn s → weights ≡ weightNumber (t .weights) → total ≡ totalIn s
     → ws' ≡ sets ws 0 (words (termsIn s)) → cs' ≡ sets cs 0 (coefs (termsIn s))
-    → _≡_ {A = ReadOutcome} (record { answer = record { number = 0; finished = 0; p = t .p; order = t .order; n = t .n; terms = total }; ws = ws'; cs = cs' }) (readBy r (settingIn s) (termsIn s) ws cs)
-read-done r s ws cs ws' cs' t total e z et en ew ec =
+    → _≡_ {A = ReadOutcome} (record { answer = record { number = 0; finished = 0; p = t .p; order = t .order; n = t .n; weights = weights; terms = total }; ws = ws'; cs = cs' }) (readBy r (settingIn s) (termsIn s) ws cs)
+read-done r s ws cs ws' cs' t weights total e z et ev en ew ec =
     let q = read-passes s (length ws) (length cs) (sym e ∙ z) in
     let ts = termsIn s in
     let l : length ts ≡ totalIn s = length-first s (totalIn s) in
@@ -108,6 +108,7 @@ read-done r s ws cs ws' cs' t total e z et en ew ec =
     let lc : length (coefs ts) ≡ length ts = length-map ts (λ u. u .coef) in
     let fw : ws' ≡ words ts ++ drop (length ts) ws = ew ∙ over ws (words ts) (length ts) lw (omega (arith, q .content .room)) in
     let fc : cs' ≡ coefs ts ++ drop (length ts) cs = ec ∙ over cs (coefs ts) (length ts) lc (omega (arith, q .content .room, q .form .lent)) in
-    ap₂ (λ (u : Setting) (k : ℕ). record { answer = record { number = 0; finished = 0; p = u .p; order = u .order; n = u .n; terms = k }; ws = ws'; cs = cs' }) et (en ∙ sym l)
-    ∙ (ap₂ (λ (x y : List ℕ). record { answer = record { number = 0; finished = 0; p = settingIn s .p; order = settingIn s .order; n = settingIn s .n; terms = length ts }; ws = x; cs = y }) fw fc
-    ∙ ap (λ (k : ℕ). readBy k (settingIn s) ts ws cs) (sym z))
+    ap (λ (v : ℕ). record { answer = record { number = 0; finished = 0; p = t .p; order = t .order; n = t .n; weights = v; terms = total }; ws = ws'; cs = cs' }) ev
+    ∙ (ap₂ (λ (u : Setting) (k : ℕ). record { answer = record { number = 0; finished = 0; p = u .p; order = u .order; n = u .n; weights = weightNumber (u .weights); terms = k }; ws = ws'; cs = cs' }) et (en ∙ sym l)
+    ∙ (ap₂ (λ (x y : List ℕ). record { answer = record { number = 0; finished = 0; p = settingIn s .p; order = settingIn s .order; n = settingIn s .n; weights = weightNumber (settingIn s .weights); terms = length ts }; ws = x; cs = y }) fw fc
+    ∙ ap (λ (k : ℕ). readBy k (settingIn s) ts ws cs) (sym z)))

@@ -10,8 +10,8 @@ use lib.Dec.{lit<, leb}
 use lib.ListN.{length, getD, drop}
 use lib.Seq.{ext-getD, getD-take, getD-drop}
 use Rattle.limits.specs.Limits.{largestPrime, mostTerms}
-use Rattle.monomial.specs.Exponents.{orderOf}
-use Rattle.monomial.specs.Layout.{bytes, ofBytes, Layout}
+use Rattle.monomial.specs.Exponents.{orderOf, Positive}
+use Rattle.monomial.specs.Layout.{bytes, ofBytes, Below, Layout}
 use Rattle.monomial.proofs.ByteLaws.{ofBytes-bytes}
 use Rattle.monomial.proofs.LayoutLaws.{layout-packed}
 use Rattle.monomial.proofs.Places.{below-zeros}
@@ -22,10 +22,12 @@ use Rattle.polynomial.proofs.OpeningLaws.{passes}
 use Rattle.merge_common.specs.Lent.{part}
 use Rattle.opening.specs.Run.{unless, setting}
 use Rattle.polynomial.specs.declared.setting.Setting.{Setting}
-use Rattle.block.specs.Block.{numberAt, header, unused, sumWords, checkOf, body, block, termsOf, blockCount, blocksOf, same, zeros, settingIn}
+use Rattle.opening.proofs.WeightsJudged.{weights-range}
+use Rattle.block.specs.Block.{numberAt, weightNumber, weightsOf, header, unused, sumWords, checkOf, body, block, termsOf, blockCount, blocksOf, same, zeros, settingIn}
 use Rattle.block.proofs.ByteLaws.{part-part}
 use Rattle.block.proofs.BlockLaws.{length-header, length-body}
-use Rattle.block.proofs.FieldLaws.{same-self, got-back, here-in, low-in, upper-in, order-in, n-in}
+use Rattle.block.proofs.FieldLaws.{same-self, got-back, here-in, low-in, upper-in, order-in, n-in, weights-in}
+use Rattle.block.proofs.WeightLaws.{number-below, weights-back}
 use Rattle.blocks.specs.declared.read.Reading.the-variants as R
 use Rattle.block_form.specs.Form.{allBelow, wholeBlocks, countIn, totalIn, hereOf, checkStands, checksStand, standsWith, blockStands, blocksStand, formRefusalWith, formRefusal}
 use Rattle.blocks.specs.Reading.{placeAt, termAt, firstTerms, termsIn, contentWith, contentRefusal, readRefusal}
@@ -36,10 +38,10 @@ use Rattle.blocks.proofs.WriteLaws.{Writable, write-passes, length-bloc
 use Rattle.blocks.proofs.InsideLaws.{part-all, body-in, header-in, places-in, filler-in, check-in, word-in, coef-in, block-in}
 
 -- ---- the words and coefficients of a polynomial that is not refused fit their bytes
-fitting : (t : Setting) (ts : List (Term ℕ)) → t .n ≤ 6 → t .p ≤ largestPrime → All (λ u. Layout (orderOf (t .order)) (t .n) (u .mono)) ts → All (λ u. (0 < u .coef) × (u .coef < t .p)) ts → (i : ℕ) → i < length ts → (getD ts i (term 0 0) .mono < 256 ^ 8) × (getD ts i (term 0 0) .coef < 256 ^ 4)
-fitting t [] hn hp l r i h = absurd (let z : ⊥ = omega arith in z)
-fitting t (u ∷ ts) hn hp l r zero h = let q = layout-packed (orderOf (t .order)) (t .n) (u .mono) hn (l .0) in (omega (arith, q .room), omega (arith, r .0 .1))
-fitting t (u ∷ ts) hn hp l r (suc i) h = fitting t ts hn hp (l .1) (r .1) i (omega arith)
+fitting : (t : Setting) (ts : List (Term ℕ)) → t .n ≤ 6 → Below 17 (t .weights) → t .p ≤ largestPrime → All (λ u. Layout (orderOf (t .order)) (t .n) (t .weights) (u .mono)) ts → All (λ u. (0 < u .coef) × (u .coef < t .p)) ts → (i : ℕ) → i < length ts → (getD ts i (term 0 0) .mono < 256 ^ 8) × (getD ts i (term 0 0) .coef < 256 ^ 4)
+fitting t [] hn hv hp l r i h = absurd (let z : ⊥ = omega arith in z)
+fitting t (u ∷ ts) hn hv hp l r zero h = let q = layout-packed (orderOf (t .order)) (t .n) (t .weights) (u .mono) hn (l .0) hv in (omega (arith, q .room), omega (arith, r .0 .1))
+fitting t (u ∷ ts) hn hv hp l r (suc i) h = fitting t ts hn hv hp (l .1) (r .1) i (omega arith)
 
 module _ (t : Setting) (ws cs : List ℕ) (room : ℕ) (w : Writable t ws cs room) where
   abbrev ts : List (Term ℕ)
@@ -99,6 +101,16 @@ module _ (t : Setting) (ws cs : List ℕ) (room : ℕ) (w : Writable t ws cs roo
   pub upper-is : (k : ℕ) → k < count → numberAt 2 (512 * k + 10) s ≡ t .p / 65536
   upper-is k h = ap ofBytes (field k 10 2 h (omega arith) ∙ upper-in k count (length (termsOf k ts)) t) ∙ got-back 2 (t .p / 65536) (let l = w .set .limit in omega (arith, l))
 
+  pub in-range : Below 17 (t .weights) × Positive (t .weights)
+  in-range = weights-range (t .n) (t .weights) (w .set .weights)
+
+  -- the weights in block k
+  pub weight-part : (k : ℕ) → k < count → part (512 * k + 12) 3 s ≡ bytes 3 (weightNumber (t .weights))
+  weight-part k h = field k 12 3 h (omega arith) ∙ weights-in k count (length (termsOf k ts)) t
+
+  weights-are : (k : ℕ) → k < count → numberAt 3 (512 * k + 12) s ≡ weightNumber (t .weights)
+  weights-are k h = ap ofBytes (weight-part k h) ∙ got-back 3 (weightNumber (t .weights)) (number-below 6 (t .weights) (w .six))
+
   pub setting-is : settingIn s ≡ t
   setting-is =
       let q = w .set in
@@ -107,7 +119,9 @@ module _ (t : Setting) (ws cs : List ℕ) (room : ℕ) (w : Writable t ws cs roo
       let ep : settingIn s .p ≡ t .p = omega (arith, el, eu) in
       let eo : numberAt 1 8 s ≡ t .order = ap ofBytes (field 0 8 1 first-block (omega arith) ∙ order-in 0 count (length (termsOf 0 ts)) t) ∙ got-back 1 (t .order) (omega (arith, q .order-high)) in
       let en : numberAt 1 9 s ≡ t .n = ap ofBytes (field 0 9 1 first-block (omega arith) ∙ n-in 0 count (length (termsOf 0 ts)) t) ∙ got-back 1 (t .n) (omega (arith, q .n-high)) in
-      ap₂ (λ (x y : ℕ). record { p = x; order = y; n = numberAt 1 9 s }) ep eo ∙ ap (λ (z : ℕ). record { p = t .p; order = t .order; n = z }) en
+      let ev : weightsOf 6 (numberAt 3 12 s) ≡ t .weights = ap (weightsOf 6) (weights-are 0 first-block) ∙ weights-back 6 (t .weights) (w .six) (in-range .0) (in-range .1) in
+      ap₂ (λ (x y : ℕ). record { p = x; order = y; n = numberAt 1 9 s; weights = weightsOf 6 (numberAt 3 12 s) }) ep eo
+      ∙ ap₂ (λ (z : ℕ) (vs : List ℕ). record { p = t .p; order = t .order; n = z; weights = vs }) en ev
 
   -- ---- the form
   check-stands : (k : ℕ) → k < count → checkStands s k ≡ true
@@ -148,8 +162,8 @@ module _ (t : Setting) (ws cs : List ℕ) (room : ℕ) (w : Writable t ws cs roo
       let g : k < count = omega arith in
       let m : j < 41 = omega arith in
       let n : j < length us = omega (arith, length-termsOf k ts) in
-      let q = passes (orderOf (t .order)) (t .n) (t .p) ts (w .good) in
-      let f = fitting t ts (w .set .n-high) (w .set .limit) (q .1) (q .0 .reduced) i h in
+      let q = passes (orderOf (t .order)) (t .n) (t .weights) (t .p) ts (w .good) in
+      let f = fitting t ts (w .set .n-high) (in-range .0) (w .set .limit) (q .1) (q .0 .reduced) i h in
       let d : getD us j (term 0 0) ≡ getD ts i (term 0 0) =
       getD-take 41 (drop (41 * k) ts) j (term 0 0) m ∙ (getD-drop (41 * k) ts j (term 0 0) ∙ ap (λ (x : ℕ). getD ts x (term 0 0)) (let e : 41 * k + j ≡ i = omega arith in e)) in
       let ew : numberAt 8 (placeAt i) s ≡ getD ts i (term 0 0) .mono =
@@ -192,14 +206,14 @@ module _ (t : Setting) (ws cs : List ℕ) (room : ℕ) (w : Writable t ws cs roo
     pub accepted : readRefusal s ow oc ≡ 0
     accepted = ap₂ first (form ow oc lent) content
 
--- What writing makes is read as the p, order and n and the terms that were written; the rest of what is lent is not changed.
+-- What writing makes is read as the p, order, n and weights and the terms that were written; the rest of what is lent is not changed.
 pub written-read : (t : Setting) (ws cs ow oc : List ℕ) (room : ℕ) → writeRefusal t ws cs room ≡ 0 → length ow ≡ length oc → length ws ≤ length ow
-    → _≡_ {A = ReadOutcome} (readOutcome (blocksOf t (terms ws cs)) ow oc) (record { answer = readStated (R.Done (t .p) (t .order) (t .n) (length ws)); ws = ws ++ drop (length ws) ow; cs = cs ++ drop (length ws) oc })
+    → _≡_ {A = ReadOutcome} (readOutcome (blocksOf t (terms ws cs)) ow oc) (record { answer = readStated (R.Done (t .p) (t .order) (t .n) (weightNumber (t .weights)) (length ws)); ws = ws ++ drop (length ws) ow; cs = cs ++ drop (length ws) oc })
 written-read t ws cs ow oc room h lent enough =
     let w = write-passes t ws cs room h in
     let s = blocksOf t (terms ws cs) in
     let l = length-terms ws cs (sym (w .lent)) in
     ap (λ (r : ℕ). readBy r (settingIn s) (termsIn s) ow oc) (accepted t ws cs room w (length ow) (length oc) lent enough)
     ∙ (ap₂ (λ (u : Setting) (vs : List (Term ℕ)). readBy 0 u vs ow oc) (setting-is t ws cs room w) (terms-are t ws cs room w)
-    ∙ ap₂ (λ (n : ℕ) (x : List ℕ). record { answer = readStated (R.Done (t .p) (t .order) (t .n) n); ws = x ++ drop n ow; cs = coefs (terms ws cs) ++ drop n oc }) l (words-terms ws cs (sym (w .lent)))
-    ∙ ap (λ (y : List ℕ). record { answer = readStated (R.Done (t .p) (t .order) (t .n) (length ws)); ws = ws ++ drop (length ws) ow; cs = y ++ drop (length ws) oc }) (coefs-terms ws cs (sym (w .lent))))
+    ∙ ap₂ (λ (n : ℕ) (x : List ℕ). record { answer = readStated (R.Done (t .p) (t .order) (t .n) (weightNumber (t .weights)) n); ws = x ++ drop n ow; cs = coefs (terms ws cs) ++ drop n oc }) l (words-terms ws cs (sym (w .lent)))
+    ∙ ap (λ (y : List ℕ). record { answer = readStated (R.Done (t .p) (t .order) (t .n) (weightNumber (t .weights)) (length ws)); ws = ws ++ drop (length ws) ow; cs = y ++ drop (length ws) oc }) (coefs-terms ws cs (sym (w .lent))))

@@ -1,5 +1,6 @@
 -- Blocks put one after the other, and the outcome of writing at each of its returns. Assumes nothing.
 use mathlib.Core.Path.{_≡_, refl, sym, ap, ap₂, _∙_}
+use mathlib.Core.Bool.{true, _&&_}
 use mathlib.Core.List.{List, _++_}
 use Prim.Native.Nat.{ℕ, zero, suc, _+_, _-_, _*_, _<_, _≤_, min}
 use native.Mathlib.Decide.{decLe}
@@ -9,8 +10,9 @@ use borrow.Author.Tests.{eqb-true, leb-true, eq-eqb, ne-eqb, le-leb, lt-leb}
 use lib.Dec.{leb, eqb}
 use lib.ListN.{length, take, drop, length-append, length-take, length-drop}
 use lib.Seq.{sets, sets-eq, length-sets, take-all}
-use Rattle.limits.specs.Limits.{mostTerms}
+use Rattle.limits.specs.Limits.{mostTerms, weightCount}
 use Rattle.refusal.specs.Table.{listed}
+use Rattle.monomial.proofs.Places.{and-both}
 use Rattle.polynomial.specs.Terms.{Term, terms}
 use Rattle.polynomial.specs.Opening.{first, polynomialRefusal}
 use Rattle.polynomial.proofs.TermLists.{length-terms, terms-drop, terms-take}
@@ -24,7 +26,7 @@ use Rattle.block.specs.Block.{block, termsOf, blockCount, firstBlocksWith, firs
 use Rattle.block.proofs.ByteLaws.{joined}
 use Rattle.block.proofs.BlockLaws.{length-block}
 use Rattle.block_form.specs.Form.{hereOf}
-use Rattle.blocks.specs.Outcome.{writeRefusal, WriteOutcome, writtenBy}
+use Rattle.blocks.specs.Outcome.{sizesGood, writeRefusal, WriteOutcome, writtenBy}
 
 -- ---- the terms of a block
 pub length-termsOf : (k : ℕ) (ts : List (Term ℕ)) → length (termsOf k ts) ≡ hereOf (length ts) k
@@ -90,35 +92,43 @@ module _ (t : Setting) (ws cs : List ℕ) (room : ℕ) where
   stop-setting r e h = rw (← e) (first-some r _ h)
 
   module _ (z : setting t ≡ 0) where
-    pub stop-lengths : (length ws ≡ length cs → ⊥) → 8 ≡ writeRefusal t ws cs room
+    pub stop-weights : (length (t .weights) ≡ weightCount → ⊥) → 8 ≡ writeRefusal t ws cs room
     unfolding writeRefusal
-    stop-lengths h = rw (z, ne-eqb (length ws) (length cs) h)
+    stop-weights h = rw (z, ne-eqb (length (t .weights)) weightCount h)
 
-    module _ (l : length ws ≡ length cs) where
-      pub stop-terms : (r : ℕ) → r ≡ polynomialRefusal t (terms ws cs) → (r ≡ 0 → ⊥) → r ≡ writeRefusal t ws cs room
+    module _ (six : length (t .weights) ≡ weightCount) where
+      pub stop-lengths : (length ws ≡ length cs → ⊥) → 8 ≡ writeRefusal t ws cs room
       unfolding writeRefusal
-      stop-terms r e h = rw (z, eq-eqb (length ws) (length cs) l, ← e) (first-some r _ h)
+      stop-lengths h = rw (z, eq-eqb (length (t .weights)) weightCount six, ne-eqb (length ws) (length cs) h)
 
-      module _ (g : polynomialRefusal t (terms ws cs) ≡ 0) where
-        pub stop-many : mostTerms < length ws → 11 ≡ writeRefusal t ws cs room
+      module _ (l : length ws ≡ length cs) where
+        sizes : sizesGood (length (t .weights)) (length ws) (length cs) ≡ true
+        sizes = ap₂ _&&_ (eq-eqb (length (t .weights)) weightCount six) (eq-eqb (length ws) (length cs) l)
+
+        pub stop-terms : (r : ℕ) → r ≡ polynomialRefusal t (terms ws cs) → (r ≡ 0 → ⊥) → r ≡ writeRefusal t ws cs room
         unfolding writeRefusal
-        stop-many h = rw (z, eq-eqb (length ws) (length cs) l, g, lt-leb (length ws) mostTerms h)
+        stop-terms r e h = rw (z, sizes, ← e) (first-some r _ h)
 
-        module _ (few : length ws ≤ mostTerms) where
-          pub stop-room : room < 512 * blockCount (length ws) → 10 ≡ writeRefusal t ws cs room
+        module _ (g : polynomialRefusal t (terms ws cs) ≡ 0) where
+          pub stop-many : mostTerms < length ws → 11 ≡ writeRefusal t ws cs room
           unfolding writeRefusal
-          stop-room h = rw (z, eq-eqb (length ws) (length cs) l, g, le-leb (length ws) mostTerms few, lt-leb (512 * blockCount (length ws)) room h)
+          stop-many h = rw (z, sizes, g, lt-leb (length ws) mostTerms h)
 
-          pub no-stop : 512 * blockCount (length ws) ≤ room → 0 ≡ writeRefusal t ws cs room
-          unfolding writeRefusal
-          no-stop h = rw (z, eq-eqb (length ws) (length cs) l, g, le-leb (length ws) mostTerms few, le-leb (512 * blockCount (length ws)) room h)
+          module _ (few : length ws ≤ mostTerms) where
+            pub stop-room : room < 512 * blockCount (length ws) → 10 ≡ writeRefusal t ws cs room
+            unfolding writeRefusal
+            stop-room h = rw (z, sizes, g, le-leb (length ws) mostTerms few, lt-leb (512 * blockCount (length ws)) room h)
+
+            pub no-stop : 512 * blockCount (length ws) ≤ room → 0 ≡ writeRefusal t ws cs room
+            unfolding writeRefusal
+            no-stop h = rw (z, sizes, g, le-leb (length ws) mostTerms few, le-leb (512 * blockCount (length ws)) room h)
 
 -- the refusal is one of the table's
 pub write-numbered : (t : Setting) (ws cs : List ℕ) (room : ℕ) → Numbered (writeRefusal t ws cs room)
 unfolding writeRefusal listed
 write-numbered t ws cs room =
     first-numbered _ _ (setting-numbered t)
-    (first-numbered _ _ (unless-numbered (eqb (length ws) (length cs)) 8 refl)
+    (first-numbered _ _ (unless-numbered (sizesGood (length (t .weights)) (length ws) (length cs)) 8 refl)
     (first-numbered _ _ (polynomial-numbered t (terms ws cs))
     (first-numbered _ _ (unless-numbered (leb (length ws) mostTerms) 11 refl)
     (unless-numbered (leb (512 * blockCount (length ws)) room) 10 refl))))
@@ -127,6 +137,7 @@ write-numbered t ws cs room =
 pub record Writable (t : Setting) (ws cs : List ℕ) (room : ℕ) : Type 0 where
   pub set : Set t
   pub passes-setting : setting t ≡ 0
+  pub six : length (t .weights) ≡ weightCount
   pub lent : length ws ≡ length cs
   pub good : polynomialRefusal t (terms ws cs) ≡ 0
   pub few : length ws ≤ mostTerms
@@ -138,15 +149,18 @@ write-passes t ws cs room h =
     let r = polynomialRefusal t (terms ws cs) in
     let few = unless (leb (length ws) mostTerms) 11 in
     let full = unless (leb (512 * blockCount (length ws)) room) 10 in
-    let lent = unless (eqb (length ws) (length cs)) 8 in
+    let sizes = sizesGood (length (t .weights)) (length ws) (length cs) in
+    let lent = unless sizes 8 in
     let a = first-none (setting t) (first lent (first r (first few full))) h in
     let b = first-none lent (first r (first few full)) (a .1) in
     let d = first-none r (first few full) (b .1) in
     let e = first-none few full (d .1) in
+    let g = and-both (eqb (length (t .weights)) weightCount) (eqb (length ws) (length cs)) (passed sizes 8 (omega arith) (b .0)) in
     record {
       set = setting-passes t (a .0);
       passes-setting = a .0;
-      lent = eqb-true (length ws) (length cs) (passed (eqb (length ws) (length cs)) 8 (omega arith) (b .0));
+      six = eqb-true (length (t .weights)) weightCount (g .0);
+      lent = eqb-true (length ws) (length cs) (g .1);
       good = d .0;
       few = leb-true (length ws) mostTerms (passed (leb (length ws) mostTerms) 11 (omega arith) (e .0));
       enough = leb-true (512 * blockCount (length ws)) room (passed (leb (512 * blockCount (length ws)) room) 10 (omega arith) (e .1));

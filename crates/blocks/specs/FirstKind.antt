@@ -1,4 +1,4 @@
--- What the entries of the first kind answered: document 01's, before document 02 ("Larger primes."). Theorems compare today's with them; no code has them. Assumes nothing.
+-- What the entries of the first kind answered: document 01's, before document 02 ("Larger primes." and "Weighted degrees."). Their settings have weights of 1. Theorems compare today's with them; no code has them. Assumes nothing.
 use Prim.Native.Nat.{ℕ}
 use mathlib.Core.List.{List}
 use lib.Dec.{leb}

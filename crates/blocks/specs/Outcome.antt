@@ -1,15 +1,16 @@
--- The outcomes of writing and of reading blocks (document 01, "Blocks" and "Refusals by cause"): the answer, and each lent slice that can change, from what came in. "Both change nothing on refusal, and no byte past their result." Assumes nothing.
+-- The outcomes of writing and of reading blocks (document 01, "Blocks" and "Refusals by cause"; document 02, "Weighted degrees."): the answer, and each lent slice that can change, from what came in. "Both change nothing on refusal, and no byte past their result." Assumes nothing.
 use Prim.Native.Nat.{ℕ, zero, suc, _*_}
+use mathlib.Core.Bool.{Bool, _&&_}
 use mathlib.Core.List.{List, _++_}
 use lib.Dec.{leb, eqb}
 use lib.ListN.{length, drop}
-use Rattle.limits.specs.Limits.{mostTerms}
+use Rattle.limits.specs.Limits.{mostTerms, weightCount}
 use Rattle.refusal.specs.Table.{numberOf}
 use Rattle.polynomial.specs.Terms.{Term, terms, words, coefs}
 use Rattle.polynomial.specs.Opening.{first, polynomialRefusal}
 use Rattle.opening.specs.Run.{unless, setting}
 use Rattle.polynomial.specs.declared.setting.Setting.{Setting}
-use Rattle.block.specs.Block.{blockCount, settingBytes, blocksWith, settingIn}
+use Rattle.block.specs.Block.{blockCount, weightNumber, settingBytes, blocksWith, settingIn}
 use Rattle.blocks.specs.Reading.{termsIn, readRefusal}
 use Rattle.blocks.specs.declared.write.Writing.{Writing}
 use Rattle.blocks.specs.declared.write.Writing.the-variants as W
@@ -18,11 +19,15 @@ use Rattle.blocks.specs.declared.read.Reading.the-variants as R
 
 -- ---- writing
 
--- "Writing: 1 to 3, 8, 4 to 6, 11, 10." The room is in bytes; "reading or writing blocks needs all of its places".
+-- 8: there are six weights, and as many words as coefficients
+abbrev pub sizesGood : (weights words coefs : ℕ) → Bool
+sizesGood weights words coefs = eqb weights weightCount && eqb words coefs
+
+-- "Writing: 1 to 3, 8, 4 to 6, 11, 10.", with 24 "after 3". The room is in bytes; "reading or writing blocks needs all of its places".
 unfoldable pub writeRefusal : Setting → (ws cs : List ℕ) (room : ℕ) → ℕ
 writeRefusal t ws cs room =
     first (setting t)
-    (first (unless (eqb (length ws) (length cs)) 8)
+    (first (unless (sizesGood (length (t .weights)) (length ws) (length cs)) 8)
     (first (polynomialRefusal t (terms ws cs))
     (first (unless (leb (length ws) mostTerms) 11)
     (unless (leb (512 * blockCount (length ws)) room) 10))))
@@ -54,18 +59,19 @@ writeOutcome t ws cs bytes = writtenBy (writeRefusal t ws cs (length bytes)) t (
 
 -- ---- reading
 
--- the same of reading: number, operations finished, the setting and how many terms were read
+-- the same of reading: number, operations finished, the setting, its weights as one number as a header has them, and how many terms were read
 pub record ReadStated : Type 0 where
   pub number : ℕ
   pub finished : ℕ
   pub p : ℕ
   pub order : ℕ
   pub n : ℕ
+  pub weights : ℕ
   pub terms : ℕ
 
 abbrev pub readStated : Reading → ReadStated
-readStated (R.Done p order n terms) = record { number = 0; finished = 0; p = p; order = order; n = n; terms = terms }
-readStated (R.Refused refusal finished) = record { number = numberOf refusal; finished = finished; p = 0; order = 0; n = 0; terms = 0 }
+readStated (R.Done p order n weights terms) = record { number = 0; finished = 0; p = p; order = order; n = n; weights = weights; terms = terms }
+readStated (R.Refused refusal finished) = record { number = numberOf refusal; finished = finished; p = 0; order = 0; n = 0; weights = 0; terms = 0 }
 
 pub record ReadOutcome : Type 0 where
   pub answer : ReadStated
@@ -74,11 +80,11 @@ pub record ReadOutcome : Type 0 where
 
 abbrev pub readBy : (refusal : ℕ) → Setting → List (Term ℕ) → (ws cs : List ℕ) → ReadOutcome
 readBy zero t ts ws cs = record {
-  answer = record { number = 0; finished = 0; p = t .p; order = t .order; n = t .n; terms = length ts };
+  answer = record { number = 0; finished = 0; p = t .p; order = t .order; n = t .n; weights = weightNumber (t .weights); terms = length ts };
   ws = words ts ++ drop (length ts) ws;
   cs = coefs ts ++ drop (length ts) cs;
 }
-readBy (suc r) t ts ws cs = record { answer = record { number = suc r; finished = 0; p = 0; order = 0; n = 0; terms = 0 }; ws = ws; cs = cs }
+readBy (suc r) t ts ws cs = record { answer = record { number = suc r; finished = 0; p = 0; order = 0; n = 0; weights = 0; terms = 0 }; ws = ws; cs = cs }
 
 abbrev pub readOutcome : (bytes ws cs : List ℕ) → ReadOutcome
 readOutcome bytes ws cs = readBy (readRefusal bytes (length ws) (length cs)) (settingIn bytes) (termsIn bytes) ws cs

@@ -27,9 +27,9 @@ firstTerms s (suc i) = firstTerms s i ++ (termAt s i ∷ [])
 abbrev pub termsIn : List ℕ → List (Term ℕ)
 termsIn s = firstTerms s (totalIn s)
 
--- ---- "Reading: 8, 14, 15 for all blocks, 16, then 1 to 6, then 10."
+-- ---- "Reading: 8, 14, 15 for all blocks, 16, then 1 to 6, then 10.", with 24 "after 3"
 
--- 1 to 6, then 10, for the terms in a setting; ow is how many words are lent
+-- 1 to 3, 24, 4 to 6, then 10, for the terms in a setting; ow is how many words are lent
 unfoldable pub contentWith : Setting → List ℕ → (ow : ℕ) → ℕ
 contentWith t s ow = first (setting t) (first (polynomialRefusal t (termsIn s)) (unless (leb (totalIn s) ow) 10))
 

@@ -2,6 +2,7 @@
 use crate::terms::check_terms;
 use crate::terms::get_terms;
 use block::header::get_setting;
+use block::weights::weight_number;
 use block_form::count::total_in;
 use block_form::form::form_refusal;
 use opening::setting::setting;
@@ -12,13 +13,14 @@ ghost use Rattle.block_form.specs.Form.{Formed};
 ghost use Rattle.blocks.specs.Reading.{contentRefusal, readRefusal};
 ghost use Rattle.blocks.specs.Outcome.{ReadOutcome, readStated, readOutcome};
 
-// The polynomial is read: its setting, and its terms in the lent words and coefficients; or the bytes
-// are refused, with nothing changed.
+// The polynomial is read: its setting, with the weights as one number as a header has them, and its
+// terms in the lent words and coefficients; or the bytes are refused, with nothing changed.
 pub enum Reading {
     Done {
         p: u32,
         order: u32,
         n: u32,
+        weights: u64,
         terms: u64,
     },
     Refused {
@@ -43,10 +45,12 @@ pub fn read_blocks(s: &[u8], words: &mut [u64], coefs: &mut [u32]) -> Reading
     let total = total_in(s);
     get_terms(s, total, words, coefs);
     let t = get_setting(s, 0);
+    let weights = t.weights;
     Reading::Done {
         p: t.p,
         order: t.order,
         n: t.n,
+        weights: weight_number(&weights) as u64,
         terms: total as u64,
     }
 }
@@ -62,13 +66,14 @@ fn read_refusal(s: &[u8], ow: usize, oc: usize) -> u32
     content_refusal(s, ow)
 }
 
-// The refusal of the polynomial in the blocks: 1 to 6, then 10.
+// The refusal of the polynomial in the blocks: 1 to 3, 24, 4 to 6, then 10.
 fn content_refusal(s: &[u8], ow: usize) -> u32
     requires { ⌜ Formed (now s) ⌝ }
     ensures { λ r. ⌜ r ≡ contentRefusal (now (s .entry)) ow ⌝ }
 {
     let t = get_setting(s, 0);
-    let number = setting(t);
+    let weights = t.weights;
+    let number = setting(t.p, t.order, t.n, &weights);
     if number != 0 {
         return number;
     }

@@ -1,6 +1,7 @@
 // The terms in blocks: where they lie, their opening check, and their copies.
 use block::number::get_4;
 use block::number::get_8;
+use monomial::exponents::weight_word;
 use monomial::layout::beyond_bits;
 use monomial::order::order_of;
 use polynomial::check::check_fall;
@@ -10,6 +11,7 @@ ghost use mathlib.Core.Path.{_≡_};
 ghost use Prim.Native.Nat.{_+_, _≤_, _<_};
 ghost use lib.ListN.{length};
 ghost use lib.Seq.{sets};
+ghost use Rattle.polynomial.specs.Settings.{Testable};
 ghost use Rattle.polynomial.specs.Terms.{words, coefs};
 ghost use Rattle.polynomial.specs.Opening.{polynomialRefusal};
 ghost use Rattle.block_form.specs.Form.{Lying};
@@ -30,13 +32,15 @@ fn next_place(at: usize) -> usize
 // The refusal of the terms as a polynomial in a setting: the first place with 4 or 5, and else 6 where
 // they do not fall. One pass over the places.
 pub fn check_terms(t: Setting, s: &[u8], total: usize) -> u32
-    requires { ⌜ (t .n ≤ 6) × Lying (now s) total ⌝ }
+    requires { ⌜ Testable t × Lying (now s) total ⌝ }
     ensures { λ r. ⌜ r ≡ polynomialRefusal t (firstTerms (now (s .entry)) total) ⌝ }
 {
     let order = order_of(t.order);
     let n = t.n;
     let p = t.p;
+    let six = t.weights;
     let beyond = beyond_bits(order, n);
+    let weights = weight_word(order, &six);
     let mut late: u32 = 0;
     let mut seen = false;
     let mut last: u64 = 0;
@@ -47,7 +51,7 @@ pub fn check_terms(t: Setting, s: &[u8], total: usize) -> u32
         late = check_fall(order, seen, last, word, late);
         seen = true;
         last = word;
-        let stop = check_term(beyond, p, word, get_4(s, at + 8));
+        let stop = check_term(beyond, weights, p, word, get_4(s, at + 8));
         if stop != 0 {
             return stop;
         }

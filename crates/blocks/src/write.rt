@@ -3,9 +3,11 @@ use block::block::put_block;
 use block_form::count::block_count;
 use block_form::count::here_of;
 use limits::MOST_TERMS;
+use limits::WEIGHTS;
 use opening::setting::setting;
 use polynomial::check::check;
 use polynomial::setting::Setting;
+use polynomial::setting::setting_of;
 use refusal::Refusal;
 use refusal::refusal_of;
 ghost use mathlib.Core.Path.{_≡_};
@@ -29,16 +31,16 @@ pub fn write_blocks(
     p: u32,
     order: u32,
     n: u32,
+    weights: &[u32],
     words: &[u64],
     coefs: &[u32],
     s: &mut [u8],
 ) -> Writing
     ensures { λ r. ⌜ _≡_ {A = WriteOutcome}
         (record { answer = writeStated r; bytes = now (s .exit) })
-        (writeOutcome (settingOf p order n) (now (words .entry)) (now (coefs .entry)) (now (s .entry))) ⌝ }
+        (writeOutcome (settingOf p order n (now (weights .entry))) (now (words .entry)) (now (coefs .entry)) (now (s .entry))) ⌝ }
 {
-    let t = Setting { p, order, n };
-    let number = write_refusal(t, words, coefs, s.len());
+    let number = write_refusal(p, order, n, weights, words, coefs, s.len());
     if number != 0 {
         return Writing::Refused {
             refusal: refusal_of(number),
@@ -46,23 +48,37 @@ pub fn write_blocks(
         };
     }
     let count = block_count(words.len());
+    let t = setting_of(p, order, n, weights);
     put_blocks(t, words, coefs, count, s);
     Writing::Done {
         blocks: count as u64,
     }
 }
 
-// The refusal of a polynomial with room for so many bytes, 0 for none: 1 to 3, 8, 4 to 6, 11, 10.
-fn write_refusal(t: Setting, words: &[u64], coefs: &[u32], room: usize) -> u32
-    ensures { λ r. ⌜ r ≡ writeRefusal t (now (words .entry)) (now (coefs .entry)) room ⌝ }
+// The refusal of a polynomial with room for so many bytes, 0 for none: 1 to 3, 24, 8, 4 to 6,
+// 11, 10.
+fn write_refusal(
+    p: u32,
+    order: u32,
+    n: u32,
+    weights: &[u32],
+    words: &[u64],
+    coefs: &[u32],
+    room: usize,
+) -> u32
+    ensures { λ r. ⌜ r ≡ writeRefusal (settingOf p order n (now (weights .entry))) (now (words .entry)) (now (coefs .entry)) room ⌝ }
 {
-    let number = setting(t);
+    let number = setting(p, order, n, weights);
     if number != 0 {
         return number;
+    }
+    if weights.len() != WEIGHTS {
+        return 8;
     }
     if words.len() != coefs.len() {
         return 8;
     }
+    let t = setting_of(p, order, n, weights);
     let number = check(t, words, coefs);
     if number != 0 {
         return number;

@@ -1,13 +1,15 @@
 // The lengths of what is lent.
 use limits::BUCKET_PLACES;
 use limits::MOST_OPERATIONS;
+use limits::WEIGHTS;
 use limits::WORK_PLACES;
 ghost use mathlib.Core.Path.{_≡_};
 ghost use Rattle.conditions.specs.Lengths.{spaceGood, lentGood, pairsGood};
 
-// Whether there are as many words as coefficients, in input and output, and the bucket and work space
-// have their sizes.
+// Whether there are six weights, as many words as coefficients, in input and output, and the bucket and
+// work space have their sizes.
 pub fn lent_good(
+    weights: usize,
     words: usize,
     coefs: usize,
     bw: usize,
@@ -17,8 +19,11 @@ pub fn lent_good(
     ow: usize,
     oc: usize,
 ) -> bool
-    ensures { λ r. ⌜ r ≡ lentGood words coefs bw bc ww wc ow oc ⌝ }
+    ensures { λ r. ⌜ r ≡ lentGood weights words coefs bw bc ww wc ow oc ⌝ }
 {
+    if weights != WEIGHTS {
+        return false;
+    }
     if words != coefs {
         return false;
     }

@@ -18,6 +18,7 @@ pub extern "C" fn damselbuckle_reduce<'t, 'a>(
     p: u32,
     order: u32,
     n: u32,
+    weights: &[u32],
     words: &'a [u64],
     coefs: &'a [u32],
     starts: &[usize],
@@ -31,13 +32,14 @@ pub extern "C" fn damselbuckle_reduce<'t, 'a>(
 ) -> ReductionAnswer
     ensures { λ r. ⌜ _≡_ {A = Outcome}
         (record { answer = reductionStated r; tally = now (tally .exit); bw = now (bw .exit); bc = now (bc .exit); ww = now (ww .exit); wc = now (wc .exit); ow = now (ow .exit); oc = now (oc .exit) })
-        (reductionOutcome (now (tally .entry)) (settingOf p order n) (now (words .entry)) (now (coefs .entry)) (now (starts .entry)) limit (now (bw .entry)) (now (bc .entry)) (now (ww .entry)) (now (wc .entry)) (now (ow .entry)) (now (oc .entry))) ⌝ }
+        (reductionOutcome (now (tally .entry)) (settingOf p order n (now (weights .entry))) (now (words .entry)) (now (coefs .entry)) (now (starts .entry)) limit (now (bw .entry)) (now (bc .entry)) (now (ww .entry)) (now (wc .entry)) (now (ow .entry)) (now (oc .entry))) ⌝ }
 {
     let reduced = reduction_numbers(
         *tally,
         p,
         order,
         n,
+        weights,
         words,
         coefs,
         starts,
@@ -59,6 +61,7 @@ pub fn reduction_numbers<'a>(
     p: u32,
     order: u32,
     n: u32,
+    weights: &[u32],
     words: &'a [u64],
     coefs: &'a [u32],
     starts: &[usize],
@@ -72,13 +75,14 @@ pub fn reduction_numbers<'a>(
 ) -> ReductionNumbers
     ensures { λ r. ⌜ _≡_ {A = Outcome}
         (record { answer = reductionStated (r .answer); tally = r .tally; bw = now (bw .exit); bc = now (bc .exit); ww = now (ww .exit); wc = now (wc .exit); ow = now (ow .exit); oc = now (oc .exit) })
-        (reductionOutcome tally (settingOf p order n) (now (words .entry)) (now (coefs .entry)) (now (starts .entry)) limit (now (bw .entry)) (now (bc .entry)) (now (ww .entry)) (now (wc .entry)) (now (ow .entry)) (now (oc .entry))) ⌝ }
+        (reductionOutcome tally (settingOf p order n (now (weights .entry))) (now (words .entry)) (now (coefs .entry)) (now (starts .entry)) limit (now (bw .entry)) (now (bc .entry)) (now (ww .entry)) (now (wc .entry)) (now (ow .entry)) (now (oc .entry))) ⌝ }
 {
     let reduced = reduce(
         tally,
         p,
         order,
         n,
+        weights,
         words,
         coefs,
         starts,

@@ -16,15 +16,16 @@ pub extern "C" fn damselbuckle_write_blocks(
     p: u32,
     order: u32,
     n: u32,
+    weights: &[u32],
     words: &[u64],
     coefs: &[u32],
     bytes: &mut [u8],
 ) -> WriteAnswer
     ensures { λ r. ⌜ _≡_ {A = WriteOutcome}
         (record { answer = writeAnswered r; bytes = now (bytes .exit) })
-        (writeOutcome (settingOf p order n) (now (words .entry)) (now (coefs .entry)) (now (bytes .entry))) ⌝ }
+        (writeOutcome (settingOf p order n (now (weights .entry))) (now (words .entry)) (now (coefs .entry)) (now (bytes .entry))) ⌝ }
 {
-    let answer = write_blocks(p, order, n, words, coefs, bytes);
+    let answer = write_blocks(p, order, n, weights, words, coefs, bytes);
     of_writing(answer)
 }
 

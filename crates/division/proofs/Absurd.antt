@@ -50,18 +50,18 @@ never-x1 (a ∷ []) e = let z : _≡_ {A = ℕ} 1 2 = ap length e in omega (arit
 never-x1 (a ∷ (b ∷ α)) e = let z : b + 1 ≡ 0 = ap (λ (l : List ℕ). getD l 1 0) e in omega (arith, z)
 
 -- In words: their sum as numbers could take x2 to x1, but by no word of the layout.
-pub absurd-in-words : (o : Order) → Combination (compareWords o) _+_ (λ w. Layout o 2 w) 7 ((term (wordOf o (0 ∷ 1 ∷ [])) 1 ∷ []) ∷ []) (term (wordOf o (1 ∷ 0 ∷ [])) 1 ∷ []) [] → ⊥
-absurd-in-words o = never-multiple (compareWords o) (words-order o) _+_ (λ w. Layout o 2 w) 7 (term (wordOf o (0 ∷ 1 ∷ [])) 1) (term (wordOf o (1 ∷ 0 ∷ [])) 1) never (omega arith) (omega arith)
+pub absurd-in-words : (o : Order) (vs : List ℕ) → Combination (compareWords o) _+_ (λ w. Layout o 2 vs w) 7 ((term (wordOf o vs (0 ∷ 1 ∷ [])) 1 ∷ []) ∷ []) (term (wordOf o vs (1 ∷ 0 ∷ [])) 1 ∷ []) [] → ⊥
+absurd-in-words o vs = never-multiple (compareWords o) (words-order o) _+_ (λ w. Layout o 2 vs w) 7 (term (wordOf o vs (0 ∷ 1 ∷ [])) 1) (term (wordOf o vs (1 ∷ 0 ∷ [])) 1) never (omega arith) (omega arith)
   where
-    x2 : exponents o 2 (wordOf o (0 ∷ 1 ∷ [])) ≡ 0 ∷ 1 ∷ []
-    x2 = exponents-word o 2 (0 ∷ 1 ∷ []) refl (omega arith) (omega arith, (omega arith, tt))
+    x2 : exponents o 2 (wordOf o vs (0 ∷ 1 ∷ [])) ≡ 0 ∷ 1 ∷ []
+    x2 = exponents-word o 2 vs (0 ∷ 1 ∷ []) refl (omega arith) (omega arith, (omega arith, tt))
 
-    x1 : exponents o 2 (wordOf o (1 ∷ 0 ∷ [])) ≡ 1 ∷ 0 ∷ []
-    x1 = exponents-word o 2 (1 ∷ 0 ∷ []) refl (omega arith) (omega arith, (omega arith, tt))
+    x1 : exponents o 2 (wordOf o vs (1 ∷ 0 ∷ [])) ≡ 1 ∷ 0 ∷ []
+    x1 = exponents-word o 2 vs (1 ∷ 0 ∷ []) refl (omega arith) (omega arith, (omega arith, tt))
 
-    never : (q : ℕ) → Layout o 2 q → q + wordOf o (0 ∷ 1 ∷ []) ≡ wordOf o (1 ∷ 0 ∷ []) → ⊥
+    never : (q : ℕ) → Layout o 2 vs q → q + wordOf o vs (0 ∷ 1 ∷ []) ≡ wordOf o vs (1 ∷ 0 ∷ []) → ⊥
     never q l e =
         never-x1 (exponents o 2 q)
         (ap (product (exponents o 2 q)) (sym x2)
-        ∙ (sym (product-exponents o 2 q (wordOf o (0 ∷ 1 ∷ [])) (omega arith) l (layout-word o 2 (0 ∷ 1 ∷ []) refl (omega arith) (omega arith, (omega arith, tt))))
+        ∙ (sym (product-exponents o 2 vs q (wordOf o vs (0 ∷ 1 ∷ [])) (omega arith) l (layout-word o 2 vs (0 ∷ 1 ∷ []) refl (omega arith) (omega arith, (omega arith, tt))))
         ∙ (ap (exponents o 2) e ∙ x1)))

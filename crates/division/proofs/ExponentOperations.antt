@@ -23,11 +23,11 @@ quotient-back (a ∷ α) (b ∷ β) l d =
     let h : a - b + b ≡ a = omega arith in
     ap₂ _∷_ h (quotient-back α β (omega arith) (e .1))
 
-pub exponent-operations : (o : Order) (n : ℕ) → Operations (List ℕ) (compareIn o) divides quotient product (λ a b. false) (λ α. length α ≡ n)
-exponent-operations o n = record {
+pub exponent-operations : (o : Order) (n : ℕ) (vs : List ℕ) → Operations (List ℕ) (compareIn o vs) divides quotient product (λ a b. false) (λ α. length α ≡ n)
+exponent-operations o n vs = record {
   quotient-is = λ α β a b d. length-each (λ i j. i - j) α β (a ∙ sym b) ∙ a;
   back = λ α β a b d. quotient-back α β (a ∙ sym b) d;
   back-fits = λ α β a b d. refl;
   product-is = λ α β a b h. length-each (λ i j. i + j) α β (a ∙ sym b) ∙ a;
-  keeps = λ γ α β c a b h k. product-keeps o γ α β (c ∙ sym a) (c ∙ sym b);
+  keeps = λ γ α β c a b h k. product-keeps o vs γ α β (c ∙ sym a) (c ∙ sym b);
 }

@@ -3,13 +3,14 @@ use Prim.Native.Nat.{ℕ}
 use mathlib.Core.List.{List, [], _∷_}
 use Rattle.limits.specs.Limits.{mostTerms}
 use Rattle.monomial.specs.declared.order.Order.the-variants.{DegRevLex}
+use Rattle.monomial.specs.Exponents.{ones}
 use Rattle.monomial.specs.Layout.{wordOf}
 use Rattle.polynomial.specs.Terms.{Term, term}
 use Rattle.division.specs.Steps.{Reduction, reductionOfWords}
 
 -- the coefficient and the exponents of a term in dp, as the script has them
 abbrev pub in-dp : ℕ → List ℕ → Term ℕ
-in-dp c α = term (wordOf DegRevLex α) c
+in-dp c α = term (wordOf DegRevLex ones α) c
 
 -- x1²x2 + x1x2² + x2², and the divisors x1x2+6 and x2²+6
 abbrev pub dividend : List (Term ℕ)

@@ -4,7 +4,7 @@ use native.Mathlib.Omega.{arith}
 use mathlib.Core.Path.{_≡_, refl, sym, ap, _∙_}
 use mathlib.Core.Bool.{Bool, true, false}
 use mathlib.Core.List.{List, [], _∷_, _++_, map, append-nil}
-use mathlib.Core.Option.{none, some}
+use mathlib.Core.Option.{Option, none, some}
 use borrow.Author.Tests.{eqb-true, ltb-true, leb-true}
 use lib.Dec.{eqb, ltb, leb}
 use lib.ListN.{length, take, drop}
@@ -16,8 +16,8 @@ use Rattle.text.specs.Numbers.{decimal, andThen, onlyIf, numberOf}
 use Rattle.text.proofs.ByteLaws.{cons, begins-is, same-is, parts-some, joined-parts, cut}
 use Rattle.text.proofs.NumberLaws.{then-some, only-if, number-read}
 use Rattle.grammar.specs.Grammar
-use Rattle.grammar.specs.Grammar.{Entry, Line, addLine, Script, prime-word, order-word, vars-word, add-word, lead-word, sum-word, orderName, entryText, entriesText, lineText, linesText, scriptText, Small, AllSmall, GoodEntry, GoodEntries, GoodLine, GoodLines, GoodScript}
-use Rattle.grammar.specs.Reading.{numbersOf, exponentsOf, entryBy, entryOf, entriesOf, fieldsOf, addOf, lineBy, lineOf, linesOf, numberIf, afterWord, orderBy, orderRead, withHeader, scriptOf}
+use Rattle.grammar.specs.Grammar.{Entry, Line, addLine, Script, prime-word, order-word, vars-word, weights-word, add-word, lead-word, sum-word, orderName, entryText, entriesText, lineText, linesText, spacedText, restText, scriptText, Small, AllSmall, GoodEntry, GoodEntries, GoodLine, GoodLines, GoodWeights, GoodScript}
+use Rattle.grammar.specs.Reading.{numbersOf, exponentsOf, entryBy, entryOf, entriesOf, fieldsOf, addOf, lineBy, lineOf, linesOf, numberIf, afterWord, orderBy, orderRead, spacedOf, weightsOf, scriptFrom, restBy, restOf, withHeader, scriptOf}
 
 pub never : {A : Type 0} {a : A} {B : Type 0} → none ≡ some a → B
 never e = absurd (let z : _≡_ {A = ℕ} 0 1 = cc in let y : ⊥ = omega arith in y)
@@ -113,7 +113,25 @@ lines-read n (s ∷ (r ∷ rs)) ls e =
     let i = lines-read n (r ∷ rs) (u .0) (u .1) in
     rw (← is-some (u .2)) ((a .0, i .0), ap (λ (x : List ℕ). x ++ (10 ∷ joined 10 (r ∷ rs))) (a .1) ∙ ap (λ (x : List ℕ). lineText (t .0) ++ (10 ∷ x)) (i .1))
 
--- ---- the first three lines
+-- ---- the first lines
+-- numbers, each behind a space
+pub spaced-joined : (vs : List ℕ) → joined 32 ([] ∷ map decimal vs) ≡ spacedText vs
+unfolding spacedText joined
+spaced-joined [] = refl
+spaced-joined (v ∷ vs) = ap (λ (l : List ℕ). 32 ∷ l) (joined-front 32 (decimal v) (map decimal vs) ∙ ap (λ (l : List ℕ). decimal v ++ l) (spaced-joined vs))
+
+spaced-read : (ps : List (List ℕ)) (vs : List ℕ) → spacedOf ps ≡ some vs → AllSmall vs × (joined 32 ps ≡ spacedText vs)
+spaced-read [] vs e = never e
+spaced-read ((b ∷ p) ∷ fs) vs e = never e
+spaced-read ([] ∷ fs) vs e = let i = numbers-read fs vs e in (i .0, ap (λ (l : List (List ℕ)). joined 32 ([] ∷ l)) (i .1) ∙ spaced-joined vs)
+
+weights-read : (n : ℕ) (s vs : List ℕ) → weightsOf n s ≡ some vs → AllSmall vs × (length vs ≡ n) × (s ≡ spacedText vs)
+weights-read n s vs e =
+    let t = then-some (spacedOf (parts 32 s)) (λ us. onlyIf (eqb (length us) n) us) vs e in
+    let o = only-if (eqb (length (t .0)) n) (t .0) vs (t .2) in
+    let i = spaced-read (parts 32 s) (t .0) (t .1) in
+    rw (← o .1) (i .0, eqb-true _ _ (o .0), sym (joined-parts 32 s) ∙ i .1)
+
 after-read : (w s : List ℕ) (v : ℕ) → afterWord w s ≡ some v → Small v × (s ≡ w ++ decimal v)
 after-read w s v e = go (begins w s) refl e
   where
@@ -139,25 +157,63 @@ joined-lines : (l : List ℕ) (ls : List (List ℕ)) (m : List ℕ) (r : List (L
 unfolding joined
 joined-lines l ls m r e = rw e
 
-header-read : (ps : List (List ℕ)) (s : Script) → withHeader ps ≡ some s → Small (s .prime) × Small (s .vars) × GoodLines (s .vars) (s .lines) × (joined 10 ps ≡ scriptText s)
+record RestRead (p : ℕ) (o : Order) (n : ℕ) (ls : List (List ℕ)) (s : Script) : Type 0 where
+  weights : Option (List ℕ)
+  lines : List Line
+  is : record { prime = p; order = o; vars = n; weights = weights; lines = lines } ≡ s
+  weights-good : GoodWeights n weights
+  lines-good : GoodLines n lines
+  text : joined 10 ls ≡ restText weights lines
+  first : List ℕ
+  others : List (List ℕ)
+  begin : ls ≡ first ∷ others
+
+rest-read : (p : ℕ) (o : Order) (n : ℕ) (ls : List (List ℕ)) (s : Script) → restOf p o n ls ≡ some s → RestRead p o n ls s
+rest-read p o n [] s e = never e
+rest-read p o n (l ∷ ls) s e = go (begins weights-word l) refl e
+  where
+    go : (b : Bool) → begins weights-word l ≡ b → restBy b p o n l ls ≡ some s → RestRead p o n (l ∷ ls) s
+    go true h e =
+        let t = then-some (weightsOf n (drop 7 l)) (λ vs. scriptFrom p o n (some vs) ls) s e in
+        let u = then-some (linesOf n ls) (λ xs. some (record { prime = p; order = o; vars = n; weights = some (t .0); lines = xs })) s (t .2) in
+        let w = weights-read n (drop 7 l) (t .0) (t .1) in
+        let i = lines-read n ls (u .0) (u .1) in
+        let m = some-lines n ls (u .0) (u .1) in
+        let front : l ≡ weights-word ++ spacedText (t .0) = begins-is weights-word l h ∙ ap (λ (x : List ℕ). weights-word ++ x) (w .2) in
+        record {
+          weights = some (t .0);
+          lines = u .0;
+          is = is-some (u .2);
+          weights-good = (w .0, w .1);
+          lines-good = i .0;
+          text = joined-lines l ls (m .0) (m .1) (m .2) ∙ (ap (λ (x : List ℕ). x ++ (10 ∷ joined 10 ls)) front ∙ ap (λ (x : List ℕ). (weights-word ++ spacedText (t .0)) ++ (10 ∷ x)) (i .1));
+          first = l;
+          others = ls;
+          begin = refl;
+        }
+    go false h e =
+        let u = then-some (linesOf n (l ∷ ls)) (λ xs. some (record { prime = p; order = o; vars = n; weights = none; lines = xs })) s e in
+        let i = lines-read n (l ∷ ls) (u .0) (u .1) in
+        record { weights = none; lines = u .0; is = is-some (u .2); weights-good = tt; lines-good = i .0; text = i .1; first = l; others = ls; begin = refl }
+
+header-read : (ps : List (List ℕ)) (s : Script) → withHeader ps ≡ some s → Small (s .prime) × Small (s .vars) × GoodWeights (s .vars) (s .weights) × GoodLines (s .vars) (s .lines) × (joined 10 ps ≡ scriptText s)
 unfolding scriptText
 header-read [] s e = never e
 header-read (a ∷ []) s e = never e
 header-read (a ∷ (b ∷ [])) s e = never e
 header-read (a ∷ (b ∷ (c ∷ ls))) s e =
-    let t = then-some (afterWord prime-word a) (λ p. andThen (orderRead b) (λ o. andThen (afterWord vars-word c) (λ n. andThen (linesOf n ls) (λ xs. some (record { prime = p; order = o; vars = n; lines = xs }))))) s e in
-    let u = then-some (orderRead b) (λ o. andThen (afterWord vars-word c) (λ n. andThen (linesOf n ls) (λ xs. some (record { prime = t .0; order = o; vars = n; lines = xs })))) s (t .2) in
-    let v = then-some (afterWord vars-word c) (λ n. andThen (linesOf n ls) (λ xs. some (record { prime = t .0; order = u .0; vars = n; lines = xs }))) s (u .2) in
-    let w = then-some (linesOf (v .0) ls) (λ xs. some (record { prime = t .0; order = u .0; vars = v .0; lines = xs })) s (v .2) in
+    let t = then-some (afterWord prime-word a) (λ p. andThen (orderRead b) (λ o. andThen (afterWord vars-word c) (λ n. restOf p o n ls))) s e in
+    let u = then-some (orderRead b) (λ o. andThen (afterWord vars-word c) (λ n. restOf (t .0) o n ls)) s (t .2) in
+    let v = then-some (afterWord vars-word c) (λ n. restOf (t .0) (u .0) n ls) s (u .2) in
     let p = after-read prime-word a (t .0) (t .1) in
     let o = order-read b (u .0) (u .1) in
     let n = after-read vars-word c (v .0) (v .1) in
-    let i = lines-read (v .0) ls (w .0) (w .1) in
-    let m = some-lines (v .0) ls (w .0) (w .1) in
-    let third : joined 10 (c ∷ ls) ≡ (vars-word ++ decimal (v .0)) ++ (10 ∷ linesText (w .0)) = joined-lines c ls (m .0) (m .1) (m .2) ∙ (ap (λ (x : List ℕ). x ++ (10 ∷ joined 10 ls)) (n .1) ∙ ap (λ (x : List ℕ). (vars-word ++ decimal (v .0)) ++ (10 ∷ x)) (i .1)) in
-    let second : joined 10 (b ∷ (c ∷ ls)) ≡ (order-word ++ orderName (u .0)) ++ (10 ∷ ((vars-word ++ decimal (v .0)) ++ (10 ∷ linesText (w .0)))) = joined-lines b (c ∷ ls) c ls refl ∙ (ap (λ (x : List ℕ). x ++ (10 ∷ joined 10 (c ∷ ls))) o ∙ ap (λ (x : List ℕ). (order-word ++ orderName (u .0)) ++ (10 ∷ x)) third) in
+    let r = rest-read (t .0) (u .0) (v .0) ls s (v .2) in
+    let rest = restText (r .weights) (r .lines) in
+    let third : joined 10 (c ∷ ls) ≡ (vars-word ++ decimal (v .0)) ++ (10 ∷ rest) = joined-lines c ls (r .first) (r .others) (r .begin) ∙ (ap (λ (x : List ℕ). x ++ (10 ∷ joined 10 ls)) (n .1) ∙ ap (λ (x : List ℕ). (vars-word ++ decimal (v .0)) ++ (10 ∷ x)) (r .text)) in
+    let second : joined 10 (b ∷ (c ∷ ls)) ≡ (order-word ++ orderName (u .0)) ++ (10 ∷ ((vars-word ++ decimal (v .0)) ++ (10 ∷ rest))) = joined-lines b (c ∷ ls) c ls refl ∙ (ap (λ (x : List ℕ). x ++ (10 ∷ joined 10 (c ∷ ls))) o ∙ ap (λ (x : List ℕ). (order-word ++ orderName (u .0)) ++ (10 ∷ x)) third) in
     let first = joined-lines a (b ∷ (c ∷ ls)) b (c ∷ ls) refl ∙ (ap (λ (x : List ℕ). x ++ (10 ∷ joined 10 (b ∷ (c ∷ ls)))) (p .1) ∙ ap (λ (x : List ℕ). (prime-word ++ decimal (t .0)) ++ (10 ∷ x)) second) in
-    rw (← is-some (w .2)) (p .0, n .0, i .0, first)
+    rw (← r .is) (p .0, n .0, r .weights-good, r .lines-good, first)
 
 -- No other text is accepted: what is read as s is the text of s, and s is a script of the grammar.
 pub text-read : (bytes : List ℕ) (s : Script) → scriptOf bytes ≡ some s → GoodScript s × (bytes ≡ scriptText s)
@@ -167,6 +223,6 @@ text-read bytes s e = go (leb (length bytes) scriptBytes) refl e
     go : (b : Bool) → leb (length bytes) scriptBytes ≡ b → elim b [ true ↦ withHeader (parts 10 bytes) | false ↦ none ] ≡ some s → GoodScript s × (bytes ≡ scriptText s)
     go true l e =
         let h = header-read (parts 10 bytes) s e in
-        let is : bytes ≡ scriptText s = sym (joined-parts 10 bytes) ∙ h .3 in
-        (record { prime-small = h .0; vars-small = h .1; lines-good = h .2; not-long = rw is at (leb-true (length bytes) scriptBytes l) }, is)
+        let is : bytes ≡ scriptText s = sym (joined-parts 10 bytes) ∙ h .4 in
+        (record { prime-small = h .0; vars-small = h .1; weights-good = h .2; lines-good = h .3; not-long = rw is at (leb-true (length bytes) scriptBytes l) }, is)
     go false l e = never e

@@ -2,9 +2,9 @@
 use Prim.Native.Nat.{ℕ, suc, _≤_, _<_}
 use native.Mathlib.Omega.{arith}
 use mathlib.Core.Path.{_≡_, refl, sym, ap, _∙_}
-use mathlib.Core.Bool.{Bool}
+use mathlib.Core.Bool.{Bool, true, false}
 use mathlib.Core.List.{List, [], _∷_, _++_, map}
-use mathlib.Core.Option.{some}
+use mathlib.Core.Option.{Option, none, some}
 use borrow.Author.Tests.{eq-eqb, lt-ltb, le-leb}
 use lib.Dec.{eqb, ltb}
 use lib.ListN.{length, drop, length-append}
@@ -16,9 +16,9 @@ use Rattle.text.specs.Bytes.{begins, same, indexOf, parts, joined}
 use Rattle.text.specs.Numbers.{decimal, andThen, numberOf}
 use Rattle.text.proofs.ByteLaws.{and-false, begins-word, parts-some, parts-first, parts-joined, index-first, Without, AllWithout, Within, within-true, within-append, within-more, below-without, above-without}
 use Rattle.text.proofs.NumberLaws.{number-written, decimal-within}
-use Rattle.grammar.specs.Grammar.{Entry, Line, addLine, leadLine, sumLine, Script, prime-word, order-word, vars-word, add-word, lead-word, sum-word, orderName, entryText, entriesText, lineText, linesText, scriptText, Small, AllSmall, GoodEntry, GoodEntries, GoodLine, GoodLines, GoodScript}
-use Rattle.grammar.specs.Reading.{numbersOf, exponentsOf, entryAt, entryBy, entryOf, entriesOf, addOf, lineOf, linesOf, numberIf, afterWord, orderRead, withHeader, scriptOf}
-use Rattle.grammar.proofs.Accepted.{is-some, entries-joined}
+use Rattle.grammar.specs.Grammar.{Entry, Line, addLine, leadLine, sumLine, Script, prime-word, order-word, vars-word, weights-word, add-word, lead-word, sum-word, orderName, entryText, entriesText, lineText, linesText, spacedText, restText, scriptText, Small, AllSmall, GoodEntry, GoodEntries, GoodLine, GoodLines, GoodWeights, GoodScript}
+use Rattle.grammar.specs.Reading.{numbersOf, exponentsOf, entryAt, entryBy, entryOf, entriesOf, addOf, lineOf, linesOf, numberIf, afterWord, orderRead, weightsOf, scriptFrom, restBy, restOf, withHeader, scriptOf}
+use Rattle.grammar.proofs.Accepted.{is-some, entries-joined, spaced-joined, line-read}
 
 -- ---- numbers
 numbers-written : (vs : List ℕ) → AllSmall vs → numbersOf (map decimal vs) ≡ some vs
@@ -107,7 +107,7 @@ lines-written n (l ∷ ls) g =
     let i : linesOf n (m .0 ∷ m .1) ≡ some ls = ap (linesOf n) (sym (m .2)) ∙ lines-written n ls (g .1) in
     ap (linesOf n) p ∙ lines-two n (lineText l) (m .0) (m .1) l ls (line-written n l (g .0)) i
 
--- ---- the first three lines
+-- ---- the first lines
 header-within : (w : List ℕ) (v : ℕ) → Within 32 122 w → Without 10 (w ++ decimal v)
 header-within w v h = below-without 32 122 10 (w ++ decimal v) (omega arith) (within-append 32 122 w (decimal v) h (within-more 48 57 32 122 (decimal v) (omega arith) (omega arith) (decimal-within v)))
 
@@ -128,6 +128,55 @@ order-without o = below-without 32 122 10 (order-word ++ orderName o) (omega ari
     name DegLex = within-true 32 122 (order-word ++ orderName DegLex) refl
     name DegRevLex = within-true 32 122 (order-word ++ orderName DegRevLex) refl
 
+-- ---- weights
+numbers-without : (vs : List ℕ) → AllWithout 32 (map decimal vs)
+numbers-without [] = tt
+numbers-without (v ∷ vs) = (below-without 48 57 32 (decimal v) (omega arith) (decimal-within v), numbers-without vs)
+
+weights-written : (n : ℕ) (vs : List ℕ) → AllSmall vs → length vs ≡ n → weightsOf n (spacedText vs) ≡ some vs
+unfolding andThen
+weights-written n vs a e =
+    let p : parts 32 (spacedText vs) ≡ [] ∷ map decimal vs = ap (parts 32) (sym (spaced-joined vs)) ∙ parts-joined 32 [] (map decimal vs) (tt, numbers-without vs) in
+    rw (p, numbers-written vs a, eq-eqb (length vs) n e)
+
+spaced-within : (vs : List ℕ) → Within 32 122 (spacedText vs)
+unfolding spacedText
+spaced-within [] = tt
+spaced-within (v ∷ vs) = ((omega arith, omega arith), within-append 32 122 (decimal v) (spacedText vs) (within-more 48 57 32 122 (decimal v) (omega arith) (omega arith) (decimal-within v)) (spaced-within vs))
+
+-- no other line begins with `weights`
+no-weights : (l : Line) → begins weights-word (lineText l) ≡ false
+unfolding begins
+no-weights (addLine ts) = refl
+no-weights leadLine = refl
+no-weights sumLine = refl
+
+-- so there is at most one such line, and only behind `vars`: a later one is no line of a script
+pub weights-once : (n : ℕ) (s : List ℕ) → begins weights-word s ≡ true → lineOf n s ≡ none
+weights-once n s b = go (lineOf n s) refl
+  where
+    go : (x : Option Line) → lineOf n s ≡ x → x ≡ none
+    go none e = refl
+    go (some l) e =
+        let q : true ≡ false = sym b ∙ (ap (begins weights-word) (line-read n s l e .1) ∙ no-weights l) in
+        absurd (let z : _≡_ {A = ℕ} 0 1 = cc in let y : ⊥ = omega arith in y)
+
+first-line : (ls : List Line) → (q : List ℕ) × (qs : List (List ℕ)) × (parts 10 (linesText ls) ≡ q ∷ qs) × (begins weights-word q ≡ false)
+unfolding linesText parts begins
+first-line [] = ([], [], refl, refl)
+first-line (l ∷ ls) = (lineText l, parts 10 (linesText ls), parts-first 10 (lineText l) (linesText ls) (below-without 32 122 10 (lineText l) (omega arith) (line-within l)), no-weights l)
+
+rest-written : (p : ℕ) (o : Order) (n : ℕ) (ws : Option (List ℕ)) (ls : List Line) → GoodWeights n ws → GoodLines n ls → restOf p o n (parts 10 (restText ws ls)) ≡ some (record { prime = p; order = o; vars = n; weights = ws; lines = ls })
+unfolding andThen
+rest-written p o n none ls a g =
+    let f = first-line ls in
+    ap (restOf p o n) (f .2) ∙ (ap (λ (b : Bool). restBy b p o n (f .0) (f .1)) (f .3) ∙ (ap (scriptFrom p o n none) (sym (f .2)) ∙ rw (lines-written n ls g)))
+rest-written p o n (some vs) ls a g =
+    let l = weights-word ++ spacedText vs in
+    let r = linesText ls in
+    let f : parts 10 (l ++ (10 ∷ r)) ≡ l ∷ parts 10 r = parts-first 10 l r (below-without 32 122 10 l (omega arith) (within-append 32 122 weights-word (spacedText vs) (within-true 32 122 weights-word refl) (spaced-within vs))) in
+    ap (restOf p o n) f ∙ (ap (λ (b : Bool). restBy b p o n l (parts 10 r)) (begins-word weights-word (spacedText vs)) ∙ rw (weights-written n vs (a .0) (a .1), lines-written n ls g))
+
 script-at : (bytes : List ℕ) (ps : List (List ℕ)) → length bytes ≤ scriptBytes → parts 10 bytes ≡ ps → scriptOf bytes ≡ withHeader ps
 unfolding scriptOf
 script-at bytes ps l e = rw (le-leb (length bytes) scriptBytes l, scriptOf, e)
@@ -139,12 +188,12 @@ read-text s g =
     let a = prime-word ++ decimal (s .prime) in
     let b = order-word ++ orderName (s .order) in
     let c = vars-word ++ decimal (s .vars) in
-    let r = linesText (s .lines) in
+    let r = restText (s .weights) (s .lines) in
     let third : parts 10 (c ++ (10 ∷ r)) ≡ c ∷ parts 10 r = parts-first 10 c r (header-within vars-word (s .vars) (within-true 32 122 vars-word refl)) in
     let second : parts 10 (b ++ (10 ∷ (c ++ (10 ∷ r)))) ≡ b ∷ (c ∷ parts 10 r) = parts-first 10 b (c ++ (10 ∷ r)) (order-without (s .order)) ∙ ap (λ (x : List (List ℕ)). b ∷ x) third in
     let first : parts 10 (scriptText s) ≡ a ∷ (b ∷ (c ∷ parts 10 r)) = parts-first 10 a (b ++ (10 ∷ (c ++ (10 ∷ r)))) (header-within prime-word (s .prime) (within-true 32 122 prime-word refl)) ∙ ap (λ (x : List (List ℕ)). a ∷ x) second in
     script-at (scriptText s) (a ∷ (b ∷ (c ∷ parts 10 r))) (g .not-long) first
-    ∙ rw (after-written prime-word (s .prime) (g .prime-small), order-written (s .order), after-written vars-word (s .vars) (g .vars-small), lines-written (s .vars) (s .lines) (g .lines-good))
+    ∙ rw (after-written prime-word (s .prime) (g .prime-small), order-written (s .order), after-written vars-word (s .vars) (g .vars-small), rest-written (s .prime) (s .order) (s .vars) (s .weights) (s .lines) (g .weights-good) (g .lines-good))
 
 -- A script has one reading: two scripts of the grammar with the same text are the same.
 pub one-reading : (s t : Script) → GoodScript s → GoodScript t → scriptText s ≡ scriptText t → s ≡ t

@@ -2,6 +2,7 @@
 use Prim.Native.Nat.{ℕ, _≤_}
 use mathlib.Core.Path.{_≡_}
 use mathlib.Core.List.{List, [], _∷_, _++_, map}
+use mathlib.Core.Option.{Option, none, some}
 use lib.ListN.{length}
 use Rattle.limits.specs.Limits.{scriptBytes}
 use Rattle.monomial.specs.declared.order.Order.{Order}
@@ -24,11 +25,13 @@ pub record Script : Type 0 where
   pub prime : ℕ
   pub order : Order
   pub vars : ℕ
+  -- document 02: "A script may have a line `weights` with n numbers after `vars`."
+  pub weights : Option (List ℕ)
   pub lines : List Line
 
 -- ---- the text
 
--- `prime `, `order `, `vars `, `add`, `lead`, `sum` in ASCII
+-- `prime `, `order `, `vars `, `weights`, `add`, `lead`, `sum` in ASCII
 abbrev pub prime-word : List ℕ
 prime-word = 112 ∷ 114 ∷ 105 ∷ 109 ∷ 101 ∷ 32 ∷ []
 
@@ -37,6 +40,9 @@ order-word = 111 ∷ 114 ∷ 100 ∷ 101 ∷ 114 ∷ 32 ∷ []
 
 abbrev pub vars-word : List ℕ
 vars-word = 118 ∷ 97 ∷ 114 ∷ 115 ∷ 32 ∷ []
+
+abbrev pub weights-word : List ℕ
+weights-word = 119 ∷ 101 ∷ 105 ∷ 103 ∷ 104 ∷ 116 ∷ 115 ∷ []
 
 abbrev pub add-word : List ℕ
 add-word = 97 ∷ 100 ∷ 100 ∷ []
@@ -72,9 +78,19 @@ unfoldable pub linesText : List Line → List ℕ
 linesText [] = []
 linesText (l ∷ ls) = lineText l ++ (10 ∷ linesText ls)
 
+-- weights, each behind its space as terms are
+unfoldable pub spacedText : List ℕ → List ℕ
+spacedText [] = []
+spacedText (v ∷ vs) = 32 ∷ (decimal v ++ spacedText vs)
+
+-- what stands behind the line `vars`
+abbrev pub restText : Option (List ℕ) → List Line → List ℕ
+restText none ls = linesText ls
+restText (some vs) ls = (weights-word ++ spacedText vs) ++ (10 ∷ linesText ls)
+
 unfoldable pub scriptText : Script → List ℕ
 scriptText s =
-    (prime-word ++ decimal (s .prime)) ++ (10 ∷ ((order-word ++ orderName (s .order)) ++ (10 ∷ ((vars-word ++ decimal (s .vars)) ++ (10 ∷ linesText (s .lines))))))
+    (prime-word ++ decimal (s .prime)) ++ (10 ∷ ((order-word ++ orderName (s .order)) ++ (10 ∷ ((vars-word ++ decimal (s .vars)) ++ (10 ∷ restText (s .weights) (s .lines))))))
 
 -- ---- which scripts there are
 
@@ -106,9 +122,15 @@ abbrev pub GoodLines : (n : ℕ) → List Line → Type 0
 GoodLines n [] = Unit {0}
 GoodLines n (l ∷ ls) = GoodLine n l × GoodLines n ls
 
+-- n weights, where there is a line of them; whether they are from 1 to 16 is judged later
+abbrev pub GoodWeights : (n : ℕ) → Option (List ℕ) → Type 0
+GoodWeights n none = Unit {0}
+GoodWeights n (some vs) = AllSmall vs × (length vs ≡ n)
+
 -- "At most 16,384 bytes"
 pub record GoodScript (s : Script) : Type 0 where
   pub prime-small : Small (s .prime)
   pub vars-small : Small (s .vars)
+  pub weights-good : GoodWeights (s .vars) (s .weights)
   pub lines-good : GoodLines (s .vars) (s .lines)
   pub not-long : length (scriptText s) ≤ scriptBytes

@@ -10,7 +10,7 @@ use Rattle.monomial.specs.declared.order.Order.{Order}
 use Rattle.monomial.specs.declared.order.Order.the-variants.{Lex, DegLex, DegRevLex}
 use Rattle.text.specs.Bytes.{begins, same, indexOf, parts}
 use Rattle.text.specs.Numbers.{andThen, onlyIf, numberOf}
-use Rattle.grammar.specs.Grammar.{Entry, Line, addLine, leadLine, sumLine, Script, prime-word, order-word, vars-word, add-word, lead-word, sum-word, orderName}
+use Rattle.grammar.specs.Grammar.{Entry, Line, addLine, leadLine, sumLine, Script, prime-word, order-word, vars-word, weights-word, add-word, lead-word, sum-word, orderName}
 
 -- each part is a number
 unfoldable pub numbersOf : List (List ℕ) → Option (List ℕ)
@@ -62,7 +62,7 @@ linesOf n ([] ∷ []) = some []
 linesOf n ((b ∷ s) ∷ []) = none
 linesOf n (s ∷ (r ∷ rs)) = andThen (lineOf n s) (λ l. andThen (linesOf n (r ∷ rs)) (λ ls. some (l ∷ ls)))
 
--- ---- the first three lines
+-- ---- the first lines
 abbrev pub numberIf : Bool → List ℕ → Option ℕ
 numberIf true s = numberOf s
 numberIf false s = none
@@ -80,9 +80,31 @@ orderBy false false false = none
 abbrev pub orderRead : List ℕ → Option Order
 orderRead s = orderBy (same (order-word ++ orderName Lex) s) (same (order-word ++ orderName DegLex) s) (same (order-word ++ orderName DegRevLex) s)
 
+-- numbers, each behind a space
+abbrev pub spacedOf : List (List ℕ) → Option (List ℕ)
+spacedOf [] = none
+spacedOf ([] ∷ fs) = numbersOf fs
+spacedOf ((b ∷ p) ∷ fs) = none
+
+-- the n weights behind the word `weights`
+abbrev pub weightsOf : (n : ℕ) → List ℕ → Option (List ℕ)
+weightsOf n s = andThen (spacedOf (parts 32 s)) (λ vs. onlyIf (eqb (length vs) n) vs)
+
+-- a script of which the first lines have been read
+abbrev pub scriptFrom : (p : ℕ) → Order → (n : ℕ) → Option (List ℕ) → List (List ℕ) → Option Script
+scriptFrom p o n weights ls = andThen (linesOf n ls) (λ xs. some (record { prime = p; order = o; vars = n; weights = weights; lines = xs }))
+
+-- the lines behind `vars`, by whether the first of them begins with `weights`
+abbrev pub restBy : (weights : Bool) → (p : ℕ) → Order → (n : ℕ) → List ℕ → List (List ℕ) → Option Script
+restBy true p o n l ls = andThen (weightsOf n (drop 7 l)) (λ vs. scriptFrom p o n (some vs) ls)
+restBy false p o n l ls = scriptFrom p o n none (l ∷ ls)
+
+abbrev pub restOf : (p : ℕ) → Order → (n : ℕ) → List (List ℕ) → Option Script
+restOf p o n [] = none
+restOf p o n (l ∷ ls) = restBy (begins weights-word l) p o n l ls
+
 abbrev pub withHeader : List (List ℕ) → Option Script
-withHeader (a ∷ (b ∷ (c ∷ ls))) =
-    andThen (afterWord prime-word a) (λ p. andThen (orderRead b) (λ o. andThen (afterWord vars-word c) (λ n. andThen (linesOf n ls) (λ xs. some (record { prime = p; order = o; vars = n; lines = xs })))))
+withHeader (a ∷ (b ∷ (c ∷ ls))) = andThen (afterWord prime-word a) (λ p. andThen (orderRead b) (λ o. andThen (afterWord vars-word c) (λ n. restOf p o n ls)))
 withHeader [] = none
 withHeader (a ∷ []) = none
 withHeader (a ∷ (b ∷ [])) = none

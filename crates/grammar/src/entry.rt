@@ -1,21 +1,16 @@
 // A term of a script: coefficient, colon, exponents.
+use crate::numbers::Counted;
+use crate::numbers::read_numbers;
 use monomial::exponents::word_of;
 use monomial::order::Order;
 use text::bytes::find;
 use text::number::Number;
-use text::number::byte_of;
 use text::number::read_number;
 ghost use mathlib.Core.Path.{_≡_};
 ghost use Prim.Native.Nat.{min};
-ghost use lib.ListN.{set};
+ghost use Rattle.monomial.specs.Layout.{fields, Below};
 ghost use Rattle.grammar.specs.Reading.{entryOf};
-ghost use Rattle.grammar.specs.Parts.{capped, ReadExponents, parsed};
-
-// How many there are, or that they are not of the form.
-pub enum Counted {
-    All(usize),
-    Bad,
-}
+ghost use Rattle.grammar.specs.Parts.{parsed};
 
 // A term as word and coefficient.
 pub enum Parsed {
@@ -29,38 +24,10 @@ fn least(a: usize, b: usize) -> usize
     if a < b { a } else { b }
 }
 
-// Stores the exponent at a place, if there is one.
-fn store(exps: &mut [u8], at: usize, v: u32)
-    ensures { λ _. ⌜ now (exps .exit) ≡ set (now (exps .entry)) at (capped v) ⌝ }
-{
-    if at < exps.len() {
-        exps[at] = byte_of(v);
-    }
-}
-
-// Reads the exponents, parted by dots, and stores those that exps has places for.
-pub fn read_exponents(s: &[u8], exps: &mut [u8]) -> Counted
-    ensures { λ r. ⌜ ReadExponents (now (s .entry)) (now (exps .entry)) (now (exps .exit)) r ⌝ }
-{
-    let mut count = 0;
-    let mut at = 0;
-    while at <= s.len() {
-        let e = find(s, at, 46);
-        let part = &s[at..e];
-        let number = read_number(part);
-        let Number::Value(v) = number else {
-            return Counted::Bad;
-        };
-        store(exps, count, v);
-        count += 1;
-        at = e + 1;
-    }
-    Counted::All(count)
-}
-
-// Reads a term of n exponents.
-pub fn read_entry(s: &[u8], order: Order, n: u32) -> Parsed
-    ensures { λ r. ⌜ r ≡ parsed order (entryOf n (now (s .entry))) ⌝ }
+// Reads a term of n exponents, with weights as `weight_word` gives them.
+pub fn read_entry(s: &[u8], order: Order, weights: u64, n: u32) -> Parsed
+    requires { ⌜ Below 18 (fields order weights) ⌝ }
+    ensures { λ r. ⌜ r ≡ parsed order (fields order weights) (entryOf n (now (s .entry))) ⌝ }
 {
     let k = find(s, 0, 58);
     if k == s.len() {
@@ -74,7 +41,7 @@ pub fn read_entry(s: &[u8], order: Order, n: u32) -> Parsed
     let mut exps = [0u8; 6];
     let from = k + 1;
     let behind = &s[from..];
-    let counted = read_exponents(behind, &mut exps);
+    let counted = read_numbers(behind, 46, &mut exps);
     let Counted::All(m) = counted else {
         return Parsed::Bad;
     };
@@ -82,5 +49,5 @@ pub fn read_entry(s: &[u8], order: Order, n: u32) -> Parsed
         return Parsed::Bad;
     }
     let most = least(m, 6);
-    Parsed::Term(word_of(order, &exps[..most]), c)
+    Parsed::Term(word_of(order, weights, &exps[..most]), c)
 }

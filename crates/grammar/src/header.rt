@@ -1,4 +1,6 @@
-// The first three lines of a script: `prime P`, `order lp|Dp|dp`, `vars N`.
+// The first lines of a script: `prime P`, `order lp|Dp|dp`, `vars N`, and `weights W1 .. Wn` where it is.
+use crate::weights::Weights;
+use crate::weights::read_weights;
 use text::bytes::find;
 use text::bytes::is_word;
 use text::bytes::starts_with;
@@ -9,13 +11,15 @@ ghost use Prim.Native.Nat.{_≤_};
 ghost use lib.ListN.{length};
 ghost use Rattle.text.specs.Numbers.{found};
 ghost use Rattle.grammar.specs.Reading.{afterWord, orderRead};
-ghost use Rattle.grammar.specs.Parts.{orderCode, ReadHeader, ReadVars};
+ghost use Rattle.grammar.specs.Parts.{orderCode, ReadHeader, ReadVars, ReadRest};
 
-// The prime, the number of the order, the number of variables, and where the other lines begin.
+// The prime, the number of the order, the number of variables, the weights as one number, and where the
+// other lines begin.
 pub struct Header {
     pub prime: u32,
     pub order: u32,
     pub vars: u32,
+    pub weights: u64,
     pub from: usize,
 }
 
@@ -52,7 +56,7 @@ fn read_order(s: &[u8]) -> u32
     0
 }
 
-// Reads the first three lines.
+// Reads the first lines.
 pub fn read_header(s: &[u8]) -> Head
     ensures { λ r. ⌜ ReadHeader (now (s .entry)) r ⌝ }
 {
@@ -78,7 +82,7 @@ pub fn read_header(s: &[u8]) -> Head
     read_vars(s, prime, order, b + 1)
 }
 
-// Reads the third line, from place j on.
+// Reads the third line, from place j on, and one of weights behind it.
 fn read_vars(s: &[u8], prime: u32, order: u32, j: usize) -> Head
     requires { ⌜ j ≤ length (now s) ⌝ }
     ensures { λ r. ⌜ ReadVars (now (s .entry)) prime order j r ⌝ }
@@ -92,11 +96,40 @@ fn read_vars(s: &[u8], prime: u32, order: u32, j: usize) -> Head
     let Number::Value(vars) = n else {
         return Head::Bad;
     };
-    let header = Header {
+    read_rest(s, prime, order, vars, c + 1)
+}
+
+// Reads a line of weights, where one stands at place j. Without it all weights are 1.
+fn read_rest(s: &[u8], prime: u32, order: u32, vars: u32, j: usize) -> Head
+    requires { ⌜ j ≤ length (now s) ⌝ }
+    ensures { λ r. ⌜ ReadRest (now (s .entry)) prime order vars j r ⌝ }
+{
+    let e = find(s, j, 10);
+    let line = &s[j..e];
+    if !starts_with(line, b"weights") {
+        let plain = Header {
+            prime,
+            order,
+            vars,
+            weights: 0x0101_0101_0101,
+            from: j,
+        };
+        return Head::Is(plain);
+    }
+    if e == s.len() {
+        return Head::Bad;
+    }
+    let numbers = &line[7..];
+    let found = read_weights(numbers, vars);
+    let Weights::Are(weights) = found else {
+        return Head::Bad;
+    };
+    let weighted = Header {
         prime,
         order,
         vars,
-        from: c + 1,
+        weights,
+        from: e + 1,
     };
-    Head::Is(header)
+    Head::Is(weighted)
 }

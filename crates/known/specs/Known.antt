@@ -1,4 +1,4 @@
--- Document 01, "Known results": the starred ones, as a table, and forms of texts and bytes that it fixes in words. Each row but those on monomials is about the outcome of a call. Assumes nothing.
+-- Document 01, "Known results": the starred ones, as a table, and forms of texts and bytes that it fixes in words; and of document 02 what weights do. Each row but those on monomials is about the outcome of a call. Assumes nothing.
 use Prim.Native.Nat.{ℕ, _+_, _≤_, Ordering·gt}
 use Prim.Native.Char.{code}
 use Prim.Native.String.{String, [] as no-more, _∷_ as _then_}
@@ -8,7 +8,7 @@ use lib.ListN.{length, take, drop, replicate}
 use Rattle.limits.specs.Limits.{bucketPlaces, listingBytes, mostTerms, workPlaces}
 use Rattle.monomial.specs.declared.order.Order.{Order}
 use Rattle.monomial.specs.declared.order.Order.the-variants.{Lex, DegLex, DegRevLex}
-use Rattle.monomial.specs.Exponents.{compareIn}
+use Rattle.monomial.specs.Exponents.{compareIn, ones}
 use Rattle.monomial.specs.Layout.{wordOf}
 use Rattle.monomial.specs.Words.{compareWords}
 use Rattle.polynomial.specs.Terms.{Term, term, terms}
@@ -47,9 +47,9 @@ startsFrom at (f ∷ fs) = at ∷ startsFrom (at + length f) fs
 abbrev pub zeros : ℕ → List ℕ
 zeros n = replicate n 0
 
--- "In reductions p = 7, dp, n = 2." So it is in the listing and for the block of zero.
+-- "In reductions p = 7, dp, n = 2." So it is in the listing and for the block of zero; of document 02 "Known results in 01 are read with weights of 1."
 abbrev pub in-7 : Setting
-in-7 = settingOf 7 3 2
+in-7 = settingOf 7 3 2 ones
 
 -- a run of some operations, and a reduction of f by gs, each with 4,096 output places
 abbrev pub run-of : List (List (Term ℕ)) → (ops : List ℕ) → Outcome
@@ -72,8 +72,12 @@ output o = terms (take (o .answer .places) (o .ow)) (take (o .answer .places) (o
 pub data Result : Type 0 where
   -- in the order, the first monomial is larger than the second
   larger : Order → List ℕ → List ℕ → Result
+  -- the same with these weights
+  outweighs : Order → (weights : List ℕ) → List ℕ → List ℕ → Result
   -- in the order's layout, the monomial has this word
   word : Order → List ℕ → ℕ → Result
+  -- the same with these weights
+  weighs : Order → (weights : List ℕ) → List ℕ → ℕ → Result
   -- the listing of the script has these lines
   prints : (script listing : List String) → Result
   -- the run writes these places, and counts so many comparisons
@@ -93,8 +97,10 @@ Prints script text = (out : List ℕ) → listingBytes ≤ length out → _≡_ 
 
 -- what a result says: the larger monomial is larger by its exponents, and by its word; no refusal is 0
 abbrev pub Says : Result → Type 0
-Says (larger o α β) = (compareIn o α β ≡ Ordering·gt) × (compareWords o (wordOf o α) (wordOf o β) ≡ Ordering·gt)
-Says (word o α w) = wordOf o α ≡ w
+Says (larger o α β) = (compareIn o ones α β ≡ Ordering·gt) × (compareWords o (wordOf o ones α) (wordOf o ones β) ≡ Ordering·gt)
+Says (outweighs o vs α β) = (compareIn o vs α β ≡ Ordering·gt) × (compareWords o (wordOf o vs α) (wordOf o vs β) ≡ Ordering·gt)
+Says (word o α w) = wordOf o ones α ≡ w
+Says (weighs o vs α w) = wordOf o vs α ≡ w
 Says (prints script listing) = Prints (textOf script) (textOf listing)
 Says (writes fs ops places comparisons) = let o = run-of fs ops in (o .answer .number ≡ 0) × (output o ≡ places) × (o .tally .comparisons ≡ comparisons)
 Says (leaves limit f gs remainder leads) = let o = reduction-of limit f gs in (o .answer .number ≡ 0) × (output o ≡ remainder) × (o .answer .finished ≡ leads)
@@ -129,6 +135,20 @@ bad-prime = "prime 8" ∷ "order dp" ∷ "vars 2" ∷ "sum" ∷ []
 abbrev pub refused-line : List String
 refused-line = "refused 1 at 0" ∷ []
 
+-- a script with weights, in which x1·x2 is larger than x1²
+abbrev pub slide : List String
+slide = "prime 7" ∷ "order dp" ∷ "vars 2" ∷ "weights 1 2" ∷ "add 1:1.1 3:2.0 6:1.0" ∷ "lead" ∷ "sum" ∷ []
+
+abbrev pub slide-lines : List String
+slide-lines = "lead 1:1.1" ∷ "sum 3:2.0 6:1.0" ∷ "cost 0 of 18" ∷ []
+
+-- six weights that differ, and a heavy x2
+abbrev pub six-weights : List ℕ
+six-weights = 3 ∷ 5 ∷ 7 ∷ 11 ∷ 13 ∷ 16 ∷ []
+
+abbrev pub heavy-x2 : List ℕ
+heavy-x2 = 1 ∷ 16 ∷ 1 ∷ 1 ∷ 1 ∷ 1 ∷ []
+
 abbrev pub table : List Result
 table =
     -- "* dp, n = 3: x2² > x1·x3. * Dp: x1·x3 > x2². * lp: x1 > x2^5."
@@ -160,4 +180,13 @@ table =
     ∷ prints bad-prime refused-line
     -- "Numbers are little-endian."; "41 places of 12 bytes (word, coefficient)": 3·x1²·x2
     ∷ placed (in-dp 3 (2 ∷ 1 ∷ []) ∷ []) (2 ∷ 1 ∷ 0 ∷ 0 ∷ 0 ∷ 0 ∷ 3 ∷ 0 ∷ 3 ∷ 0 ∷ 0 ∷ 0 ∷ [])
+    -- of document 02, "the degree field holds the weighted sum": x1·x2²·x6 has the degree 3 + 2·5 + 16 = 29, in dp and in lp
+    ∷ weighs DegRevLex six-weights (1 ∷ 2 ∷ 0 ∷ 0 ∷ 0 ∷ 1 ∷ []) 0x001d_0100_0000_0201
+    ∷ weighs Lex six-weights (1 ∷ 2 ∷ 0 ∷ 0 ∷ 0 ∷ 1 ∷ []) 0x001d_0102_0000_0001
+    -- "lp still ignores the degree when comparing.": x1 > x2 there, and x2 > x1 in Dp and dp
+    ∷ outweighs Lex heavy-x2 (1 ∷ 0 ∷ []) (0 ∷ 1 ∷ [])
+    ∷ outweighs DegLex heavy-x2 (0 ∷ 1 ∷ []) (1 ∷ 0 ∷ [])
+    ∷ outweighs DegRevLex heavy-x2 (0 ∷ 1 ∷ []) (1 ∷ 0 ∷ [])
+    -- "Slide joints count double": with weights of 1 these terms would not fall
+    ∷ prints slide slide-lines
     ∷ []

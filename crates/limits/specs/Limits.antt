@@ -9,6 +9,13 @@ largestPrime = 2147483647
 abbrev pub mostVariables : ℕ
 mostVariables = 6
 
+-- "Each variable gets a weight from 1 to 16": how many are lent, x1's first, and the largest
+abbrev pub weightCount : ℕ
+weightCount = 6
+
+abbrev pub largestWeight : ℕ
+largestWeight = 16
+
 -- "The bucket space has 5,460 places for words and for coefficients": the six buckets' capacities
 abbrev pub bucketPlaces : ℕ
 bucketPlaces = 5460

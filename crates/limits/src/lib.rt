@@ -6,6 +6,11 @@ pub const LARGEST_PRIME: u32 = 2147483647;
 // "n from 1 to 6"
 pub const MOST_VARIABLES: u32 = 6;
 
+// "Each variable gets a weight from 1 to 16": how many are lent, x1's first, and the largest.
+pub const WEIGHTS: usize = 6;
+
+pub const LARGEST_WEIGHT: u32 = 16;
+
 // "The bucket space has 5,460 places for words and for coefficients": the six buckets' capacities.
 pub const BUCKET_PLACES: usize = 5460;
 

@@ -10,7 +10,7 @@ use Rattle.polynomial.specs.Opening.{partOf}
 use Rattle.call.specs.Lending.{polynomial}
 use Rattle.run_outcome.specs.Runs.{Operation, adds, leads, sums, operationsOf}
 use Rattle.grammar.specs.Grammar.{Entry, Line, addLine, leadLine, sumLine, Script}
-use Rattle.grammar.specs.Parts.{entryWord, entryCoef}
+use Rattle.grammar.specs.Parts.{entryWord, entryCoef, sixWeights}
 use Rattle.script.specs.Loading.{entriesIn, endsFrom, pairsFrom, wordsOf, coefsOf, startsOf}
 use Rattle.listing.specs.Whole.{operationIn}
 use Rattle.listing.proofs.NeverFull.{at-place}
@@ -27,7 +27,7 @@ rest-is f l at es rest d = sym (drop-drop (length es) at l) ∙ (ap (drop (lengt
 
 -- ---- from polynomial k and term `at` on, starts, words and coefficients are those of the lines ls
 abbrev pub From : Script → List Line → (k at : ℕ) → Type 0
-From s ls k at = (drop k (startsOf s) ≡ at ∷ endsFrom at ls) × (drop at (wordsOf s) ≡ map (entryWord (s .order)) (entriesIn ls)) × (drop at (coefsOf s) ≡ map entryCoef (entriesIn ls))
+From s ls k at = (drop k (startsOf s) ≡ at ∷ endsFrom at ls) × (drop at (wordsOf s) ≡ map (entryWord (s .order) (sixWeights (s .weights))) (entriesIn ls)) × (drop at (coefsOf s) ≡ map entryCoef (entriesIn ls))
 
 module _ (s : Script) (us : List Entry) (ls : List Line) (k at : ℕ) (f : From s (addLine us ∷ ls) k at) where
   abbrev end : ℕ
@@ -41,13 +41,13 @@ module _ (s : Script) (us : List Entry) (ls : List Line) (k at : ℕ) (f : From 
   ends = at-place (startsOf s) (k + 1) end (endsFrom end ls) (begins .1) .0
 
   -- polynomial k is the addition
-  pub added-is : polynomial (wordsOf s) (coefsOf s) (startsOf s) k ≡ terms (map (entryWord (s .order)) us) (map entryCoef us)
+  pub added-is : polynomial (wordsOf s) (coefsOf s) (startsOf s) k ≡ terms (map (entryWord (s .order) (sixWeights (s .weights))) us) (map entryCoef us)
   unfolding entriesIn
-  added-is = ap₂ terms (part-is (entryWord (s .order)) (startsOf s) (wordsOf s) k at us (entriesIn ls) (begins .0) ends (f .1)) (part-is entryCoef (startsOf s) (coefsOf s) k at us (entriesIn ls) (begins .0) ends (f .2))
+  added-is = ap₂ terms (part-is (entryWord (s .order) (sixWeights (s .weights))) (startsOf s) (wordsOf s) k at us (entriesIn ls) (begins .0) ends (f .1)) (part-is entryCoef (startsOf s) (coefsOf s) k at us (entriesIn ls) (begins .0) ends (f .2))
 
   pub from-next : From s ls (k + 1) (at + length us)
   unfolding entriesIn
-  from-next = (begins .1, rest-is (entryWord (s .order)) (wordsOf s) at us (entriesIn ls) (f .1), rest-is entryCoef (coefsOf s) at us (entriesIn ls) (f .2))
+  from-next = (begins .1, rest-is (entryWord (s .order) (sixWeights (s .weights))) (wordsOf s) at us (entriesIn ls) (f .1), rest-is entryCoef (coefsOf s) at us (entriesIn ls) (f .2))
 
 pub operations-are : (s : Script) (ls : List Line) (k at : ℕ) → From s ls k at → operationsOf (wordsOf s) (coefsOf s) (startsOf s) (pairsFrom k ls) ≡ map (operationIn s) ls
 unfolding operationsOf pairsFrom endsFrom entriesIn

@@ -16,7 +16,7 @@ use Rattle.monomial.specs.Layout.{exponents, Below}
 use Rattle.run_outcome.specs.Runs.{operationsOf}
 use Rattle.grammar.specs.Grammar.{Entry, Script, GoodEntry}
 use Rattle.grammar.specs.Reading.{scriptOf}
-use Rattle.grammar.specs.Parts.{entryWord}
+use Rattle.grammar.specs.Parts.{entryWord, sixWeights}
 use Rattle.script.specs.Loading.{wordsOf, coefsOf, startsOf, pairsOf}
 use Rattle.listing_lines.specs.Listing.{refusedText}
 use Rattle.listing.specs.Whole.{ranBy, ranText, operationIn, scriptOutcome, doneText, listingBy, listingOf}
@@ -60,11 +60,11 @@ module _ (script out : List ℕ) where
 
 -- ---- the text
 module _ (script : List ℕ) where
-  -- Demand 1: the number that is printed is the one of the first of document 01's conditions that does not hold
+  -- Demand 1: the number that is printed is the one of the first of the documents' conditions that does not hold
   pub demand-1-script : Judged (listingConditions script) (printedRefusal script)
   demand-1-script = listing-judged script
 
-  pub demand-1-script-numbers : OneOf (0 ∷ 1 ∷ 3 ∷ 4 ∷ 5 ∷ 6 ∷ 17 ∷ []) (printedRefusal script)
+  pub demand-1-script-numbers : OneOf (0 ∷ 1 ∷ 3 ∷ 4 ∷ 5 ∷ 6 ∷ 17 ∷ 24 ∷ []) (printedRefusal script)
   demand-1-script-numbers = listing-numbers script
 
   -- what the listing is then: "A refusal prints `refused R at K` (number, operations finished) as the last line, without a cost."
@@ -91,5 +91,5 @@ module _ (script : List ℕ) where
 pub demand-2-operations : (s : Script) → operationsOf (wordsOf s) (coefsOf s) (startsOf s) (pairsOf s) ≡ map (operationIn s) (s .lines)
 demand-2-operations s = operations-are s (s .lines) 0 0 (refl, refl, refl)
 
-pub demand-2-exponents : (s : Script) → s .vars ≤ 6 → (e : Entry) → GoodEntry (s .vars) e → Below 128 (e .exps) → exponents (s .order) (s .vars) (entryWord (s .order) e) ≡ e .exps
-demand-2-exponents s few e g b = exps-of (s .order) (s .vars) few e g b
+pub demand-2-exponents : (s : Script) → s .vars ≤ 6 → (e : Entry) → GoodEntry (s .vars) e → Below 128 (e .exps) → exponents (s .order) (s .vars) (entryWord (s .order) (sixWeights (s .weights)) e) ≡ e .exps
+demand-2-exponents s few e g b = exps-of (s .order) (sixWeights (s .weights)) (s .vars) few e g b

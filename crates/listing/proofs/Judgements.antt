@@ -15,11 +15,11 @@ use Rattle.monomial.specs.declared.order.Order.{Order}
 use Rattle.monomial.specs.declared.order.Order.the-variants.{Lex, DegLex, DegRevLex}
 use Rattle.monomial.specs.Exponents.{orderOf}
 use Rattle.monomial.specs.Words.{compareWords}
-use Rattle.polynomial.specs.Settings.{settingOf}
 use Rattle.polynomial.specs.Opening.{riseTo, startsGood}
 use Rattle.polynomial.specs.declared.setting.Setting.{Setting}
 use Rattle.opening.specs.Run.{runRefusal}
 use Rattle.conditions.specs.Operations.{GoodOperations}
+use Rattle.opening.specs.Judgement as O
 use Rattle.opening.specs.Judgement.{Between, GoodPrime, GoodShape, runConditions, polynomialsConditions}
 use Rattle.opening.proofs.Judgements.{judged}
 use Rattle.opening.proofs.StartsJudged.{starts-good}
@@ -29,15 +29,17 @@ use Rattle.run_outcome.specs.Runs.{Running}
 use Rattle.run_outcome.specs.Outcome.{ended, ranThrough}
 use Rattle.grammar.specs.Grammar.{Entry, Line, addLine, leadLine, sumLine, Script}
 use Rattle.grammar.specs.Reading.{scriptOf}
-use Rattle.grammar.specs.Parts.{entryWord, entryCoef, orderNumber}
+use Rattle.grammar.specs.Parts.{entryWord, entryCoef, sixWeights, orderNumber}
 use Rattle.script.specs.Loading.{entriesIn, endsFrom, pairsFrom, wordsOf, coefsOf, startsOf, pairsOf}
 use Rattle.grammar.proofs.Accepted.{text-read}
 use Rattle.grammar.proofs.Written.{read-text}
+use Rattle.grammar.proofs.WeightsLaws.{six-fit}
 use Rattle.script.proofs.LinesLaws.{pairs-long}
-use Rattle.listing.specs.Whole.{noTally, scriptOutcome}
+use Rattle.listing.specs.Whole.{noTally, settingIn, scriptOutcome}
 use Rattle.listing.specs.Judgement.{IsScript, entriesConditions, EntriesFall, linesConditions, scriptConditions, conditionsBy, listingConditions, refusalBy, printedRefusal}
 use Rattle.listing.proofs.SizeLaws.{sizes}
 use Rattle.listing.proofs.NeverFull.{never-full}
+use Rattle.listing.proofs.WeightsJudged.{weights-alike}
 use Rattle.listing.proofs.LinesJudged.{alike-judged, script-alike}
 
 -- ---- the run of a script is refused by its opening checks, or not at all
@@ -53,12 +55,12 @@ same-sizes t words coefs ss ops {b} {w} {o} {r} eb ew eo j =
 
 -- what a run asks, of the run of a script
 abbrev ranConditions : Script → List Condition
-ranConditions s = runConditions (settingOf (s .prime) (orderNumber (s .order)) (s .vars)) (wordsOf s) (coefsOf s) (startsOf s) (pairsOf s) bucketPlaces bucketPlaces workPlaces workPlaces scriptTerms scriptTerms
+ranConditions s = runConditions (settingIn s) (wordsOf s) (coefsOf s) (startsOf s) (pairsOf s) bucketPlaces bucketPlaces workPlaces workPlaces scriptTerms scriptTerms
 
 ran-judged : (bytes : List ℕ) (s : Script) → scriptOf bytes ≡ some s → Judged (ranConditions s) (scriptOutcome s .answer .number)
 ran-judged bytes s is =
     let order = orderNumber (s .order) in
-    let t = settingOf (s .prime) order (s .vars) in
+    let t = settingIn s in
     let l : ℕ → ℕ = λ n. length {A = ℕ} (replicate n 0) in
     let r = runRefusal t (wordsOf s) (coefsOf s) (startsOf s) (pairsOf s) (l bucketPlaces) (l bucketPlaces) (l workPlaces) (l workPlaces) (l scriptTerms) (l scriptTerms) in
     subst (Judged (ranConditions s))
@@ -88,15 +90,15 @@ operations-good k at n (leadLine ∷ ls) h = (inr (refl, inl refl), operations-g
 operations-good k at n (sumLine ∷ ls) h = (inr (refl, inr refl), operations-good k at n ls h)
 
 module _ (bytes : List ℕ) (s : Script) (is : scriptOf bytes ≡ some s) where
-  shape-good : GoodShape (wordsOf s) (coefsOf s) (startsOf s) (pairsOf s) bucketPlaces bucketPlaces workPlaces workPlaces scriptTerms scriptTerms
+  shape-good : GoodShape (sixWeights (s .weights)) (wordsOf s) (coefsOf s) (startsOf s) (pairsOf s) bucketPlaces bucketPlaces workPlaces workPlaces scriptTerms scriptTerms
   unfolding startsGood
   shape-good =
       let es = entriesIn (s .lines) in
-      let lw : length (wordsOf s) ≡ length es = length-map es (entryWord (s .order)) in
+      let lw : length (wordsOf s) ≡ length es = length-map es (entryWord (s .order) (sixWeights (s .weights))) in
       let lc : length (coefsOf s) ≡ length es = length-map es entryCoef in
       let lp = pairs-long 0 (s .lines) in
       record {
-        lent = record { lent = lw ∙ sym lc; output = refl; bucket-words = refl; bucket-coefs = refl; work-words = refl; work-coefs = refl };
+        lent = record { weights-six = six-fit (s .weights) .six-are; lent = lw ∙ sym lc; output = refl; bucket-words = refl; bucket-coefs = refl; work-words = refl; work-coefs = refl };
         starts = starts-good (length (wordsOf s)) (startsOf s) (rising 0 (s .lines) (length (wordsOf s)) (omega (arith, lw)));
         pairs = record { whole = omega (arith, lp); most = omega (arith, lp, sizes bytes s is .operations) };
       }
@@ -111,17 +113,20 @@ module _ (bytes : List ℕ) (s : Script) (is : scriptOf bytes ≡ some s) where
   -- so what is asked of the run of a script is what is asked of the script
   script-judged : Judged (scriptConditions s) (scriptOutcome s .answer .number)
   script-judged =
-      let t = settingOf (s .prime) (orderNumber (s .order)) (s .vars) in
+      let t = settingIn s in
       let r = scriptOutcome s .answer .number in
       let one = condition 1 (GoodPrime (s .prime)) in
       let three = condition 3 (Between 1 mostVariables (s .vars)) in
-      let eight = condition 8 (GoodShape (wordsOf s) (coefsOf s) (startsOf s) (pairsOf s) bucketPlaces bucketPlaces workPlaces workPlaces scriptTerms scriptTerms) in
+      let weights = condition 24 (O.GoodWeights (s .vars) (sixWeights (s .weights))) in
+      let text = text-read bytes s is .0 in
+      let eight = condition 8 (GoodShape (sixWeights (s .weights)) (wordsOf s) (coefsOf s) (startsOf s) (pairsOf s) bucketPlaces bucketPlaces workPlaces workPlaces scriptTerms scriptTerms) in
       let nine = condition 9 (GoodOperations (pairsOf s) (length (startsOf s) - 1)) in
       let polynomials = polynomialsConditions t (wordsOf s) (coefsOf s) (startsOf s) in
-      alike-judged (one ∷ (three ∷ polynomials)) (scriptConditions s) r (refl, λ h. h, λ h. h, λ g. (refl, λ h. h, λ h. h, λ f. script-alike s (f .1) (text-read bytes s is .0 .lines-good)))
-      (skipped (one ∷ (three ∷ [])) nine polynomials r (operations-good 0 0 (length (startsOf s) - 1) (s .lines) (omega arith))
-      (skipped (one ∷ (three ∷ [])) eight (nine ∷ polynomials) r shape-good
-      (skipped (one ∷ []) (condition 2 (Between 1 3 (orderNumber (s .order)))) (three ∷ (eight ∷ (nine ∷ polynomials))) r (order-between (s .order)) (ran-judged bytes s is))))
+      alike-judged (one ∷ (three ∷ (weights ∷ polynomials))) (scriptConditions s) r
+      (refl, λ h. h, λ h. h, λ g. (refl, λ h. h, λ h. h, λ f. let w = weights-alike (s .vars) (s .weights) (f .1) (text .weights-good) in (refl, w .0, w .1, λ range. script-alike s (f .1) (text .weights-good) range (text .lines-good))))
+      (skipped (one ∷ (three ∷ (weights ∷ []))) nine polynomials r (operations-good 0 0 (length (startsOf s) - 1) (s .lines) (omega arith))
+      (skipped (one ∷ (three ∷ (weights ∷ []))) eight (nine ∷ polynomials) r shape-good
+      (skipped (one ∷ []) (condition 2 (Between 1 3 (orderNumber (s .order)))) (three ∷ (weights ∷ (eight ∷ (nine ∷ polynomials)))) r (order-between (s .order)) (ran-judged bytes s is))))
 
 -- Each number is printed under its condition, where no earlier one is to be printed, and under no other.
 pub listing-judged : (bytes : List ℕ) → Judged (listingConditions bytes) (printedRefusal bytes)
@@ -133,7 +138,7 @@ listing-judged bytes = by (scriptOf bytes) refl
 
 -- ---- these numbers can be printed, and no other
 abbrev printedNumbers : List ℕ
-printedNumbers = 1 ∷ 3 ∷ 4 ∷ 5 ∷ 6 ∷ 17 ∷ []
+printedNumbers = 1 ∷ 3 ∷ 4 ∷ 5 ∷ 6 ∷ 17 ∷ 24 ∷ []
 
 entries-by : (s : Script) (es : List Entry) → NumberedBy printedNumbers (entriesConditions s es)
 entries-by s [] = tt
@@ -149,7 +154,7 @@ lines-by s (sumLine ∷ ls) = lines-by s ls
 
 by-script : (x : Option Script) → NumberedBy printedNumbers (conditionsBy x)
 by-script none = tt
-by-script (some s) = (refl, (refl, lines-by s (s .lines)))
+by-script (some s) = (refl, (refl, (refl, lines-by s (s .lines))))
 
-pub listing-numbers : (bytes : List ℕ) → OneOf (0 ∷ 1 ∷ 3 ∷ 4 ∷ 5 ∷ 6 ∷ 17 ∷ []) (printedRefusal bytes)
+pub listing-numbers : (bytes : List ℕ) → OneOf (0 ∷ 1 ∷ 3 ∷ 4 ∷ 5 ∷ 6 ∷ 17 ∷ 24 ∷ []) (printedRefusal bytes)
 listing-numbers bytes = judged-numbers printedNumbers (listingConditions bytes) (printedRefusal bytes) (refl, by-script (scriptOf bytes)) (listing-judged bytes)

@@ -28,7 +28,6 @@ use Rattle.opening.proofs.RunLaws.{opened}
 use Rattle.call.specs.Answers.{Outcome, decidedBy}
 use Rattle.call.specs.Places.{unlessZero, nonZero}
 use Rattle.run_outcome.specs.Runs.{Running, operationsOf}
-use Rattle.polynomial.specs.Settings.{settingOf}
 use Rattle.run_outcome.specs.Outcome.{runOutcome, ranThrough, ended, tallyOf}
 use Rattle.run_outcome.proofs.Follow.{all-polynomials, sound}
 use Rattle.run_outcome.proofs.Demands.{outcome-is, demand-3-bound, written-back}
@@ -38,12 +37,12 @@ use Rattle.text.specs.Numbers.{decimal}
 use Rattle.text.proofs.NumberLaws.{decimal-digit, decimal-more, decimal-some}
 use Rattle.grammar.specs.Grammar.{Entry, Line, addLine, leadLine, sumLine, Script, entryText, entriesText, linesText, GoodEntry, GoodEntries, GoodLines, GoodScript}
 use Rattle.grammar.specs.Reading.{scriptOf}
-use Rattle.grammar.specs.Parts.{orderNumber}
+use Rattle.grammar.specs.Parts.{sixWeights, orderNumber}
 use Rattle.script.specs.Loading.{entriesIn, pairsFrom, wordsOf, coefsOf, startsOf, pairsOf}
 use Rattle.grammar.proofs.Accepted.{text-read}
 use Rattle.script.proofs.LinesLaws.{pairs-long}
 use Rattle.listing_lines.specs.Listing.{exponentsText, termText, placeBy, placeText, leadText, sumTerms, termsText, zeroIf, sumText, answersText, of-word, at-word, costText, refusedText}
-use Rattle.listing.specs.Whole.{ranText, noTally, outcomeText, listingBy, listingOf}
+use Rattle.listing.specs.Whole.{ranText, noTally, settingIn, outcomeText, listingBy, listingOf}
 use Rattle.listing.proofs.WholeLaws.{operations-short}
 use Rattle.listing.specs.Printed.{Sizes}
 use Rattle.listing.proofs.SizeLaws.{inside, sizes}
@@ -206,10 +205,10 @@ below-small p (t ∷ ts) l h = ((let z : t .coef < 2147483648 = omega (arith, h 
 
 module _ (s : Script) (g : GoodScript s) (z : Sizes s) (bw bc ww wc ow oc : List ℕ) where
   abbrev last : Running
-  last = ranThrough (settingOf (s .prime) (orderNumber (s .order)) (s .vars)) (wordsOf s) (coefsOf s) (startsOf s) (pairsOf s) (length ow)
+  last = ranThrough (settingIn s) (wordsOf s) (coefsOf s) (startsOf s) (pairsOf s) (length ow)
 
   abbrev refusal : ℕ
-  refusal = runRefusal (settingOf (s .prime) (orderNumber (s .order)) (s .vars)) (wordsOf s) (coefsOf s) (startsOf s) (pairsOf s) (length bw) (length bc) (length ww) (length wc) (length ow) (length oc)
+  refusal = runRefusal (settingIn s) (wordsOf s) (coefsOf s) (startsOf s) (pairsOf s) (length bw) (length bc) (length ww) (length wc) (length ow) (length oc)
 
   done-most : refusal ≡ 0 → length (answersText (s .order) (s .vars) (pairsOf s) (last .output)) + length (costText (length (last .work .pairs)) (length (last .work .brought))) ≤ listingBytes
   done-most e =
@@ -218,15 +217,15 @@ module _ (s : Script) (g : GoodScript s) (z : Sizes s) (bw bc ww wc ow oc : List
       let cmp = compareWords order in
       let p = s .prime in
       let os = operationsOf (wordsOf s) (coefsOf s) (startsOf s) (pairsOf s) in
-      let o = opened (settingOf p number (s .vars)) (wordsOf s) (coefsOf s) (startsOf s) (pairsOf s) (length bw) (length bc) (length ww) (length wc) (length ow) (length oc) e in
+      let o = opened (settingIn s) (wordsOf s) (coefsOf s) (startsOf s) (pairsOf s) (length bw) (length bc) (length ww) (length wc) (length ow) (length oc) e in
       let pos : 0 < p = omega (arith, o .prime .above) in
-      let all = all-polynomials cmp p (wordsOf s) (coefsOf s) (startsOf s) (pairsOf s) (o .operations) (λ k h. passes order (s .vars) p _ (o .polynomials k (omega arith)) .0) in
+      let all = all-polynomials cmp p (wordsOf s) (coefsOf s) (startsOf s) (pairsOf s) (o .operations) (λ k h. passes order (s .vars) (sixWeights (s .weights)) p _ (o .polynomials k (omega arith)) .0) in
       let a = gives cmp p (words-order order) pos (length ow) os all in
       let t = script-adds (wordsOf s) (coefsOf s) (startsOf s) 0 0 (s .lines) (λ j. ap (λ (i : ℕ). getD (startsOf s) i 0) (let q : 0 + j ≡ j = omega arith in q)) in
       let few : length (nonZero (last .output)) ≤ length (entriesIn (s .lines)) = omega (arith, ap length (sound cmp p (words-order order) pos (length ow) os all .output-is), a .given, t) in
       let k : length (nonZero (last .output)) * most (s .vars) ≤ length (entriesIn (s .lines)) * most (s .vars) = mul-le-mul-right (most (s .vars)) few in
       let b : length (last .work .brought) ≤ scriptTerms = omega (arith, a .brought, t, z .terms) in
-      let c : length (last .work .pairs) ≤ bound (length (last .work .brought)) = subst (λ (x : Outcome). x .tally .comparisons ≤ bound (x .tally .brought)) (outcome-is noTally (settingOf p number (s .vars)) (wordsOf s) (coefsOf s) (startsOf s) (pairsOf s) bw bc ww wc ow oc e) (demand-3-bound noTally (settingOf p number (s .vars)) (wordsOf s) (coefsOf s) (startsOf s) (pairsOf s) bw bc ww wc ow oc e) in
+      let c : length (last .work .pairs) ≤ bound (length (last .work .brought)) = subst (λ (x : Outcome). x .tally .comparisons ≤ bound (x .tally .brought)) (outcome-is noTally (settingIn s) (wordsOf s) (coefsOf s) (startsOf s) (pairsOf s) bw bc ww wc ow oc e) (demand-3-bound noTally (settingIn s) (wordsOf s) (coefsOf s) (startsOf s) (pairsOf s) bw bc ww wc ow oc e) in
       omega (
         arith,
         answers-most (s .order) (s .vars) 0 (s .lines) (last .output) (below-small p (last .output) (o .limit) (a .below)),
@@ -240,7 +239,7 @@ module _ (s : Script) (g : GoodScript s) (z : Sizes s) (bw bc ww wc ow oc : List
   last-finished : last .finished < 100000
   last-finished = omega (arith, finished-most (compareWords (orderOf (orderNumber (s .order)))) (s .prime) (length ow) (operationsOf (wordsOf s) (coefsOf s) (startsOf s) (pairsOf s)), operations-short (wordsOf s) (coefsOf s) (startsOf s) (pairsOf s) .1, pairs-long 0 (s .lines), z .operations)
 
-  run-most : length (outcomeText (s .order) (s .vars) (pairsOf s) (runOutcome noTally (settingOf (s .prime) (orderNumber (s .order)) (s .vars)) (wordsOf s) (coefsOf s) (startsOf s) (pairsOf s) bw bc ww wc ow oc)) ≤ listingBytes
+  run-most : length (outcomeText (s .order) (s .vars) (pairsOf s) (runOutcome noTally (settingIn s) (wordsOf s) (coefsOf s) (startsOf s) (pairsOf s) bw bc ww wc ow oc)) ≤ listingBytes
   unfolding ranText
   run-most = go refusal refl
     where
@@ -253,7 +252,7 @@ module _ (s : Script) (g : GoodScript s) (z : Sizes s) (bw bc ww wc ow oc : List
       ends (suc n) e h = refused-most (suc n) (last .finished) (omega (arith, e, stop-most (compareWords (orderOf (orderNumber (s .order)))) (s .prime) (length ow) (operationsOf (wordsOf s) (coefsOf s) (startsOf s) (pairsOf s)))) last-finished
 
       go : (r : ℕ) → refusal ≡ r → length (outcomeText (s .order) (s .vars) (pairsOf s) (decidedBy r noTally (ended last ow oc) bw bc ww wc ow oc)) ≤ listingBytes
-      go (suc r) e = refused-most (suc r) 0 (omega (arith, e, opening-most (settingOf (s .prime) (orderNumber (s .order)) (s .vars)) (wordsOf s) (coefsOf s) (startsOf s) (pairsOf s) (length bw) (length bc) (length ww) (length wc) (length ow) (length oc))) (omega arith)
+      go (suc r) e = refused-most (suc r) 0 (omega (arith, e, opening-most (settingIn s) (wordsOf s) (coefsOf s) (startsOf s) (pairsOf s) (length bw) (length bc) (length ww) (length wc) (length ow) (length oc))) (omega arith)
       go zero e = ends (last .stop) refl (done-most e)
 
 -- 65,536 bytes are enough, whatever the script: nothing of a listing is cut off

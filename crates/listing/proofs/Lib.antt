@@ -6,6 +6,7 @@ pub mod GivenLaws
 pub mod LengthLaws
 mod Outcomes
 pub mod Additions
+pub mod WeightsJudged
 pub mod LinesJudged
 pub mod Judgements
 pub mod Demands

@@ -15,15 +15,16 @@ use Rattle.monomial.specs.Layout.{Layout, wordOf, fields, exponents, Below}
 use Rattle.monomial.proofs.LayoutLaws.{fields-word, exponents-word, layout-word}
 use Rattle.polynomial.specs.Terms.{Term, term, terms, Under}
 use Rattle.call.specs.Lending.{polynomial}
-use Rattle.polynomial.specs.Settings.{settingOf}
 use Rattle.polynomial.specs.declared.setting.Setting.{Setting}
 use Rattle.opening.specs.Judgement.{GoodOrder, byExponents, placesConditions, polynomialConditions, conditionsBelow, polynomialsConditions}
-use Rattle.grammar.specs.Grammar.{Entry, Line, addLine, leadLine, sumLine, Script, GoodEntry, GoodEntries, GoodLines}
-use Rattle.grammar.specs.Parts.{capped, entryWord, entryCoef, orderNumber}
+use Rattle.grammar.specs.Grammar.{Entry, Line, addLine, leadLine, sumLine, Script, GoodEntry, GoodEntries, GoodLines, GoodWeights}
+use Rattle.grammar.specs.Parts.{capped, entryWord, entryCoef, sixWeights, orderNumber}
 use Rattle.script.specs.Loading.{entriesIn, endsFrom, wordsOf, coefsOf, startsOf}
 use Rattle.script.proofs.ScriptLaws.{order-number}
-use Rattle.listing.specs.Judgement.{entriesConditions, EntriesFall, linesConditions}
+use Rattle.listing.specs.Judgement.{LineInRange, entriesConditions, ownWeights, EntriesFall, linesConditions}
+use Rattle.listing.specs.Whole.{settingIn}
 use Rattle.listing.proofs.Additions.{From, added-is, from-next}
+use Rattle.listing.proofs.WeightsJudged.{same-order}
 
 -- ---- conditions of the same numbers, each of which holds where the other does, once those before it hold
 abbrev pub Alike : (cs ds : List Condition) → Type 0
@@ -63,28 +64,28 @@ capped-same [] b = refl
 capped-same (a ∷ α) b = ap₂ _∷_ (omega (arith, b .0)) (capped-same α (b .1))
 
 -- ---- a term of a script
-module _ (o : Order) (n : ℕ) (few : n ≤ 6) (e : Entry) (g : GoodEntry n e) where
+module _ (o : Order) (vs : List ℕ) (n : ℕ) (few : n ≤ 6) (e : Entry) (g : GoodEntry n e) where
   abbrev α : List ℕ
   α = map capped (e .exps)
 
-  word-is : entryWord o e ≡ wordOf o α
-  word-is = ap (λ (l : List ℕ). wordOf o (map capped l)) (take-all 6 (e .exps) (omega (arith, g .n-exps)))
+  word-is : entryWord o vs e ≡ wordOf o vs α
+  word-is = ap (λ (l : List ℕ). wordOf o vs (map capped l)) (take-all 6 (e .exps) (omega (arith, g .n-exps)))
 
   long : length α ≡ n
   long = length-map (e .exps) capped ∙ g .n-exps
 
   -- "an exponent over 127 gives 5"
-  word-exps : Layout o n (entryWord o e) → Below 128 (e .exps)
-  word-exps l = capped-below (e .exps) (below-front 128 α (replicate (6 - length α) 0) (subst (Below 128) (ap (fields o) word-is ∙ fields-word o α (omega (arith, long)) (capped-bytes (e .exps))) (l .tops)))
+  word-exps : Layout o n vs (entryWord o vs e) → Below 128 (e .exps)
+  word-exps l = capped-below (e .exps) (below-front 128 α (replicate (6 - length α) 0) (subst (Below 128) (ap (fields o) word-is ∙ fields-word o vs α (omega (arith, long)) (capped-bytes (e .exps))) (l .tops)))
 
-  exps-word : Below 128 (e .exps) → Layout o n (entryWord o e)
-  exps-word b = subst (Layout o n) (sym word-is) (layout-word o n α long few (subst (Below 128) (sym (capped-same (e .exps) b)) b))
+  exps-word : Below 128 (e .exps) → Layout o n vs (entryWord o vs e)
+  exps-word b = subst (Layout o n vs) (sym word-is) (layout-word o n vs α long few (subst (Below 128) (sym (capped-same (e .exps) b)) b))
 
-  pub exps-of : Below 128 (e .exps) → exponents o n (entryWord o e) ≡ e .exps
-  exps-of b = ap (exponents o n) word-is ∙ (exponents-word o n α long few (capped-bytes (e .exps)) ∙ capped-same (e .exps) b)
+  pub exps-of : Below 128 (e .exps) → exponents o n (entryWord o vs e) ≡ e .exps
+  exps-of b = ap (exponents o n) word-is ∙ (exponents-word o n vs α long few (capped-bytes (e .exps)) ∙ capped-same (e .exps) b)
 
 -- ---- the terms of an addition
-module _ (s : Script) (few : s .vars ≤ 6) where
+module _ (s : Script) (few : s .vars ≤ 6) (counted : GoodWeights (s .vars) (s .weights)) (range : LineInRange (s .weights)) where
   abbrev o : Order
   o = s .order
 
@@ -92,10 +93,16 @@ module _ (s : Script) (few : s .vars ≤ 6) where
   n = s .vars
 
   abbrev t : Setting
-  t = settingOf (s .prime) (orderNumber (s .order)) (s .vars)
+  t = settingIn s
+
+  abbrev six : List ℕ
+  six = sixWeights (s .weights)
+
+  abbrev word : Entry → ℕ
+  word e = entryWord (s .order) (sixWeights (s .weights)) e
 
   abbrev loaded : List Entry → List (Term ℕ)
-  loaded es = terms (map (entryWord (s .order)) es) (map entryCoef es)
+  loaded es = terms (map (entryWord (s .order) (sixWeights (s .weights))) es) (map entryCoef es)
 
   abbrev own : List Entry → List (Term (List ℕ))
   own es = map (λ e. term (e .exps) (e .coef)) es
@@ -104,15 +111,15 @@ module _ (s : Script) (few : s .vars ≤ 6) where
   places-alike [] g = tt
   places-alike (e ∷ es) g =
       let is = order-number o in
-      (refl, λ h. h, λ h. h, λ c. (refl, λ l. word-exps o n few e (g .0) (subst (λ (x : Order). Layout x n (entryWord o e)) is l), λ b. subst (λ (x : Order). Layout x n (entryWord o e)) (sym is) (exps-word o n few e (g .0) b), λ b. places-alike es (g .1)))
+      (refl, λ h. h, λ h. h, λ c. (refl, λ l. word-exps o six n few e (g .0) (subst (λ (x : Order). Layout x n six (word e)) is l), λ b. subst (λ (x : Order). Layout x n six (word e)) (sym is) (exps-word o six n few e (g .0) b), λ b. places-alike es (g .1)))
 
-  agree : (e e' : Entry) → GoodEntry n e → GoodEntry n e' → Below 128 (e .exps) → Below 128 (e' .exps) → byExponents (orderOf (orderNumber o)) n (entryWord o e) (entryWord o e') ≡ compareIn o (e .exps) (e' .exps)
-  agree e e' g g' b b' = ap (λ (x : Order). byExponents x n (entryWord o e) (entryWord o e')) (order-number o) ∙ ap₂ (compareIn o) (exps-of o n few e g b) (exps-of o n few e' g' b')
+  agree : (e e' : Entry) → GoodEntry n e → GoodEntry n e' → Below 128 (e .exps) → Below 128 (e' .exps) → byExponents (orderOf (orderNumber o)) n six (word e) (word e') ≡ compareIn o (ownWeights s) (e .exps) (e' .exps)
+  agree e e' g g' b b' = ap (λ (x : Order). byExponents x n six (word e) (word e')) (order-number o) ∙ (ap₂ (compareIn o six) (exps-of o six n few e g b) (exps-of o six n few e' g' b') ∙ same-order o n (s .weights) few counted range (e .exps) (e' .exps) (g .n-exps) (g' .n-exps))
 
   abbrev words-cmp : ℕ → ℕ → Ordering
-  words-cmp = byExponents (orderOf (orderNumber (s .order))) (s .vars)
+  words-cmp = byExponents (orderOf (orderNumber (s .order))) (s .vars) (sixWeights (s .weights))
 
-  under-both : (e : Entry) → GoodEntry n e → Below 128 (e .exps) → (es : List Entry) → GoodEntries n es → AllHold (entriesConditions s es) → (Under words-cmp (entryWord o e) (loaded es) → Under (compareIn o) (e .exps) (own es)) × (Under (compareIn o) (e .exps) (own es) → Under words-cmp (entryWord o e) (loaded es))
+  under-both : (e : Entry) → GoodEntry n e → Below 128 (e .exps) → (es : List Entry) → GoodEntries n es → AllHold (entriesConditions s es) → (Under words-cmp (word e) (loaded es) → Under (compareIn o (ownWeights s)) (e .exps) (own es)) × (Under (compareIn o (ownWeights s)) (e .exps) (own es) → Under words-cmp (word e) (loaded es))
   under-both e g b [] gs a = (λ u. tt, λ u. tt)
   under-both e g b (e' ∷ es) gs a =
       let q = agree e e' g (gs .0) b (a .1 .0) in
@@ -136,7 +143,7 @@ module _ (s : Script) (few : s .vars ≤ 6) where
 
   -- ---- addition by addition
   abbrev below : ℕ → List Condition
-  below k = conditionsBelow (settingOf (s .prime) (orderNumber (s .order)) (s .vars)) (wordsOf s) (coefsOf s) (startsOf s) k
+  below k = conditionsBelow (settingIn s) (wordsOf s) (coefsOf s) (startsOf s) k
 
   lines-alike : (ls : List Line) (k at : ℕ) (ds : List Condition) → GoodLines n ls → From s ls k at → Alike (below k) ds → Alike (below (k + length (endsFrom at ls))) (ds ++ linesConditions s ls)
   unfolding endsFrom entriesIn

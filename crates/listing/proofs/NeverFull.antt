@@ -5,7 +5,7 @@ use mathlib.Core.Path.{_≡_, refl, ap, _∙_}
 use mathlib.Core.Bool.{Bool, true}
 use mathlib.Core.List.{List, [], _∷_, _++_}
 use mathlib.Core.Option.{Option, none, some}
-use mathlib.Core.Logic.{inl, inr}
+use mathlib.Core.Logic.{_⊎_, inl, inr, ⊎-elim}
 use borrow.Author.Tests.{le-leb, ltb-true}
 use lib.ListN.{length, drop, getD, replicate, length-append, length-take}
 use lib.Dec.{ltb}
@@ -30,7 +30,6 @@ use Rattle.call.specs.declared.answer.Tally.{Tally}
 use Rattle.call.specs.Answers.{Stated, decidedBy}
 use Rattle.call.specs.Lending.{polynomial}
 use Rattle.run_outcome.specs.Runs.{adds, leads, sums, Running, begun, operate, operateAll, added, taken, summed, addedBy, takenBy, summedBy, placeOf, operationsOf}
-use Rattle.polynomial.specs.Settings.{settingOf}
 use Rattle.run_outcome.specs.Outcome.{ranThrough, ended}
 use Rattle.run_outcome.proofs.Follow.{all-on}
 use Rattle.grammar.specs.Grammar.{Line, addLine, leadLine, sumLine, Script, entriesText, linesText, GoodLines}
@@ -40,8 +39,8 @@ use Rattle.script.specs.Loading.{endsFrom, pairsFrom, wordsOf, coefsOf, startsO
 use Rattle.grammar.proofs.Accepted.{text-read}
 use Rattle.script.proofs.FieldLaws.{entries-size}
 use Rattle.listing_lines.specs.Listing.{refusedText}
-use Rattle.listing.specs.Whole.{ranBy, ranText, noTally, scriptOutcome, doneText, listingBy, listingOf}
-use Rattle.listing.specs.Printed.{Printed, bad-script, refused, done}
+use Rattle.listing.specs.Whole.{ranBy, ranText, noTally, settingIn, scriptOutcome, doneText, listingBy, listingOf}
+use Rattle.listing.specs.Printed.{Opening, Printed, bad-script, refused, done}
 use Rattle.listing.proofs.SizeLaws.{inside}
 use Rattle.listing.proofs.WholeLaws.{terms-most, ran-some}
 
@@ -150,34 +149,38 @@ never-full bytes s e cmp p =
     let room : wanted (s .lines) ≤ scriptTerms = omega (arith, lines-wanted (s .vars) (s .lines) (g .lines-good), inside s, g .not-long) in
     never-stops cmp p scriptTerms (omega arith) (wordsOf s) (coefsOf s) (startsOf s) (s .lines) 0 0 begun refl refl (omega (arith, room))
 
--- ---- an opening refusal is one of 1 to 9
-one-most : (m : ℕ) (ns : List ℕ) {r : ℕ} → below (suc m) ns ≡ true → OneOf ns r → r ≤ m
-one-most m [] b o = absurd o
-one-most m (n ∷ ns) b (inl e) = omega (arith, e, ltb-true n (suc m) (and-both (ltb n (suc m)) (below (suc m) ns) b .0))
-one-most m (n ∷ ns) b (inr o) = one-most m ns (and-both (ltb n (suc m)) (below (suc m) ns) b .1) o
+-- ---- an opening refusal is one of 1 to 9, or 24
+opening-by : (r : ℕ) (ns : List ℕ) → OneOf (ns ++ (24 ∷ [])) r → below 10 ns ≡ true → Opening r
+opening-by r [] (inl e) b = inr e
+opening-by r [] (inr o) b = absurd o
+opening-by r (n ∷ ns) (inl e) b = inl (omega (arith, e, ltb-true n 10 (and-both (ltb n 10) (below 10 ns) b .0)))
+opening-by r (n ∷ ns) (inr o) b = opening-by r ns o (and-both (ltb n 10) (below 10 ns) b .1)
 
-pub opening-most : (t : Setting) (words coefs starts ops : List ℕ) (bw bc ww wc ow oc : ℕ) → runRefusal t words coefs starts ops bw bc ww wc ow oc ≤ 9
-opening-most t words coefs starts ops bw bc ww wc ow oc = one-most 9 (0 ∷ 1 ∷ 2 ∷ 3 ∷ 4 ∷ 5 ∷ 6 ∷ 8 ∷ 9 ∷ []) refl (run-numbers t words coefs starts ops bw bc ww wc ow oc)
+opening-is : (t : Setting) (words coefs starts ops : List ℕ) (bw bc ww wc ow oc : ℕ) → Opening (runRefusal t words coefs starts ops bw bc ww wc ow oc)
+opening-is t words coefs starts ops bw bc ww wc ow oc =
+    opening-by (runRefusal t words coefs starts ops bw bc ww wc ow oc) (0 ∷ 1 ∷ 2 ∷ 3 ∷ 4 ∷ 5 ∷ 6 ∷ 8 ∷ 9 ∷ []) (run-numbers t words coefs starts ops bw bc ww wc ow oc) refl
+
+pub opening-most : (t : Setting) (words coefs starts ops : List ℕ) (bw bc ww wc ow oc : ℕ) → runRefusal t words coefs starts ops bw bc ww wc ow oc ≤ 24
+opening-most t words coefs starts ops bw bc ww wc ow oc = ⊎-elim (λ l. omega (arith, l)) (λ e. omega (arith, e)) (opening-is t words coefs starts ops bw bc ww wc ow oc)
 
 -- ---- a refusal, where all operations are done, is the opening's
-opening-alone : (refusal : ℕ) (tally : Tally) (t : Running) (bw bc ww wc ow oc : List ℕ) → refusal ≤ 9 → t .stop ≡ 0 → (let a : Stated = decidedBy refusal tally (ended t ow oc) bw bc ww wc ow oc .answer in (a .number ≤ 9) × ((a .number ≡ 0 → ⊥) → a .finished ≡ 0))
-opening-alone zero tally t bw bc ww wc ow oc h z = (omega (arith, z), λ some. absurd (some z))
+opening-alone : (refusal : ℕ) (tally : Tally) (t : Running) (bw bc ww wc ow oc : List ℕ) → Opening refusal → t .stop ≡ 0 → (let a : Stated = decidedBy refusal tally (ended t ow oc) bw bc ww wc ow oc .answer in Opening (a .number) × ((a .number ≡ 0 → ⊥) → a .finished ≡ 0))
+opening-alone zero tally t bw bc ww wc ow oc h z = (inl (omega (arith, z)), λ some. absurd (some z))
 opening-alone (suc n) tally t bw bc ww wc ow oc h z = (h, λ some. refl)
 
--- The run of an accepted script is refused by its opening checks, with one of 1 to 9 and no operation finished, or not at all.
-pub refused-at-opening : (bytes : List ℕ) (s : Script) → scriptOf bytes ≡ some s → (scriptOutcome s .answer .number ≤ 9) × ((scriptOutcome s .answer .number ≡ 0 → ⊥) → scriptOutcome s .answer .finished ≡ 0)
+-- The run of an accepted script is refused by its opening checks, with one of 1 to 9 or 24 and no operation finished, or not at all.
+pub refused-at-opening : (bytes : List ℕ) (s : Script) → scriptOf bytes ≡ some s → Opening (scriptOutcome s .answer .number) × ((scriptOutcome s .answer .number ≡ 0 → ⊥) → scriptOutcome s .answer .finished ≡ 0)
 refused-at-opening bytes s is =
-    let order = orderNumber (s .order) in
     let l : ℕ → ℕ = λ n. length {A = ℕ} (replicate n 0) in
-    opening-alone (runRefusal (settingOf (s .prime) order (s .vars)) (wordsOf s) (coefsOf s) (startsOf s) (pairsOf s) (l bucketPlaces) (l bucketPlaces) (l workPlaces) (l workPlaces) (l scriptTerms) (l scriptTerms)) noTally (ranThrough (settingOf (s .prime) order (s .vars)) (wordsOf s) (coefsOf s) (startsOf s) (pairsOf s) (l scriptTerms)) (replicate bucketPlaces 0) (replicate bucketPlaces 0) (replicate workPlaces 0) (replicate workPlaces 0) (replicate scriptTerms 0) (replicate scriptTerms 0)
-    (opening-most (settingOf (s .prime) order (s .vars)) (wordsOf s) (coefsOf s) (startsOf s) (pairsOf s) (l bucketPlaces) (l bucketPlaces) (l workPlaces) (l workPlaces) (l scriptTerms) (l scriptTerms))
-    (never-full bytes s is (compareWords (orderOf order)) (s .prime))
+    opening-alone (runRefusal (settingIn s) (wordsOf s) (coefsOf s) (startsOf s) (pairsOf s) (l bucketPlaces) (l bucketPlaces) (l workPlaces) (l workPlaces) (l scriptTerms) (l scriptTerms)) noTally (ranThrough (settingIn s) (wordsOf s) (coefsOf s) (startsOf s) (pairsOf s) (l scriptTerms)) (replicate bucketPlaces 0) (replicate bucketPlaces 0) (replicate workPlaces 0) (replicate workPlaces 0) (replicate scriptTerms 0) (replicate scriptTerms 0)
+    (opening-is (settingIn s) (wordsOf s) (coefsOf s) (startsOf s) (pairsOf s) (l bucketPlaces) (l bucketPlaces) (l workPlaces) (l workPlaces) (l scriptTerms) (l scriptTerms))
+    (never-full bytes s is (compareWords (orderOf (orderNumber (s .order)))) (s .prime))
 
 -- so neither with 10 nor with 11
 pub no-refusal-10-11 : (bytes : List ℕ) (s : Script) → scriptOf bytes ≡ some s → (scriptOutcome s .answer .number ≡ 10 → ⊥) × (scriptOutcome s .answer .number ≡ 11 → ⊥)
 no-refusal-10-11 bytes s is =
     let h = refused-at-opening bytes s is .0 in
-    (λ q. let z : ⊥ = omega (arith, h, q) in z, λ q. let z : ⊥ = omega (arith, h, q) in z)
+    (λ q. ⊎-elim (λ l. let z : ⊥ = omega (arith, l, q) in z) (λ e. let z : ⊥ = omega (arith, e, q) in z) h, λ q. ⊎-elim (λ l. let z : ⊥ = omega (arith, l, q) in z) (λ e. let z : ⊥ = omega (arith, e, q) in z) h)
 
 -- ---- the listing of any bytes
 pub printed : (bytes : List ℕ) → Printed bytes

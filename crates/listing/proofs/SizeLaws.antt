@@ -8,14 +8,17 @@ use lib.ListN.{length, take, drop, length-append, length-map}
 use lib.Seq.{sets, sets-eq, length-sets, take-at, length-take-le}
 use Rattle.limits.specs.Limits.{scriptNumbers, scriptStarts, scriptTerms}
 use Rattle.monomial.specs.declared.order.Order.{Order}
+use Rattle.monomial.specs.declared.order.Order.the-variants.{DegRevLex}
+use Rattle.monomial.specs.Layout.{fields}
 use Rattle.script.specs.declared.reader.Loaded.{Loaded}
 use Rattle.script.specs.declared.reader.Found.{Found}
 use Rattle.script.specs.declared.reader.Found.the-variants.{Script as Found·Script, Bad as Found·Bad}
-use Rattle.grammar.specs.Grammar.{Line, addLine, leadLine, sumLine, Script, order-word, vars-word, orderName, entriesText, linesText, scriptText, GoodLines}
+use Rattle.grammar.specs.Grammar.{Line, addLine, leadLine, sumLine, Script, order-word, vars-word, orderName, entriesText, linesText, spacedText, restText, scriptText, GoodLines}
 use Rattle.grammar.specs.Reading.{scriptOf}
-use Rattle.grammar.specs.Parts.{entryWord, entryCoef}
+use Rattle.grammar.specs.Parts.{entryWord, entryCoef, sixWeights}
 use Rattle.script.specs.Loading.{entriesIn, endsFrom, wordsOf, coefsOf, startsOf, pairsOf, loadedOf, ScriptAs, ReadScript}
 use Rattle.grammar.proofs.Accepted.{text-read}
+use Rattle.grammar.proofs.WeightsLaws.{packed-fields}
 use Rattle.script.proofs.FieldLaws.{entries-size}
 use Rattle.script.proofs.LinesLaws.{pairs-long}
 use Rattle.script.proofs.ScriptLaws.{order-number}
@@ -48,14 +51,18 @@ ends-many at (addLine ts ∷ ls) = omega (arith, ends-many (at + length ts) ls)
 ends-many at (leadLine ∷ ls) = omega (arith, ends-many at ls)
 ends-many at (sumLine ∷ ls) = omega (arith, ends-many at ls)
 
+rest-long : (weights : Option (List ℕ)) (ls : List Line) → length (linesText ls) ≤ length (restText weights ls)
+rest-long none ls = omega arith
+rest-long (some vs) ls = omega (arith, length-append (spacedText vs) (10 ∷ linesText ls))
+
 -- six bytes of the first line stand before the others
 pub inside : (s : Script) → 6 + length (linesText (s .lines)) ≤ length (scriptText s)
 unfolding scriptText
 inside s =
-    let t = linesText (s .lines) in
+    let t = restText (s .weights) (s .lines) in
     let c = vars-word ++ decimal (s .vars) in
     let b = order-word ++ orderName (s .order) in
-    omega (arith, length-append (decimal (s .prime)) (10 ∷ (b ++ (10 ∷ (c ++ (10 ∷ t))))), length-append b (10 ∷ (c ++ (10 ∷ t))), length-append c (10 ∷ t))
+    omega (arith, length-append (decimal (s .prime)) (10 ∷ (b ++ (10 ∷ (c ++ (10 ∷ t))))), length-append b (10 ∷ (c ++ (10 ∷ t))), length-append c (10 ∷ t), rest-long (s .weights) (s .lines))
 
 pub sizes : (bytes : List ℕ) (s : Script) → scriptOf bytes ≡ some s → Sizes s
 sizes bytes s e =
@@ -113,7 +120,7 @@ module _ {s words₀ coefs₀ starts₀ ops₀ words coefs starts ops : List ℕ
             terms-in = z .terms;
             starts-in = omega (arith, z .polynomials);
             pairs-in = omega (arith, z .operations);
-            words-are = taken-back scriptTerms (length (entriesIn (t .lines))) words₀ words (wordsOf t) lw (q .1) (length-map (entriesIn (t .lines)) (entryWord (t .order))) (z .terms);
+            words-are = taken-back scriptTerms (length (entriesIn (t .lines))) words₀ words (wordsOf t) lw (q .1) (length-map (entriesIn (t .lines)) (entryWord (t .order) (sixWeights (t .weights)))) (z .terms);
             coefs-are = taken-back scriptTerms (length (entriesIn (t .lines))) coefs₀ coefs (coefsOf t) lc (q .2) (length-map (entriesIn (t .lines)) entryCoef) (z .terms);
             starts-are = taken-back scriptStarts (length (endsFrom 0 (t .lines)) + 1) starts₀ starts (startsOf t) lt (q .3) (omega arith) (omega (arith, z .polynomials));
             pairs-are = taken-back scriptNumbers (2 * length (t .lines)) ops₀ ops (pairsOf t) lo (q .4) (pairs-long 0 (t .lines)) (omega (arith, z .operations));
@@ -129,18 +136,19 @@ prefix-long n size l h e = sym (length-take-le n l (omega arith))
 pub prefix-most : (n size : ℕ) (l : List ℕ) → n ≤ size → length l ≡ size → length (take n l) ≤ size
 prefix-most n size l h e = omega (arith, prefix-long n size l h e)
 
-pub good-listing : {s : List ℕ} {l : Loaded} {words coefs starts ops : List ℕ} → Read s l words coefs starts ops → {out out' : List ℕ} {k : ℕ} → Put (loadedText l (take (l .counts .terms) words) (take (l .counts .terms) coefs) (take (l .counts .polynomials + 1) starts) (take (2 * l .counts .operations) ops)) 0 out out' k → Put (listingOf s) 0 out out' k
+pub good-listing : {s : List ℕ} {l : Loaded} {words coefs starts ops : List ℕ} → Read s l words coefs starts ops → {out out' : List ℕ} {k : ℕ} → Put (loadedText l (fields DegRevLex (l .weights)) (take (l .counts .terms) words) (take (l .counts .terms) coefs) (take (l .counts .polynomials + 1) starts) (take (2 * l .counts .operations) ops)) 0 out out' k → Put (listingOf s) 0 out out' k
 unfolding listingOf
 good-listing {s} {l} {words} {coefs} {starts} {ops} d p = put-same (text ∙ sym (ap listingBy (d .is))) p
   where
-    text : loadedText l (take (l .counts .terms) words) (take (l .counts .terms) coefs) (take (l .counts .polynomials + 1) starts) (take (2 * l .counts .operations) ops) ≡ listingBy (some (d .script))
+    text : loadedText l (fields DegRevLex (l .weights)) (take (l .counts .terms) words) (take (l .counts .terms) coefs) (take (l .counts .polynomials + 1) starts) (take (2 * l .counts .operations) ops) ≡ listingBy (some (d .script))
     text =
-        ap (λ (x : List ℕ). loadedText l x (take (l .counts .terms) coefs) (take (l .counts .polynomials + 1) starts) (take (2 * l .counts .operations) ops)) (d .words-are)
-        ∙ (ap (λ (x : List ℕ). loadedText l (wordsOf (d .script)) x (take (l .counts .polynomials + 1) starts) (take (2 * l .counts .operations) ops)) (d .coefs-are)
-        ∙ (ap (λ (x : List ℕ). loadedText l (wordsOf (d .script)) (coefsOf (d .script)) x (take (2 * l .counts .operations) ops)) (d .starts-are)
-        ∙ (ap (λ (x : List ℕ). loadedText l (wordsOf (d .script)) (coefsOf (d .script)) (startsOf (d .script)) x) (d .pairs-are)
-        ∙ (ap (λ (x : Loaded). loadedText x (wordsOf (d .script)) (coefsOf (d .script)) (startsOf (d .script)) (pairsOf (d .script))) (d .loaded)
-        ∙ ap (λ (o : Order). outcomeText o (d .script .vars) (pairsOf (d .script)) (scriptOutcome (d .script))) (order-number (d .script .order))))))
+        ap (λ (x : List ℕ). loadedText l (fields DegRevLex (l .weights)) x (take (l .counts .terms) coefs) (take (l .counts .polynomials + 1) starts) (take (2 * l .counts .operations) ops)) (d .words-are)
+        ∙ (ap (λ (x : List ℕ). loadedText l (fields DegRevLex (l .weights)) (wordsOf (d .script)) x (take (l .counts .polynomials + 1) starts) (take (2 * l .counts .operations) ops)) (d .coefs-are)
+        ∙ (ap (λ (x : List ℕ). loadedText l (fields DegRevLex (l .weights)) (wordsOf (d .script)) (coefsOf (d .script)) x (take (2 * l .counts .operations) ops)) (d .starts-are)
+        ∙ (ap (λ (x : List ℕ). loadedText l (fields DegRevLex (l .weights)) (wordsOf (d .script)) (coefsOf (d .script)) (startsOf (d .script)) x) (d .pairs-are)
+        ∙ (ap (λ (x : Loaded). loadedText x (fields DegRevLex (x .weights)) (wordsOf (d .script)) (coefsOf (d .script)) (startsOf (d .script)) (pairsOf (d .script))) (d .loaded)
+        ∙ (ap (λ (vs : List ℕ). loadedText (loadedOf (d .script)) vs (wordsOf (d .script)) (coefsOf (d .script)) (startsOf (d .script)) (pairsOf (d .script))) (packed-fields (d .script .weights))
+        ∙ ap (λ (o : Order). outcomeText o (d .script .vars) (pairsOf (d .script)) (scriptOutcome (d .script))) (order-number (d .script .order)))))))
 
 pub prefix-in : (n size : ℕ) (l : List ℕ) → n ≤ size → length l ≡ size → n ≤ length l
 prefix-in n size l h e = omega arith

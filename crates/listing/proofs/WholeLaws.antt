@@ -114,17 +114,17 @@ module _ (words coefs starts : List ℕ) where
       omega (arith, all-brought cmp p places (length words) os begun refl (s .0))
 
 -- ---- what the run of a script gives
-module _ (l : Loaded) (words coefs starts ops : List ℕ) where
-  module _ {answer : Stated} {tally : Tally} {bw bc ww wc ow oc : List ℕ} (e : _≡_ {A = Outcome} (record { answer = answer; tally = tally; bw = bw; bc = bc; ww = ww; wc = wc; ow = ow; oc = oc }) (runOutcome noTally (settingOf (l .prime) (l .order) (l .vars)) words coefs starts ops (replicate bucketPlaces 0) (replicate bucketPlaces 0) (replicate workPlaces 0) (replicate workPlaces 0) (replicate scriptTerms 0) (replicate scriptTerms 0))) where
+module _ (l : Loaded) (weights words coefs starts ops : List ℕ) where
+  module _ {answer : Stated} {tally : Tally} {bw bc ww wc ow oc : List ℕ} (e : _≡_ {A = Outcome} (record { answer = answer; tally = tally; bw = bw; bc = bc; ww = ww; wc = wc; ow = ow; oc = oc }) (runOutcome noTally (settingOf (l .prime) (l .order) (l .vars) weights) words coefs starts ops (replicate bucketPlaces 0) (replicate bucketPlaces 0) (replicate workPlaces 0) (replicate workPlaces 0) (replicate scriptTerms 0) (replicate scriptTerms 0))) where
     pub run-room : length words ≤ scriptTerms → length ops ≤ scriptNumbers → length oc ≡ length ow → RanRoom tally answer (length ow) (length oc)
     run-room h k same =
-        let refusal = runRefusal (settingOf (l .prime) (l .order) (l .vars)) words coefs starts ops (length {A = ℕ} (replicate bucketPlaces 0)) (length {A = ℕ} (replicate bucketPlaces 0)) (length {A = ℕ} (replicate workPlaces 0)) (length {A = ℕ} (replicate workPlaces 0)) (length {A = ℕ} (replicate scriptTerms 0)) (length {A = ℕ} (replicate scriptTerms 0)) in
-        let t = ranThrough (settingOf (l .prime) (l .order) (l .vars)) words coefs starts ops (length {A = ℕ} (replicate scriptTerms 0)) in
+        let refusal = runRefusal (settingOf (l .prime) (l .order) (l .vars) weights) words coefs starts ops (length {A = ℕ} (replicate bucketPlaces 0)) (length {A = ℕ} (replicate bucketPlaces 0)) (length {A = ℕ} (replicate workPlaces 0)) (length {A = ℕ} (replicate workPlaces 0)) (length {A = ℕ} (replicate scriptTerms 0)) (length {A = ℕ} (replicate scriptTerms 0)) in
+        let t = ranThrough (settingOf (l .prime) (l .order) (l .vars) weights) words coefs starts ops (length {A = ℕ} (replicate scriptTerms 0)) in
         record {
           brought-small = subst (λ (y : Outcome). y .tally .brought ≤ 100000000000000000) (sym e) (decided-brought 100000000000000000 refusal noTally (ended t (replicate scriptTerms 0) (replicate scriptTerms 0)) (replicate bucketPlaces 0) (replicate bucketPlaces 0) (replicate workPlaces 0) (replicate workPlaces 0) (replicate scriptTerms 0) (replicate scriptTerms 0) (omega arith) (run-brought words coefs starts (compareWords (orderOf (l .order))) (l .prime) (length {A = ℕ} (replicate scriptTerms 0)) ops h k));
           same-long = same;
           places-in = subst (λ (y : Outcome). y .answer .places ≤ length (y .ow)) (sym e) (decided-places refusal noTally t (replicate bucketPlaces 0) (replicate bucketPlaces 0) (replicate workPlaces 0) (replicate workPlaces 0) (replicate scriptTerms 0) (replicate scriptTerms 0));
         }
 
-    pub run-text : {o : Order} → o ≡ orderOf (l .order) → {out out' : List ℕ} {r : ℕ} → Put (ranText o (l .vars) ops ow oc tally answer) 0 out out' r → Put (loadedText l words coefs starts ops) 0 out out' r
-    run-text {o} q p = put-same (ap (λ (x : Order). ranText x (l .vars) ops ow oc tally answer) q ∙ ap (λ (y : Outcome). ranText (orderOf (l .order)) (l .vars) ops (y .ow) (y .oc) (y .tally) (y .answer)) e) p
+    pub run-text : {o : Order} → o ≡ orderOf (l .order) → {vs : List ℕ} → weights ≡ vs → {out out' : List ℕ} {r : ℕ} → Put (ranText o (l .vars) ops ow oc tally answer) 0 out out' r → Put (loadedText l vs words coefs starts ops) 0 out out' r
+    run-text {o} q v p = put-same (ap (λ (x : Order). ranText x (l .vars) ops ow oc tally answer) q ∙ (ap (λ (y : Outcome). ranText (orderOf (l .order)) (l .vars) ops (y .ow) (y .oc) (y .tally) (y .answer)) e ∙ ap (λ (ws : List ℕ). loadedText l ws words coefs starts ops) v)) p

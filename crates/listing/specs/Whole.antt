@@ -10,13 +10,14 @@ use Rattle.monomial.specs.Exponents.{orderOf}
 use Rattle.polynomial.specs.Terms.{terms}
 use Rattle.call.specs.declared.answer.Tally.{Tally}
 use Rattle.call.specs.Answers.{Stated, Outcome}
+use Rattle.polynomial.specs.declared.setting.Setting.{Setting}
 use Rattle.polynomial.specs.Settings.{settingOf}
 use Rattle.run_outcome.specs.Outcome.{runOutcome}
 use Rattle.script.specs.declared.reader.Loaded.{Loaded}
 use Rattle.run_outcome.specs.Runs.{Operation, adds, leads, sums}
 use Rattle.grammar.specs.Grammar.{Line, addLine, leadLine, sumLine, Script}
 use Rattle.grammar.specs.Reading.{scriptOf}
-use Rattle.grammar.specs.Parts.{entryWord, entryCoef, orderNumber}
+use Rattle.grammar.specs.Parts.{entryWord, entryCoef, sixWeights, orderNumber}
 use Rattle.script.specs.Loading.{wordsOf, coefsOf, startsOf, pairsOf}
 use Rattle.listing_lines.specs.Listing.{answersText, costText, refusedText}
 
@@ -34,14 +35,18 @@ noTally = record { comparisons = 0; brought = 0; given = 0; held = 0 }
 
 -- a line as an operation of the run: an addition adds its terms, each as the word of its exponents (theorems `demand-2-operations` and `demand-2-exponents`)
 abbrev pub operationIn : Script → Line → Operation
-operationIn s (addLine es) = adds (terms (map (entryWord (s .order)) es) (map entryCoef es))
+operationIn s (addLine es) = adds (terms (map (entryWord (s .order) (sixWeights (s .weights))) es) (map entryCoef es))
 operationIn s leadLine = leads
 operationIn s sumLine = sums
+
+-- the setting of a script
+abbrev pub settingIn : Script → Setting
+settingIn s = settingOf (s .prime) (orderNumber (s .order)) (s .vars) (sixWeights (s .weights))
 
 -- the run of a script, with an output of 4,096 places
 abbrev pub scriptOutcome : Script → Outcome
 scriptOutcome s =
-    runOutcome noTally (settingOf (s .prime) (orderNumber (s .order)) (s .vars)) (wordsOf s) (coefsOf s) (startsOf s) (pairsOf s) (replicate bucketPlaces 0) (replicate bucketPlaces 0) (replicate workPlaces 0) (replicate workPlaces 0) (replicate scriptTerms 0) (replicate scriptTerms 0)
+    runOutcome noTally (settingIn s) (wordsOf s) (coefsOf s) (startsOf s) (pairsOf s) (replicate bucketPlaces 0) (replicate bucketPlaces 0) (replicate workPlaces 0) (replicate workPlaces 0) (replicate scriptTerms 0) (replicate scriptTerms 0)
 
 -- the lines of all its leads and sums, and the cost
 abbrev pub doneText : Script → List ℕ
@@ -66,7 +71,7 @@ pub record RanRoom (tally : Tally) (answer : Stated) (ow oc : ℕ) : Type 0 wher
   pub same-long : oc ≡ ow
   pub places-in : answer .places ≤ ow
 
--- the listing of what was read
-abbrev pub loadedText : Loaded → (words coefs starts ops : List ℕ) → List ℕ
-loadedText l words coefs starts ops =
-    outcomeText (orderOf (l .order)) (l .vars) ops (runOutcome noTally (settingOf (l .prime) (l .order) (l .vars)) words coefs starts ops (replicate bucketPlaces 0) (replicate bucketPlaces 0) (replicate workPlaces 0) (replicate workPlaces 0) (replicate scriptTerms 0) (replicate scriptTerms 0))
+-- the listing of what was read, of which the weights are taken apart
+abbrev pub loadedText : Loaded → (weights words coefs starts ops : List ℕ) → List ℕ
+loadedText l weights words coefs starts ops =
+    outcomeText (orderOf (l .order)) (l .vars) ops (runOutcome noTally (settingOf (l .prime) (l .order) (l .vars) weights) words coefs starts ops (replicate bucketPlaces 0) (replicate bucketPlaces 0) (replicate workPlaces 0) (replicate workPlaces 0) (replicate scriptTerms 0) (replicate scriptTerms 0))

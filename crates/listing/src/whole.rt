@@ -1,6 +1,7 @@
 // The whole listing of a script.
 use call::answer::Answer;
 use call::answer::Tally;
+use grammar::weights::weights_of;
 use limits::BUCKET_PLACES;
 use limits::SCRIPT_NUMBERS;
 use limits::SCRIPT_STARTS;
@@ -18,6 +19,8 @@ use script::reader::Loaded;
 use script::reader::read_script;
 ghost use Prim.Native.Nat.{_≤_};
 ghost use lib.ListN.{length};
+ghost use Rattle.monomial.specs.declared.order.Order.the-variants.{DegRevLex};
+ghost use Rattle.monomial.specs.Layout.{fields};
 ghost use Rattle.limits.specs.Limits.{scriptNumbers, scriptTerms};
 ghost use Rattle.call.specs.Answers.{stated};
 ghost use Rattle.listing_lines.specs.Put.{Put};
@@ -64,7 +67,7 @@ fn list_run<'a>(
     out: &mut [u8],
 ) -> usize
     requires { ⌜ (length (now words) ≤ scriptTerms) × (length (now ops) ≤ scriptNumbers) ⌝ }
-    ensures { λ r. ⌜ Put (loadedText l (now (words .entry)) (now (coefs .entry)) (now (starts .entry)) (now (ops .entry))) 0 (now (out .entry)) (now (out .exit)) r ⌝ }
+    ensures { λ r. ⌜ Put (loadedText l (fields DegRevLex (l .weights)) (now (words .entry)) (now (coefs .entry)) (now (starts .entry)) (now (ops .entry))) 0 (now (out .entry)) (now (out .exit)) r ⌝ }
 {
     let mut bw = [0u64; BUCKET_PLACES];
     let mut bc = [0u32; BUCKET_PLACES];
@@ -78,11 +81,13 @@ fn list_run<'a>(
         given: 0,
         held: 0,
     };
+    let weights = weights_of(l.weights);
     let ran = run(
         none,
         l.prime,
         l.order,
         l.vars,
+        &weights,
         words,
         coefs,
         starts,

@@ -1,26 +1,25 @@
 -- What the functions compute, on plain numbers: each law is a step of one of them. Assumes nothing.
-use mathlib.Core.Path.{_≡_, refl, sym, ap, ap₂, _∙_}
-use mathlib.Core.Bool.{Bool, true, false}
-use mathlib.Core.List.{List, [], reverse}
+use mathlib.Core.Path.{_≡_, refl, sym, ap, ap₂, _∙_, subst}
+use mathlib.Core.Bool.{Bool, false}
+use mathlib.Core.List.{List, [], _∷_, reverse}
 use Prim.Native.Nat.{ℕ, zero, suc, _+_, _-_, _*_, _/_, _%_, _^_, _<_, _≤_, zero-le, compare}
-use native.Mathlib.Nat.{mul-pos, zero-mul, mod-eq-of-lt, div-mul-le-self, div-add-mod', div-div-eq-div-mul, mul-le-mul}
-use native.Mathlib.Decide.{decLe}
+use native.Mathlib.Nat.{mul-pos, zero-mul, mod-eq-of-lt, div-div-eq-div-mul, mul-le-mul}
 use native.Mathlib.Numerals.{add-one}
 use native.Mathlib.Omega.{arith}
 use borrow.Author.Tests.{eq-eqb, ne-eqb}
 use lib.Dec.{eqb, lit<}
 use lib.Bits.{bitAnd, bitXor, xor-block, xor-zero-r, xor-add-and, and-mask, and-high}
 use lib.Pow.{pow-mono, pow-pos, mod-mod-pow, field}
-use lib.ListN.{length, getD, take, drop, take-append-drop}
+use lib.ListN.{length, getD, take, drop}
 use lib.Seq.{take-suc, take-all, length-take-le}
 use Rattle.monomial.specs.declared.order.Order.{Order}
 use Rattle.monomial.specs.declared.order.Order.the-variants.{Lex, DegLex, DegRevLex}
 use Rattle.monomial.specs.declared.order.Comparison.the-variants.{Smaller, Same, Larger}
-use Rattle.monomial.specs.Exponents.{degree, orderBy, orderOf}
-use Rattle.monomial.specs.Layout.{bytes, ofBytes, six, upward, lowBit, wordOf, fields, below, inLayout, beyondBits}
+use Rattle.monomial.specs.Exponents.{weighted, orderBy, orderOf}
+use Rattle.monomial.specs.Layout.{bytes, ofBytes, six, upward, lowBit, wordOf, fields, Below, below, inLayout, beyondBits, WeightsFit}
 use Rattle.monomial.specs.Words.{low, high, compareWords, keyOf, answer, Packed, dividesWord}
 use Rattle.monomial.proofs.Comparing.{lt-compare, eq-compare, gt-compare}
-use Rattle.monomial.proofs.Places.{length-each, below-reverse, degree-append, degree-upward, degree-zeros, true-below, zeros}
+use Rattle.monomial.proofs.Places.{length-each, below-reverse, below-true, below-upward, length-upward, weighted-zeros, upward-upward, weighted-upward, weighted-enough, true-below}
 use Rattle.monomial.proofs.ByteLaws.{length-bytes, bytes-below, ofBytes-bytes, bytes-of, tops, tops-clear, tops-set, apart, apart-sum, apart-below, apart-full, full, ofBytes-drop, ofBytes-take, zero-bytes}
 use Rattle.monomial.proofs.LayoutLaws.{below-fields}
 use Rattle.monomial.proofs.KeyLaws.{key-compare}
@@ -164,22 +163,15 @@ beyond-clear DegRevLex n w h = above-bits n w h
 grouped : (a b c d e f : ℕ) → a + b + c + d + e + f ≡ a + (b + (c + (d + (e + (f + 0)))))
 grouped a b c d e f = omega arith
 
-pub sum-fields : (w : ℕ) → w % 256 + w / 256 % 256 + w / 65536 % 256 + w / 16777216 % 256 + w / 4294967296 % 256 + w / 1099511627776 % 256 ≡ degree (bytes 6 w)
+pub sum-products : (v w : ℕ) → v % 256 * (w % 256) + v / 256 % 256 * (w / 256 % 256) + v / 65536 % 256 * (w / 65536 % 256) + v / 16777216 % 256 * (w / 16777216 % 256) + v / 4294967296 % 256 * (w / 4294967296 % 256) + v / 1099511627776 % 256 * (w / 1099511627776 % 256) ≡ weighted (bytes 6 v) (bytes 6 w)
 unfolding bytes
-sum-fields w = simp div-div-eq-div-mul (grouped (w % 256) (w / 256 % 256) (w / 65536 % 256) (w / 16777216 % 256) (w / 4294967296 % 256) (w / 1099511627776 % 256))
+sum-products v w = simp div-div-eq-div-mul (grouped (v % 256 * (w % 256)) (v / 256 % 256 * (w / 256 % 256)) (v / 65536 % 256 * (w / 65536 % 256)) (v / 16777216 % 256 * (w / 16777216 % 256)) (v / 4294967296 % 256 * (w / 4294967296 % 256)) (v / 1099511627776 % 256 * (w / 1099511627776 % 256)))
 
--- the degree of the exponents is the sum of all fields, where those beyond n are 0
-degree-enough : (n : ℕ) (α : List ℕ) → below 1 (drop n α) ≡ true → degree (take n α) ≡ degree α
-degree-enough n α h =
-    let z = ap degree (zeros (drop n α) (true-below 1 (drop n α) h)) ∙ degree-zeros (length (drop n α)) in
-    let s = ap degree (sym (take-append-drop n α)) ∙ degree-append (take n α) (drop n α) in
-    omega arith
-
-module _ (o : Order) (n w : ℕ) where
+module _ (o : Order) (n v w : ℕ) where
   clear : below 128 (fields o w) ≡ eqb (bitAnd w (tops 6)) 0
   clear = below-fields 128 o w ∙ sym (tops-clear 6 w)
 
-  pub top-refused : (bitAnd w (tops 6) ≡ 0 → ⊥) → false ≡ inLayout o n w
+  pub top-refused : (bitAnd w (tops 6) ≡ 0 → ⊥) → false ≡ inLayout o n (fields o v) w
   unfolding inLayout
   top-refused h = rw (clear ∙ ne-eqb (bitAnd w (tops 6)) 0 h)
 
@@ -187,15 +179,15 @@ module _ (o : Order) (n w : ℕ) where
     beyond-is : below 1 (drop n (fields o w)) ≡ eqb (bitAnd w b) 0
     beyond-is = sym (ap (λ (m : ℕ). eqb (bitAnd w m) 0) is ∙ beyond-clear o n w few)
 
-    pub beyond-refused : bitAnd w (tops 6) ≡ 0 → (bitAnd w b ≡ 0 → ⊥) → false ≡ inLayout o n w
+    pub beyond-refused : bitAnd w (tops 6) ≡ 0 → (bitAnd w b ≡ 0 → ⊥) → false ≡ inLayout o n (fields o v) w
     unfolding inLayout
     beyond-refused h k = rw (clear ∙ eq-eqb (bitAnd w (tops 6)) 0 h, beyond-is ∙ ne-eqb (bitAnd w b) 0 k)
 
-    pub by-degree : bitAnd w (tops 6) ≡ 0 → bitAnd w b ≡ 0 → (s : ℕ) → s ≡ degree (bytes 6 w) → eqb (w / 2 ^ 48) s ≡ inLayout o n w
+    pub by-degree : bitAnd w (tops 6) ≡ 0 → bitAnd w b ≡ 0 → (s : ℕ) → s ≡ weighted (bytes 6 v) (bytes 6 w) → eqb (w / 2 ^ 48) s ≡ inLayout o n (fields o v) w
     unfolding inLayout fields
     by-degree h k s e =
         let z = beyond-is ∙ eq-eqb (bitAnd w b) 0 k in
-        rw (clear ∙ eq-eqb (bitAnd w (tops 6)) 0 h, z) (ap (eqb (w / 2 ^ 48)) (e ∙ (sym (degree-upward o (bytes 6 w)) ∙ sym (degree-enough n (fields o w) z))))
+        rw (clear ∙ eq-eqb (bitAnd w (tops 6)) 0 h, z) (ap (eqb (w / 2 ^ 48)) (e ∙ (sym (weighted-upward o (bytes 6 v) (bytes 6 w) (length-bytes 6 v ∙ sym (length-bytes 6 w))) ∙ sym (weighted-enough (fields o v) n (fields o w) (true-below 1 (drop n (fields o w)) z)))))
 
 -- ---- bits of a field
 pub bit-lex : (o : Order) (i : ℕ) → o ≡ Lex → 40 - 8 * i ≡ lowBit o i
@@ -214,39 +206,97 @@ moved e s h k =
     let l : e * 2 ^ s ≤ 255 * 2 ^ 40 = mul-le-mul (let q : e ≤ 255 = omega arith in q) p in
     (mod-eq-of-lt (let m : e * 2 ^ s < 2 ^ 64 = omega arith in m), omega arith)
 
--- ---- the word of the first i exponents
-pub record Begun (o : Order) (α : List ℕ) (word i : ℕ) : Type 0 where
+-- ---- the word of the first i exponents; 17 · 255 < 2^13
+pub record Begun (o : Order) (vs α : List ℕ) (word i : ℕ) : Type 0 where
   pub low : i ≤ length α
-  pub small : word ≤ i * 2 ^ 56
-  pub is : word ≡ wordOf o (take i α)
+  pub small : word ≤ i * 2 ^ 61
+  pub is : word ≡ wordOf o vs (take i α)
 
-pub word-none : (o : Order) (α : List ℕ) → Begun o α 0 0
+pub word-none : (o : Order) (vs α : List ℕ) → Begun o vs α 0 0
 unfolding wordOf
-word-none o α = record { low = zero-le; small = zero-le; is = none o }
+word-none o vs α = record { low = zero-le; small = zero-le; is = ap₂ (λ (d f : ℕ). d * 2 ^ 48 + f) (sym (weighted-zeros vs 0)) (none o) }
   where
-    none : (q : Order) → 0 ≡ 0 * 2 ^ 48 + ofBytes (upward q (six []))
+    none : (q : Order) → 0 ≡ ofBytes (upward q (six []))
     none Lex = refl
     none DegLex = refl
     none DegRevLex = refl
 
-pub word-step : (o : Order) (α : List ℕ) (word i e s : ℕ) → Begun o α word i → i < length α → length α ≤ 6 → (e ≡ getD α i 0) × (e < 256) → (s ≡ lowBit o i) × (s ≤ 40) → Begun o α (word + (e * 2 ^ 48 + e * 2 ^ s % 2 ^ 64)) (i + 1)
-word-step o α word i e s g h l he hs =
+-- a weight of at most 17 times an exponent
+pub weight-times : (vs : List ℕ) (i v e : ℕ) → Below 18 vs → v ≡ getD vs i 0 → e < 256 → v * e ≤ 4335
+weight-times vs i v e u is h = mul-le-mul (let b = small vs i u in let q : v ≤ 17 = omega arith in q) (let q : e ≤ 255 = omega arith in q)
+  where
+    small : (us : List ℕ) (j : ℕ) → Below 18 us → getD us j 0 < 18
+    small [] j t = lit< tt
+    small (a ∷ us) zero t = t .0
+    small (a ∷ us) (suc j) t = small us j (t .1)
+
+pub word-step : (o : Order) (vs α : List ℕ) (word i v e s : ℕ) → Begun o vs α word i → i < length α → length α ≤ 6 → Below 18 vs → v ≡ getD vs i 0 → (e ≡ getD α i 0) × (e < 256) → (s ≡ lowBit o i) × (s ≤ 40) → Begun o vs α (word + (v * e * 2 ^ 48 + e * 2 ^ s % 2 ^ 64)) (i + 1)
+word-step o vs α word i v e s g h l u hv he hs =
     let m = moved e s (he .1) (hs .1) in
     let n : length (take i α) ≡ i = length-take-le i α (omega arith) in
     record {
       low = omega arith;
-      small = omega (arith, g .small, he .1, m .0, m .1);
+      small = omega (arith, g .small, weight-times vs i v e u hv (he .1), m .0, m .1);
       is =
-          ap₂ (λ (x y : ℕ). x + (e * 2 ^ 48 + y)) (g .is) (m .0)
-          ∙ (ap₂ (λ (x y : ℕ). wordOf o (take i α) + (x * 2 ^ 48 + x * 2 ^ y)) (he .0) (hs .0 ∙ ap (lowBit o) (sym n))
-          ∙ (sym (word-more o (take i α) (getD α i 0) (let k : length (take i α) < 6 = omega arith in k))
-          ∙ (ap (wordOf o) (sym (take-suc α i 0 h)) ∙ ap (λ (k : ℕ). wordOf o (take k α)) (sym (add-one i)))));
+          ap₂ (λ (x y : ℕ). x + (v * e * 2 ^ 48 + y)) (g .is) (m .0)
+          ∙ (ap₂ (λ (x y : ℕ). wordOf o vs (take i α) + (v * x * 2 ^ 48 + x * 2 ^ y)) (he .0) (hs .0 ∙ ap (lowBit o) (sym n))
+          ∙ (ap (λ (x : ℕ). wordOf o vs (take i α) + (x * getD α i 0 * 2 ^ 48 + getD α i 0 * 2 ^ lowBit o (length (take i α)))) (hv ∙ ap (λ (k : ℕ). getD vs k 0) (sym n))
+          ∙ (sym (word-more o vs (take i α) (getD α i 0) (let k : length (take i α) < 6 = omega arith in k))
+          ∙ (ap (wordOf o vs) (sym (take-suc α i 0 h)) ∙ ap (λ (k : ℕ). wordOf o vs (take k α)) (sym (add-one i))))));
     }
 
-pub word-ends : (o : Order) (α : List ℕ) (word i : ℕ) → Begun o α word i → length α ≤ i → word ≡ wordOf o α
-word-ends o α word i g h = g .is ∙ ap (wordOf o) (take-all i α h)
+pub word-ends : (o : Order) (vs α : List ℕ) (word i : ℕ) → Begun o vs α word i → length α ≤ i → word ≡ wordOf o vs α
+word-ends o vs α word i g h = g .is ∙ ap (wordOf o vs) (take-all i α h)
 
--- ---- sums that fit
+-- ---- the word of six weights
+pub six-list : (l : List ℕ) → length l ≡ 6 → l ≡ (getD l 0 0 ∷ getD l 1 0 ∷ getD l 2 0 ∷ getD l 3 0 ∷ getD l 4 0 ∷ getD l 5 0 ∷ [])
+six-list (a ∷ (b ∷ (c ∷ (d ∷ (e ∷ (f ∷ [])))))) h = refl
+six-list [] h = absurd (let z : ⊥ = omega arith in z)
+six-list (a ∷ []) h = absurd (let z : ⊥ = omega arith in z)
+six-list (a ∷ (b ∷ [])) h = absurd (let z : ⊥ = omega arith in z)
+six-list (a ∷ (b ∷ (c ∷ []))) h = absurd (let z : ⊥ = omega arith in z)
+six-list (a ∷ (b ∷ (c ∷ (d ∷ [])))) h = absurd (let z : ⊥ = omega arith in z)
+six-list (a ∷ (b ∷ (c ∷ (d ∷ (e ∷ []))))) h = absurd (let z : ⊥ = omega arith in z)
+six-list (a ∷ (b ∷ (c ∷ (d ∷ (e ∷ (f ∷ (g ∷ l))))))) h = absurd (let z : ⊥ = omega arith in z)
+
+-- the fields of the number that has these bytes, as they lie
+pub fields-lying : (o : Order) (vs : List ℕ) → WeightsFit vs → fields o (ofBytes (upward o vs)) ≡ vs
+unfolding fields
+fields-lying o vs g =
+    ap (λ (m : ℕ). upward o (bytes 6 m)) (let e : ofBytes (upward o vs) ≡ ofBytes (upward o vs) + 256 ^ 6 * 0 = omega arith in e)
+    ∙ (ap (upward o) (bytes-of 6 (upward o vs) 0 (length-upward o vs ∙ g .six-are) (true-below 256 (upward o vs) (below-upward 256 o vs ∙ below-true 256 vs (g .bytes-are))))
+    ∙ upward-upward o vs)
+
+-- the six weights from x1's on, and from x6's
+abbrev pub rising : List ℕ → List ℕ
+rising l = getD l 0 0 ∷ getD l 1 0 ∷ getD l 2 0 ∷ getD l 3 0 ∷ getD l 4 0 ∷ getD l 5 0 ∷ []
+
+abbrev pub sinking : List ℕ → List ℕ
+sinking l = getD l 5 0 ∷ getD l 4 0 ∷ getD l 3 0 ∷ getD l 2 0 ∷ getD l 1 0 ∷ getD l 0 0 ∷ []
+
+module _ (l : List ℕ) (g : WeightsFit l) where
+  turned-list : reverse l ≡ sinking l
+  turned-list = ap reverse (six-list l (g .six-are))
+
+  pub rising-fits : Below 256 (rising l)
+  rising-fits = subst (Below 256) (six-list l (g .six-are)) (g .bytes-are)
+
+  pub sinking-fits : Below 256 (sinking l)
+  sinking-fits = subst (Below 256) turned-list (true-below 256 (reverse l) (below-reverse 256 l ∙ below-true 256 l (g .bytes-are)))
+
+  pub weights-lex : (o : Order) (r : ℕ) → o ≡ Lex → r ≡ ofBytes (sinking l) → fields o r ≡ l
+  weights-lex o r e h = rw e (ap (fields Lex) (h ∙ ap ofBytes (sym turned-list)) ∙ fields-lying Lex l g)
+
+  pub weights-deg : (o : Order) (r : ℕ) → o ≡ DegLex → r ≡ ofBytes (sinking l) → fields o r ≡ l
+  weights-deg o r e h = rw e (ap (fields DegLex) (h ∙ ap ofBytes (sym turned-list)) ∙ fields-lying DegLex l g)
+
+  pub weights-rev : (o : Order) (r : ℕ) → o ≡ DegRevLex → r ≡ ofBytes (rising l) → fields o r ≡ l
+  weights-rev o r e h = rw e (ap (fields DegRevLex) (h ∙ ap ofBytes (sym (six-list l (g .six-are)))) ∙ fields-lying DegRevLex l g)
+
+-- ---- sums and products that fit
+pub byte-times : (x y : ℕ) → x < 256 → y < 256 → x * y < 65536
+byte-times x y h k = let l : x * y ≤ 255 * 255 = mul-le-mul (let q : x ≤ 255 = omega arith in q) (let q : y ≤ 255 = omega arith in q) in omega arith
+
 pub key-fits : (w : ℕ) → w < 2 ^ 64 → w % 2 ^ 48 * 65536 + w / 2 ^ 48 < 2 ^ 64
 key-fits w h = fits (w % 2 ^ 48) (w / 2 ^ 48) (omega arith) (omega arith)
   where

@@ -11,7 +11,7 @@ use lib.Seq.{getD-at, drop-at}
 use Rattle.monomial.specs.declared.order.Order.{Order}
 use Rattle.monomial.specs.declared.order.Order.the-variants.{Lex, DegLex, DegRevLex}
 use Rattle.monomial.specs.Layout.{bytes, ofBytes, six, upward, lowBit, wordOf, fields}
-use Rattle.monomial.proofs.Places.{length-reverse, degree-append}
+use Rattle.monomial.proofs.Places.{length-reverse, weighted-more}
 use Rattle.monomial.proofs.ByteLaws.{length-bytes}
 
 pub pow-bytes : (i : ℕ) → 2 ^ (8 * i) ≡ 256 ^ i
@@ -84,7 +84,7 @@ module _ (α γ : List ℕ) (a : ℕ) (six-long : length α + suc (length γ) �
   put-place DegLex = down-place
   put-place DegRevLex = at-place α γ a (2 ^ (8 * length α)) (sym (pow-bytes (length α)))
 
-module _ (o : Order) (α : List ℕ) (a : ℕ) (room : length α < 6) where
+module _ (o : Order) (vs α : List ℕ) (a : ℕ) (room : length α < 6) where
   six-more : six (α ++ (a ∷ [])) ≡ α ++ (a ∷ replicate (5 - length α) 0)
   six-more =
       ap (λ (k : ℕ). (α ++ (a ∷ [])) ++ replicate k 0) (let e : 6 - length (α ++ (a ∷ [])) ≡ 5 - length α = omega (arith, length-append α (a ∷ [])) in e)
@@ -93,13 +93,13 @@ module _ (o : Order) (α : List ℕ) (a : ℕ) (room : length α < 6) where
   six-less : six α ≡ α ++ (0 ∷ replicate (5 - length α) 0)
   six-less = ap (λ (k : ℕ). α ++ replicate k 0) (let e : 6 - length α ≡ suc (5 - length α) = omega arith in e)
 
-  pub word-more : wordOf o (α ++ (a ∷ [])) ≡ wordOf o α + (a * 2 ^ 48 + a * 2 ^ lowBit o (length α))
+  pub word-more : wordOf o vs (α ++ (a ∷ [])) ≡ wordOf o vs α + (getD vs (length α) 0 * a * 2 ^ 48 + a * 2 ^ lowBit o (length α))
   unfolding wordOf
   word-more =
       let s = ap (λ (l : List ℕ). ofBytes (upward o l)) six-more in
       let t = ap (λ (l : List ℕ). ofBytes (upward o l)) six-less in
       let p = put-place α (replicate (5 - length α) 0) a (omega (arith, length-replicate {A = ℕ} (5 - length α) 0)) o in
-      omega (arith, degree-append α (a ∷ []))
+      omega (arith, weighted-more vs α a)
 
 -- ---- the fields beyond the first n
 pub drop-reverse : (l : List ℕ) (n : ℕ) → n ≤ length l → drop n (reverse l) ≡ reverse (take (length l - n) l)

@@ -6,7 +6,7 @@ use native.Mathlib.Omega.{arith}
 use lib.ListN.{length, replicate}
 use Rattle.monomial.specs.declared.order.Order.{Order}
 use Rattle.monomial.specs.declared.order.Order.the-variants.{Lex, DegLex, DegRevLex}
-use Rattle.monomial.specs.Exponents.{degree, orElse, lex, revLex, compareIn}
+use Rattle.monomial.specs.Exponents.{weighted, orElse, lex, revLex, compareIn}
 use Rattle.monomial.specs.Layout.{ofBytes, six, upward, wordOf, exponents, Below, Layout}
 use Rattle.monomial.specs.Words.{low, high, compareWords, keyOf}
 use Rattle.monomial.proofs.Comparing.{carried, compare-digits, eq-compare}
@@ -17,7 +17,7 @@ use Rattle.monomial.proofs.LayoutLaws.{length-six, six-below, low-word,
 
 -- ---- like exponents at the end change nothing
 lex-append : (α β γ : List ℕ) → length α ≡ length β → lex (α ++ γ) (β ++ γ) ≡ lex α β
-lex-append [] [] γ h = exponents-order Lex .like γ
+lex-append [] [] γ h = exponents-order Lex [] .like γ
 lex-append [] (b ∷ β) γ h = absurd (let z : ⊥ = omega arith in z)
 lex-append (a ∷ α) [] γ h = absurd (let z : ⊥ = omega arith in z)
 lex-append (a ∷ α) (b ∷ β) γ h = ap (orElse (compare a b)) (lex-append α β γ (omega arith))
@@ -29,12 +29,12 @@ rev-append (a ∷ α) [] γ h = absurd (let z : ⊥ = omega arith in z)
 rev-append (a ∷ α) (b ∷ β) γ h = ap (λ (t : Ordering). orElse t (compare b a)) (rev-append α β γ (omega arith))
 
 -- the degrees of like exponents are like, so comparing them too changes nothing
-lex-enough : (α β : List ℕ) (t : Ordering) → lex α β ≡ t → orElse t (compare (degree α) (degree β)) ≡ t
-lex-enough α β Ordering·lt h = refl
-lex-enough α β Ordering·eq h = eq-compare (ap degree (lex-same α β h))
-lex-enough α β Ordering·gt h = refl
+lex-enough : (vs α β : List ℕ) (t : Ordering) → lex α β ≡ t → orElse t (compare (weighted vs α) (weighted vs β)) ≡ t
+lex-enough vs α β Ordering·lt h = refl
+lex-enough vs α β Ordering·eq h = eq-compare (ap (weighted vs) (lex-same α β h))
+lex-enough vs α β Ordering·gt h = refl
 
-module _ (α β : List ℕ) (like : length α ≡ length β) (fits : length α ≤ 6) (u : Below 256 α) (v : Below 256 β) where
+module _ (vs α β : List ℕ) (like : length α ≡ length β) (fits : length α ≤ 6) (u : Below 256 α) (v : Below 256 β) where
   six-alike : six β ≡ β ++ replicate (6 - length α) 0
   six-alike = ap (λ (k : ℕ). β ++ replicate (6 - k) 0) (sym like)
 
@@ -63,11 +63,11 @@ module _ (α β : List ℕ) (like : length α ≡ length β) (fits : length α �
   up-bytes : compare (ofBytes (six β)) (ofBytes (six α)) ≡ revLex α β
   up-bytes = let s = lying DegRevLex in compare-bytes (six β) (six α) (sym (s .2)) (s .1) (s .0) ∙ (sym (revLex-top (six α) (six β) sixes) ∙ rev-six)
 
-  highs : (o : Order) → compare (high (wordOf o α)) (high (wordOf o β)) ≡ compare (degree α) (degree β)
-  highs o = ap₂ compare (high-word o α fits u) (high-word o β long-β v)
+  highs : (o : Order) → compare (high (wordOf o vs α)) (high (wordOf o vs β)) ≡ compare (weighted vs α) (weighted vs β)
+  highs o = ap₂ compare (high-word o vs α fits u) (high-word o vs β long-β v)
 
-  lows : (o : Order) → compare (low (wordOf o α)) (low (wordOf o β)) ≡ compare (ofBytes (upward o (six α))) (ofBytes (upward o (six β)))
-  lows o = ap₂ compare (low-word o α fits u) (low-word o β long-β v)
+  lows : (o : Order) → compare (low (wordOf o vs α)) (low (wordOf o vs β)) ≡ compare (ofBytes (upward o (six α))) (ofBytes (upward o (six β)))
+  lows o = ap₂ compare (low-word o vs α fits u) (low-word o vs β long-β v)
 
 -- a word is its degree and its fields
 by-parts : (x y : ℕ) → compare x y ≡ orElse (compare (high x) (high y)) (compare (low x) (low y))
@@ -75,19 +75,19 @@ by-parts x y =
     let e : (w : ℕ) → w ≡ high w * 2 ^ 48 + low w = λ w. omega arith in
     ap₂ compare (e x) (e y) ∙ compare-digits (2 ^ 48) (high x) (high y) (low x) (low y) (omega arith) (omega arith)
 
--- comparing the words of exponents is comparing the exponents
-pub compare-words : (o : Order) (α β : List ℕ) → length α ≡ length β → length α ≤ 6 → Below 256 α → Below 256 β → compareWords o (wordOf o α) (wordOf o β) ≡ compareIn o α β
-compare-words Lex α β h f u v = ap₂ orElse (lows α β h f u v Lex ∙ down-bytes α β h f u v) (highs α β h f u v Lex) ∙ lex-enough α β (lex α β) refl
-compare-words DegLex α β h f u v = by-parts (wordOf DegLex α) (wordOf DegLex β) ∙ ap₂ orElse (highs α β h f u v DegLex) (lows α β h f u v DegLex ∙ down-bytes α β h f u v)
-compare-words DegRevLex α β h f u v = ap₂ orElse (highs α β h f u v DegRevLex) (ap₂ compare (low-word DegRevLex β (long-β α β h f u v) v) (low-word DegRevLex α f u) ∙ up-bytes α β h f u v)
+-- comparing the words of exponents is comparing the exponents, with any weights
+pub compare-words : (o : Order) (vs α β : List ℕ) → length α ≡ length β → length α ≤ 6 → Below 256 α → Below 256 β → compareWords o (wordOf o vs α) (wordOf o vs β) ≡ compareIn o vs α β
+compare-words Lex vs α β h f u v = ap₂ orElse (lows vs α β h f u v Lex ∙ down-bytes vs α β h f u v) (highs vs α β h f u v Lex) ∙ lex-enough vs α β (lex α β) refl
+compare-words DegLex vs α β h f u v = by-parts (wordOf DegLex vs α) (wordOf DegLex vs β) ∙ ap₂ orElse (highs vs α β h f u v DegLex) (lows vs α β h f u v DegLex ∙ down-bytes vs α β h f u v)
+compare-words DegRevLex vs α β h f u v = ap₂ orElse (highs vs α β h f u v DegRevLex) (ap₂ compare (low-word DegRevLex vs β (long-β vs α β h f u v) v) (low-word DegRevLex vs α f u) ∙ up-bytes vs α β h f u v)
 
 -- comparing words of the layout is comparing their exponents
-pub compare-layout : (o : Order) (n x y : ℕ) → n ≤ 6 → Layout o n x → Layout o n y → compareWords o x y ≡ compareIn o (exponents o n x) (exponents o n y)
-compare-layout o n x y h a b =
-    ap₂ (compareWords o) (sym (word-exponents o n x h a)) (sym (word-exponents o n y h b))
-    ∙ compare-words o (exponents o n x) (exponents o n y) (length-exponents o n x h ∙ sym (length-exponents o n y h)) (omega (arith, length-exponents o n x h))
-    (Below-more 128 256 (exponents o n x) (omega arith) (exponents-small o n x h a))
-    (Below-more 128 256 (exponents o n y) (omega arith) (exponents-small o n y h b))
+pub compare-layout : (o : Order) (n : ℕ) (vs : List ℕ) (x y : ℕ) → n ≤ 6 → Layout o n vs x → Layout o n vs y → compareWords o x y ≡ compareIn o vs (exponents o n x) (exponents o n y)
+compare-layout o n vs x y h a b =
+    ap₂ (compareWords o) (sym (word-exponents o n vs x h a)) (sym (word-exponents o n vs y h b))
+    ∙ compare-words o vs (exponents o n x) (exponents o n y) (length-exponents o n x h ∙ sym (length-exponents o n y h)) (omega (arith, length-exponents o n x h))
+    (Below-more 128 256 (exponents o n x) (omega arith) (exponents-small o n vs x h a))
+    (Below-more 128 256 (exponents o n y) (omega arith) (exponents-small o n vs y h b))
 
 -- ---- keys
 pub key-compare : (o : Order) (x y : ℕ) → x < 2 ^ 64 → y < 2 ^ 64 → compare (keyOf o x) (keyOf o y) ≡ compareWords o x y

@@ -9,3 +9,4 @@ pub mod WordLaws
 pub mod FieldLaws
 pub mod CodeLaws
 pub mod DocumentLaws
+pub mod UnitWeights

@@ -2,15 +2,17 @@
 use mathlib.Core.Path.{_≡_, refl, sym, ap₂}
 use mathlib.Core.Logic.{_⊎_, inl, inr}
 use mathlib.Core.List.{List, [], _∷_}
-use Prim.Native.Nat.{ℕ, zero, suc, _+_, compare, Ordering, Ordering·lt, Ordering·eq, Ordering·gt}
+use Prim.Native.Nat.{ℕ, zero, suc, _+_, _*_, _<_, _≤_, compare, Ordering, Ordering·lt, Ordering·eq, Ordering·gt}
+use native.Mathlib.Nat.{mul-add, mul-pos}
 use native.Mathlib.Omega.{arith}
 use lib.ListN.{length}
 use Rattle.monomial.specs.declared.order.Order.{Order}
 use Rattle.monomial.specs.declared.order.Order.the-variants.{Lex, DegLex, DegRevLex}
-use Rattle.monomial.specs.Exponents.{degree, product, one, orElse, lex, revLex, compareIn}
+use Rattle.monomial.specs.Exponents.{weighted, Positive, product, one, orElse, lex, revLex, compareIn}
 use Rattle.monomial.specs.Words.{low, high, compareWords}
 use Rattle.monomial.specs.TotalOrder.{turned, TotalOrder}
 use Rattle.monomial.proofs.Comparing.{tri, Tri, less, same, more, compare-same, compare-add}
+use Rattle.monomial.proofs.Places.{weighted-zeros}
 use Rattle.monomial.proofs.WeakOrder.{Chain, WeakOrder, strict, chain-lt-left, chain-gt-right, chain-orElse, weak-orElse, orElse-eq, weak-through, weak-turned, nat-weak, nat-order}
 
 -- ---- Lex
@@ -87,11 +89,11 @@ rev-same (a ∷ α) (b ∷ β) h = let e = orElse-eq (revLex α β) (compare b a
 rev-weak : WeakOrder (List ℕ) revLex
 rev-weak = record { like = rev-like; turn = rev-turn; chain = rev-chain }
 
--- each order is a total order on exponents
-pub exponents-order : (o : Order) → TotalOrder (List ℕ) (compareIn o)
-exponents-order Lex = strict lex-weak lex-same
-exponents-order DegLex = strict (weak-orElse (weak-through degree nat-weak) lex-weak) (λ α β h. lex-same α β (orElse-eq (compare (degree α) (degree β)) (lex α β) h .1))
-exponents-order DegRevLex = strict (weak-orElse (weak-through degree nat-weak) rev-weak) (λ α β h. rev-same α β (orElse-eq (compare (degree α) (degree β)) (revLex α β) h .1))
+-- each order is a total order on exponents, with any weights
+pub exponents-order : (o : Order) (vs : List ℕ) → TotalOrder (List ℕ) (compareIn o vs)
+exponents-order Lex vs = strict lex-weak lex-same
+exponents-order DegLex vs = strict (weak-orElse (weak-through (weighted vs) nat-weak) lex-weak) (λ α β h. lex-same α β (orElse-eq (compare (weighted vs α) (weighted vs β)) (lex α β) h .1))
+exponents-order DegRevLex vs = strict (weak-orElse (weak-through (weighted vs) nat-weak) rev-weak) (λ α β h. rev-same α β (orElse-eq (compare (weighted vs α) (weighted vs β)) (revLex α β) h .1))
 
 -- and so is each comparison of words, on all numbers
 pub words-order : (o : Order) → TotalOrder ℕ (compareWords o)
@@ -110,11 +112,12 @@ words-order DegRevLex =
     both x y h k = omega arith
 
 -- ---- multiplying by a monomial keeps an order
-pub degree-product : (γ α : List ℕ) → length γ ≡ length α → degree (product γ α) ≡ degree γ + degree α
-degree-product [] [] h = refl
-degree-product [] (a ∷ α) h = absurd (let z : ⊥ = omega arith in z)
-degree-product (c ∷ γ) [] h = absurd (let z : ⊥ = omega arith in z)
-degree-product (c ∷ γ) (a ∷ α) h = omega (arith, degree-product γ α (omega arith))
+pub weighted-product : (vs γ α : List ℕ) → length γ ≡ length α → weighted vs (product γ α) ≡ weighted vs γ + weighted vs α
+weighted-product [] γ α h = refl
+weighted-product (v ∷ vs) [] [] h = refl
+weighted-product (v ∷ vs) [] (a ∷ α) h = absurd (let z : ⊥ = omega arith in z)
+weighted-product (v ∷ vs) (c ∷ γ) [] h = absurd (let z : ⊥ = omega arith in z)
+weighted-product (v ∷ vs) (c ∷ γ) (a ∷ α) h = omega (arith, mul-add v c a, weighted-product vs γ α (omega arith))
 
 lex-product : (γ α β : List ℕ) → length γ ≡ length α → length γ ≡ length β → lex (product γ α) (product γ β) ≡ lex α β
 lex-product [] [] [] h k = refl
@@ -132,22 +135,27 @@ rev-product (c ∷ γ) [] β h k = absurd (let z : ⊥ = omega arith in z)
 rev-product (c ∷ γ) (a ∷ α) [] h k = absurd (let z : ⊥ = omega arith in z)
 rev-product (c ∷ γ) (a ∷ α) (b ∷ β) h k = ap₂ orElse (rev-product γ α β (omega arith) (omega arith)) (compare-add c b a)
 
-degrees-product : (γ α β : List ℕ) → length γ ≡ length α → length γ ≡ length β → compare (degree (product γ α)) (degree (product γ β)) ≡ compare (degree α) (degree β)
-degrees-product γ α β h k = rw (degree-product γ α h, degree-product γ β k) (compare-add (degree γ) (degree α) (degree β))
+degrees-product : (vs γ α β : List ℕ) → length γ ≡ length α → length γ ≡ length β → compare (weighted vs (product γ α)) (weighted vs (product γ β)) ≡ compare (weighted vs α) (weighted vs β)
+degrees-product vs γ α β h k = rw (weighted-product vs γ α h, weighted-product vs γ β k) (compare-add (weighted vs γ) (weighted vs α) (weighted vs β))
 
-pub product-keeps : (o : Order) (γ α β : List ℕ) → length γ ≡ length α → length γ ≡ length β → compareIn o (product γ α) (product γ β) ≡ compareIn o α β
-product-keeps Lex γ α β h k = lex-product γ α β h k
-product-keeps DegLex γ α β h k = ap₂ orElse (degrees-product γ α β h k) (lex-product γ α β h k)
-product-keeps DegRevLex γ α β h k = ap₂ orElse (degrees-product γ α β h k) (rev-product γ α β h k)
+-- with any weights
+pub product-keeps : (o : Order) (vs γ α β : List ℕ) → length γ ≡ length α → length γ ≡ length β → compareIn o vs (product γ α) (product γ β) ≡ compareIn o vs α β
+product-keeps Lex vs γ α β h k = lex-product γ α β h k
+product-keeps DegLex vs γ α β h k = ap₂ orElse (degrees-product vs γ α β h k) (lex-product γ α β h k)
+product-keeps DegRevLex vs γ α β h k = ap₂ orElse (degrees-product vs γ α β h k) (rev-product γ α β h k)
 
--- ---- 1 is the least monomial
-degree-one : (n : ℕ) → degree (one n) ≡ 0
-degree-one zero = refl
-degree-one (suc n) = omega (arith, degree-one n)
-
-no-degree : (α : List ℕ) → degree α ≡ 0 → α ≡ one (length α)
-no-degree [] h = refl
-no-degree (a ∷ α) h = cons-same (let e : a ≡ 0 = omega arith in e) (no-degree α (let e : degree α ≡ 0 = omega arith in e))
+-- ---- 1 is the least monomial, where each variable has a weight of at least 1 (with a weight of 0, dp would put x below 1)
+no-degree : (vs α : List ℕ) → Positive vs → length α ≤ length vs → weighted vs α ≡ 0 → α ≡ one (length α)
+no-degree vs [] g f h = refl
+no-degree [] (a ∷ α) g f h = absurd (let z : ⊥ = omega arith in z)
+no-degree (v ∷ vs) (a ∷ α) g f h =
+    cons-same
+    (zero-factor v a (g .0) (let e : v * a ≡ 0 = omega arith in e))
+    (no-degree vs α (g .1) (omega arith) (let e : weighted vs α ≡ 0 = omega arith in e))
+  where
+    zero-factor : (w b : ℕ) → 0 < w → w * b ≡ 0 → b ≡ 0
+    zero-factor w zero p e = refl
+    zero-factor w (suc b) p e = absurd (let q : 0 < w * suc b = mul-pos p (omega arith) in omega arith)
 
 lex-least : (α : List ℕ) → (α ≡ one (length α)) ⊎ (lex (one (length α)) α ≡ Ordering·lt)
 lex-least [] = inl refl
@@ -160,15 +168,15 @@ lex-least (a ∷ α) = go (tri 0 a) (lex-least α)
     go (more k e) r = absurd (let z : ⊥ = omega arith in z)
 
 -- by the degree first, whatever is compared after it
-least-by-degree : (t : Ordering) (α : List ℕ) → (α ≡ one (length α)) ⊎ (orElse (compare (degree (one (length α))) (degree α)) t ≡ Ordering·lt)
-least-by-degree t α = go (tri 0 (degree α))
+least-by-degree : (t : Ordering) (vs α : List ℕ) → Positive vs → length α ≤ length vs → (α ≡ one (length α)) ⊎ (orElse (compare (weighted vs (one (length α))) (weighted vs α)) t ≡ Ordering·lt)
+least-by-degree t vs α g f = go (tri 0 (weighted vs α))
   where
-    go : Tri 0 (degree α) → (α ≡ one (length α)) ⊎ (orElse (compare (degree (one (length α))) (degree α)) t ≡ Ordering·lt)
-    go (less k e) = inr (rw (degree-one (length α), e))
-    go (same k e) = inl (no-degree α (sym k))
+    go : Tri 0 (weighted vs α) → (α ≡ one (length α)) ⊎ (orElse (compare (weighted vs (one (length α))) (weighted vs α)) t ≡ Ordering·lt)
+    go (less k e) = inr (rw (weighted-zeros vs (length α), e))
+    go (same k e) = inl (no-degree vs α g f (sym k))
     go (more k e) = absurd (let z : ⊥ = omega arith in z)
 
-pub one-least : (o : Order) (α : List ℕ) → (α ≡ one (length α)) ⊎ (compareIn o (one (length α)) α ≡ Ordering·lt)
-one-least Lex α = lex-least α
-one-least DegLex α = least-by-degree (lex (one (length α)) α) α
-one-least DegRevLex α = least-by-degree (revLex (one (length α)) α) α
+pub one-least : (o : Order) (vs α : List ℕ) → Positive vs → length α ≤ length vs → (α ≡ one (length α)) ⊎ (compareIn o vs (one (length α)) α ≡ Ordering·lt)
+one-least Lex vs α g f = lex-least α
+one-least DegLex vs α g f = least-by-degree (lex (one (length α)) α) vs α g f
+one-least DegRevLex vs α g f = least-by-degree (revLex (one (length α)) α) vs α g f

@@ -1,17 +1,17 @@
--- Lists worked on place by place: how `each`, `below`, `divides` and `degree` go with `++`, `reverse`, `take` and `drop`. Assumes nothing.
+-- Lists worked on place by place: how `each`, `below`, `divides` and `weighted` go with `++`, `reverse`, `take` and `drop`. Assumes nothing.
 use mathlib.Core.Path.{_≡_, refl, sym, ap, ap₂, _∙_}
 use mathlib.Core.Bool.{Bool, true, false, _&&_, and-assoc, and-comm, and-true}
 use mathlib.Core.List.{List, [], _∷_, _++_, reverse, reverse-cons, reverse-reverse}
-use Prim.Native.Nat.{ℕ, zero, suc, _+_, _-_, _<_, _≤_}
-use native.Mathlib.Nat.{zero-add}
+use Prim.Native.Nat.{ℕ, zero, suc, _+_, _-_, _*_, _<_, _≤_}
+use native.Mathlib.Nat.{zero-add, zero-mul}
 use native.Mathlib.Omega.{arith}
 use borrow.Author.Tests.{lt-ltb, le-ltb, le-leb, lt-leb, ltb-true}
 use native.Mathlib.Decide.{decLe}
 use lib.Dec.{leb, ltb}
-use lib.ListN.{length, take, drop, replicate, length-append}
+use lib.ListN.{length, getD, take, drop, replicate, length-append}
 use Rattle.monomial.specs.declared.order.Order.{Order}
 use Rattle.monomial.specs.declared.order.Order.the-variants.{Lex, DegLex, DegRevLex}
-use Rattle.monomial.specs.Exponents.{degree, each, quotient, divides}
+use Rattle.monomial.specs.Exponents.{degree, weighted, each, quotient, divides}
 use Rattle.monomial.specs.Layout.{Below, below, upward}
 
 -- ---- lengths
@@ -105,18 +105,49 @@ divides-each (b ∷ β) (a ∷ α) h = ap₂ _&&_ (go (decLe b a)) (divides-each
     go (yes l) = le-leb b a l ∙ sym (lt-ltb (b - a) 1 (omega arith))
     go (no l) = lt-leb b a (omega arith) ∙ sym (le-ltb (b - a) 1 (omega arith))
 
--- ---- degree
-pub degree-append : (α β : List ℕ) → degree (α ++ β) ≡ degree α + degree β
-degree-append [] β = sym (zero-add (degree β))
-degree-append (a ∷ α) β = omega (arith, degree-append α β)
+-- ---- weighted
+weighted-none : (vs : List ℕ) → weighted vs [] ≡ 0
+weighted-none [] = refl
+weighted-none (v ∷ vs) = refl
 
-degree-reverse : (α : List ℕ) → degree (reverse α) ≡ degree α
-degree-reverse [] = refl
-degree-reverse (a ∷ α) = ap degree (reverse-cons a α) ∙ omega (arith, degree-append (reverse α) (a ∷ []), degree-reverse α)
+weighted-append : (vs us α β : List ℕ) → length vs ≡ length α → weighted (vs ++ us) (α ++ β) ≡ weighted vs α + weighted us β
+weighted-append [] us [] β h = sym (zero-add (weighted us β))
+weighted-append [] us (a ∷ α) β h = absurd (let z : ⊥ = omega arith in z)
+weighted-append (v ∷ vs) us [] β h = absurd (let z : ⊥ = omega arith in z)
+weighted-append (v ∷ vs) us (a ∷ α) β h = omega (arith, weighted-append vs us α β (omega arith))
 
-pub degree-zeros : (n : ℕ) → degree (replicate n 0) ≡ 0
-degree-zeros zero = refl
-degree-zeros (suc n) = omega (arith, degree-zeros n)
+weighted-reverse : (vs α : List ℕ) → length vs ≡ length α → weighted (reverse vs) (reverse α) ≡ weighted vs α
+weighted-reverse [] [] h = refl
+weighted-reverse [] (a ∷ α) h = absurd (let z : ⊥ = omega arith in z)
+weighted-reverse (v ∷ vs) [] h = absurd (let z : ⊥ = omega arith in z)
+weighted-reverse (v ∷ vs) (a ∷ α) h =
+    ap₂ weighted (reverse-cons v vs) (reverse-cons a α)
+    ∙ omega (arith, weighted-append (reverse vs) (v ∷ []) (reverse α) (a ∷ []) (omega (arith, length-reverse vs, length-reverse α)), weighted-reverse vs α (omega arith))
+
+pub weighted-zeros : (vs : List ℕ) (n : ℕ) → weighted vs (replicate n 0) ≡ 0
+weighted-zeros [] n = refl
+weighted-zeros (v ∷ vs) zero = refl
+weighted-zeros (v ∷ vs) (suc n) = omega (arith, weighted-zeros vs n)
+
+-- one exponent more
+pub weighted-more : (vs α : List ℕ) (a : ℕ) → weighted vs (α ++ (a ∷ [])) ≡ weighted vs α + getD vs (length α) 0 * a
+weighted-more [] α a = omega (arith, zero-mul a)
+weighted-more (v ∷ vs) [] a = omega (arith, weighted-none vs)
+weighted-more (v ∷ vs) (b ∷ α) a = omega (arith, weighted-more vs α a)
+
+-- exponents of 0 at the end add nothing
+pub weighted-enough : (vs : List ℕ) (n : ℕ) (α : List ℕ) → Below 1 (drop n α) → weighted vs (take n α) ≡ weighted vs α
+weighted-enough [] n α h = refl
+weighted-enough (v ∷ vs) zero α h = sym (ap (weighted (v ∷ vs)) (zeros α h) ∙ weighted-zeros (v ∷ vs) (length α))
+weighted-enough (v ∷ vs) (suc n) [] h = refl
+weighted-enough (v ∷ vs) (suc n) (a ∷ α) h = ap (λ (m : ℕ). v * a + m) (weighted-enough vs n α h)
+
+-- with weights of 1 the weighted degree is the degree
+pub weighted-ones : (k : ℕ) (α : List ℕ) → length α ≤ k → weighted (replicate k 1) α ≡ degree α
+weighted-ones zero [] h = refl
+weighted-ones zero (a ∷ α) h = absurd (let z : ⊥ = omega arith in z)
+weighted-ones (suc k) [] h = refl
+weighted-ones (suc k) (a ∷ α) h = omega (arith, weighted-ones k α (omega arith))
 
 -- ---- the fields as they lie, and back
 pub upward-upward : (o : Order) (α : List ℕ) → upward o (upward o α) ≡ α
@@ -139,7 +170,7 @@ below-upward k Lex α = below-reverse k α
 below-upward k DegLex α = below-reverse k α
 below-upward k DegRevLex α = refl
 
-pub degree-upward : (o : Order) (α : List ℕ) → degree (upward o α) ≡ degree α
-degree-upward Lex α = degree-reverse α
-degree-upward DegLex α = degree-reverse α
-degree-upward DegRevLex α = refl
+pub weighted-upward : (o : Order) (vs α : List ℕ) → length vs ≡ length α → weighted (upward o vs) (upward o α) ≡ weighted vs α
+weighted-upward Lex vs α h = weighted-reverse vs α h
+weighted-upward DegLex vs α h = weighted-reverse vs α h
+weighted-upward DegRevLex vs α h = refl

@@ -3,20 +3,20 @@ use mathlib.Core.Path.{_≡_, refl, sym, ap, ap₂, _∙_, subst}
 use mathlib.Core.Bool.{Bool, true, _&&_, and-true}
 use mathlib.Core.List.{List, [], _∷_, _++_}
 use Prim.Native.Nat.{ℕ, _+_, _-_, _*_, _/_, _^_, _<_, _≤_}
-use native.Mathlib.Nat.{pow-suc}
+use native.Mathlib.Nat.{pow-suc, mul-add}
 use native.Mathlib.Omega.{arith}
 use borrow.Author.Tests.{leb-true}
 use lib.Dec.{leb, lit≤}
 use lib.ListN.{length, take, drop, length-replicate, replicate-append-replicate, take-append-drop}
 use Rattle.monomial.specs.declared.order.Order.{Order}
 use Rattle.monomial.specs.declared.order.Order.the-variants.{Lex, DegLex, DegRevLex}
-use Rattle.monomial.specs.Exponents.{degree, each, product, quotient, one, divides, compareIn}
+use Rattle.monomial.specs.Exponents.{weighted, each, product, quotient, one, divides, compareIn}
 use Rattle.monomial.specs.Layout.{bytes, ofBytes, six, upward, wordOf, fields, exponents, Below, below, Layout}
 use Rattle.monomial.specs.Words.{low, dividesWord, compareWords}
-use Rattle.monomial.proofs.OrderLaws.{degree-product, product-keeps}
-use Rattle.monomial.proofs.Places.{each-take, each-drop, each-upward, below-upward, below-append, below-true, true-below, and-both, divides-each, Below-more, degree-zeros}
+use Rattle.monomial.proofs.OrderLaws.{weighted-product, product-keeps}
+use Rattle.monomial.proofs.Places.{each-take, each-drop, each-upward, below-upward, below-append, below-true, true-below, and-both, divides-each, Below-more, weighted-zeros}
 use Rattle.monomial.proofs.ByteLaws.{length-bytes, ofBytes-bytes, bytes-add, bytes-sub}
-use Rattle.monomial.proofs.LayoutLaws.{length-exponents, word-exponents, layout-packed}
+use Rattle.monomial.proofs.LayoutLaws.{length-exponents, word-exponents, layout-tops}
 use Rattle.monomial.proofs.KeyLaws.{compare-layout}
 
 -- ---- lists of small numbers
@@ -43,18 +43,30 @@ low-half w u =
     let h : 255 * ofBytes (bytes 6 w) + 127 ≤ 127 * 256 ^ 6 = subst (λ (k : ℕ). 255 * ofBytes (bytes 6 w) + 127 ≤ 127 * 256 ^ k) (length-bytes 6 w) (ofBytes-half (bytes 6 w) u) in
     omega (arith, ofBytes-bytes 6 w)
 
--- ---- what divides is no larger, in degree and as bytes, and the degree of a quotient is the difference
-divides-degree : (β α : List ℕ) → divides β α ≡ true → length β ≡ length α → (degree (quotient α β) + degree β ≡ degree α) × (ofBytes β ≤ ofBytes α)
-divides-degree [] [] h l = (refl, lit≤ tt)
-divides-degree [] (a ∷ α) h l = absurd (let z : ⊥ = omega arith in z)
-divides-degree (b ∷ β) [] h l = absurd (let z : ⊥ = omega arith in z)
-divides-degree (b ∷ β) (a ∷ α) h l =
+-- ---- what divides is no larger as bytes, and the degree of a quotient is the difference
+divides-bytes : (β α : List ℕ) → divides β α ≡ true → length β ≡ length α → ofBytes β ≤ ofBytes α
+divides-bytes [] [] h l = lit≤ tt
+divides-bytes [] (a ∷ α) h l = absurd (let z : ⊥ = omega arith in z)
+divides-bytes (b ∷ β) [] h l = absurd (let z : ⊥ = omega arith in z)
+divides-bytes (b ∷ β) (a ∷ α) h l =
     let e = and-both (leb b a) (divides β α) h in
-    let r = divides-degree β α (e .1) (omega arith) in
+    let r = divides-bytes β α (e .1) (omega arith) in
     let m : b ≤ a = leb-true b a (e .0) in
-    (omega arith, omega arith)
+    omega arith
 
-module _ (o : Order) (n x y : ℕ) (fits : n ≤ 6) (a : Layout o n x) (b : Layout o n y) where
+pub weighted-quotient : (vs β α : List ℕ) → divides β α ≡ true → length β ≡ length α → weighted vs (quotient α β) + weighted vs β ≡ weighted vs α
+weighted-quotient [] β α h l = refl
+weighted-quotient (v ∷ vs) [] [] h l = refl
+weighted-quotient (v ∷ vs) [] (a ∷ α) h l = absurd (let z : ⊥ = omega arith in z)
+weighted-quotient (v ∷ vs) (b ∷ β) [] h l = absurd (let z : ⊥ = omega arith in z)
+weighted-quotient (v ∷ vs) (b ∷ β) (a ∷ α) h l =
+    let e = and-both (leb b a) (divides β α) h in
+    let r = weighted-quotient vs β α (e .1) (omega arith) in
+    let m : b ≤ a = leb-true b a (e .0) in
+    let s : v * a ≡ v * (a - b) + v * b = ap (λ (k : ℕ). v * k) (let q : a ≡ a - b + b = omega arith in q) ∙ mul-add v (a - b) b in
+    omega arith
+
+module _ (o : Order) (n : ℕ) (vs : List ℕ) (x y : ℕ) (fits : n ≤ 6) (a : Layout o n vs x) (b : Layout o n vs y) where
   long : length (bytes 6 x) ≡ length (bytes 6 y)
   long = length-bytes 6 x ∙ sym (length-bytes 6 y)
 
@@ -86,7 +98,7 @@ module _ (o : Order) (n x y : ℕ) (fits : n ≤ 6) (a : Layout o n x) (b : Layo
 
   fields-sum : fields o (x + y) ≡ product (fields o x) (fields o y)
   unfolding fields
-  fields-sum = ap (upward o) (bytes-add 6 x y (layout-packed o n x fits a .tops) (layout-packed o n y fits b .tops)) ∙ sym (each-upward (λ i j. i + j) o (bytes 6 x) (bytes 6 y) long)
+  fields-sum = ap (upward o) (bytes-add 6 x y (layout-tops o n vs x fits a) (layout-tops o n vs y fits b)) ∙ sym (each-upward (λ i j. i + j) o (bytes 6 x) (bytes 6 y) long)
 
   -- the exponents of the sum of two words are the sums of their exponents
   pub product-exponents : exponents o n (x + y) ≡ product (exponents o n x) (exponents o n y)
@@ -98,29 +110,29 @@ module _ (o : Order) (n x y : ℕ) (fits : n ≤ 6) (a : Layout o n x) (b : Layo
       true-below 128 (product (fields o x) (fields o y))
       (ap (below 128) (each-upward (λ i j. i + j) o (bytes 6 x) (bytes 6 y) long) ∙ (below-upward 128 o (product (bytes 6 x) (bytes 6 y)) ∙ (product-test ∙ t)))
 
-  pub product-layout : below 128 (product (exponents o n x) (exponents o n y)) ≡ true → Layout o n (x + y)
+  pub product-layout : below 128 (product (exponents o n x) (exponents o n y)) ≡ true → Layout o n vs (x + y)
   product-layout t = record {
     degree-is =
-        let s : (x + y) / 2 ^ 48 ≡ x / 2 ^ 48 + y / 2 ^ 48 = omega (arith, low-half x (layout-packed o n x fits a .tops), low-half y (layout-packed o n y fits b .tops)) in
-        s ∙ (ap₂ (λ (i j : ℕ). i + j) (a .degree-is) (b .degree-is) ∙ (sym (degree-product (exponents o n x) (exponents o n y) alike) ∙ ap degree (sym product-exponents)));
+        let s : (x + y) / 2 ^ 48 ≡ x / 2 ^ 48 + y / 2 ^ 48 = omega (arith, low-half x (layout-tops o n vs x fits a), low-half y (layout-tops o n vs y fits b)) in
+        s ∙ (ap₂ (λ (i j : ℕ). i + j) (a .degree-is) (b .degree-is) ∙ (sym (weighted-product vs (exponents o n x) (exponents o n y) alike) ∙ ap (weighted vs) (sym product-exponents)));
     tops = subst (Below 128) (sym fields-sum) (fields-small t);
     beyond = subst (Below 1) (each-drop (λ i j. i + j) n (fields o x) (fields o y) ∙ ap (drop n) (sym fields-sum)) (zero-product (drop n (fields o x)) (drop n (fields o y)) (a .beyond) (b .beyond));
   }
 
   -- the sum of two words is the word of the product
-  pub product-word : below 128 (product (exponents o n x) (exponents o n y)) ≡ true → x + y ≡ wordOf o (product (exponents o n x) (exponents o n y))
-  product-word t = sym (word-exponents o n (x + y) fits (product-layout t)) ∙ ap (wordOf o) product-exponents
+  pub product-word : below 128 (product (exponents o n x) (exponents o n y)) ≡ true → x + y ≡ wordOf o vs (product (exponents o n x) (exponents o n y))
+  product-word t = sym (word-exponents o n vs (x + y) fits (product-layout t)) ∙ ap (wordOf o vs) product-exponents
 
 -- ---- x divided by y
-module _ (o : Order) (n x y : ℕ) (fits : n ≤ 6) (a : Layout o n x) (b : Layout o n y) (d : divides (exponents o n y) (exponents o n x) ≡ true) where
+module _ (o : Order) (n : ℕ) (vs : List ℕ) (x y : ℕ) (fits : n ≤ 6) (a : Layout o n vs x) (b : Layout o n vs y) (d : divides (exponents o n y) (exponents o n x) ≡ true) where
   by-words : dividesWord y x ≡ true
-  by-words = divides-layout o n y x fits b a ∙ d
+  by-words = divides-layout o n vs y x fits b a ∙ d
 
   lower : low y ≤ low x
-  lower = omega (arith, ofBytes-bytes 6 x, ofBytes-bytes 6 y, divides-degree (bytes 6 y) (bytes 6 x) by-words (length-bytes 6 y ∙ sym (length-bytes 6 x)) .1)
+  lower = omega (arith, ofBytes-bytes 6 x, ofBytes-bytes 6 y, divides-bytes (bytes 6 y) (bytes 6 x) by-words (length-bytes 6 y ∙ sym (length-bytes 6 x)))
 
-  degrees : degree (quotient (exponents o n x) (exponents o n y)) + degree (exponents o n y) ≡ degree (exponents o n x)
-  degrees = divides-degree (exponents o n y) (exponents o n x) d (length-exponents o n y fits ∙ sym (length-exponents o n x fits)) .0
+  degrees : weighted vs (quotient (exponents o n x) (exponents o n y)) + weighted vs (exponents o n y) ≡ weighted vs (exponents o n x)
+  degrees = weighted-quotient vs (exponents o n y) (exponents o n x) d (length-exponents o n y fits ∙ sym (length-exponents o n x fits))
 
   pub quotient-le : y ≤ x
   quotient-le = omega (arith, lower, degrees, a .degree-is, b .degree-is)
@@ -133,34 +145,34 @@ module _ (o : Order) (n x y : ℕ) (fits : n ≤ 6) (a : Layout o n x) (b : Layo
   pub quotient-exponents : exponents o n (x - y) ≡ quotient (exponents o n x) (exponents o n y)
   quotient-exponents = ap (take n) fields-difference ∙ sym (each-take (λ i j. i - j) n (fields o x) (fields o y))
 
-  pub quotient-layout : Layout o n (x - y)
+  pub quotient-layout : Layout o n vs (x - y)
   quotient-layout = record {
     degree-is =
-        let s : (x - y) / 2 ^ 48 ≡ degree (quotient (exponents o n x) (exponents o n y)) = omega (arith, lower, degrees, a .degree-is, b .degree-is) in
-        s ∙ ap degree (sym quotient-exponents);
+        let s : (x - y) / 2 ^ 48 ≡ weighted vs (quotient (exponents o n x) (exponents o n y)) = omega (arith, lower, degrees, a .degree-is, b .degree-is) in
+        s ∙ ap (weighted vs) (sym quotient-exponents);
     tops = subst (Below 128) (sym fields-difference) (zero-quotient 128 (fields o x) (fields o y) (a .tops));
     beyond = subst (Below 1) (each-drop (λ i j. i - j) n (fields o x) (fields o y) ∙ ap (drop n) (sym fields-difference)) (zero-quotient 1 (drop n (fields o x)) (drop n (fields o y)) (a .beyond));
   }
 
   -- the difference of two words is the word of the quotient
-  pub quotient-word : x - y ≡ wordOf o (quotient (exponents o n x) (exponents o n y))
-  quotient-word = sym (word-exponents o n (x - y) fits quotient-layout) ∙ ap (wordOf o) quotient-exponents
+  pub quotient-word : x - y ≡ wordOf o vs (quotient (exponents o n x) (exponents o n y))
+  quotient-word = sym (word-exponents o n vs (x - y) fits quotient-layout) ∙ ap (wordOf o vs) quotient-exponents
 
 -- ---- multiplying words of the layout keeps their order, and the word of 1 is 0
-pub multiply-keeps : (o : Order) (n z x y : ℕ) → n ≤ 6 → Layout o n z → Layout o n x → Layout o n y → below 128 (product (exponents o n z) (exponents o n x)) ≡ true → below 128 (product (exponents o n z) (exponents o n y)) ≡ true → compareWords o (z + x) (z + y) ≡ compareWords o x y
-multiply-keeps o n z x y h c a b fx fy =
-    compare-layout o n (z + x) (z + y) h (product-layout o n z x h c a fx) (product-layout o n z y h c b fy)
-    ∙ (ap₂ (compareIn o) (product-exponents o n z x h c a) (product-exponents o n z y h c b)
-    ∙ (product-keeps o (exponents o n z) (exponents o n x) (exponents o n y) (alike o n z x h c a) (alike o n z y h c b) ∙ sym (compare-layout o n x y h a b)))
+pub multiply-keeps : (o : Order) (n : ℕ) (vs : List ℕ) (z x y : ℕ) → n ≤ 6 → Layout o n vs z → Layout o n vs x → Layout o n vs y → below 128 (product (exponents o n z) (exponents o n x)) ≡ true → below 128 (product (exponents o n z) (exponents o n y)) ≡ true → compareWords o (z + x) (z + y) ≡ compareWords o x y
+multiply-keeps o n vs z x y h c a b fx fy =
+    compare-layout o n vs (z + x) (z + y) h (product-layout o n vs z x h c a fx) (product-layout o n vs z y h c b fy)
+    ∙ (ap₂ (compareIn o vs) (product-exponents o n vs z x h c a) (product-exponents o n vs z y h c b)
+    ∙ (product-keeps o vs (exponents o n z) (exponents o n x) (exponents o n y) (alike o n vs z x h c a) (alike o n vs z y h c b) ∙ sym (compare-layout o n vs x y h a b)))
 
 six-ones : (n : ℕ) → n ≤ 6 → six (one n) ≡ one 6
 six-ones n h =
     ap (λ (k : ℕ). one n ++ one (6 - k)) (length-replicate n 0)
     ∙ (replicate-append-replicate n (6 - n) 0 ∙ ap one (let e : n + (6 - n) ≡ 6 = omega arith in e))
 
-pub word-one : (o : Order) (n : ℕ) → n ≤ 6 → wordOf o (one n) ≡ 0
+pub word-one : (o : Order) (n : ℕ) (vs : List ℕ) → n ≤ 6 → wordOf o vs (one n) ≡ 0
 unfolding wordOf
-word-one o n h = ap₂ (λ (d f : ℕ). d * 2 ^ 48 + f) (degree-zeros n) (ap (λ (l : List ℕ). ofBytes (upward o l)) (six-ones n h) ∙ none o)
+word-one o n vs h = ap₂ (λ (d f : ℕ). d * 2 ^ 48 + f) (weighted-zeros vs n) (ap (λ (l : List ℕ). ofBytes (upward o l)) (six-ones n h) ∙ none o)
   where
     none : (q : Order) → ofBytes (upward q (one 6)) ≡ 0
     none Lex = refl

@@ -1,5 +1,5 @@
--- Monomials by their exponents: a list of n numbers, that of x1 first. Degree, product, quotient, divisibility and the three orders (document 000, section 2.1), on exponents alone. Assumes nothing.
-use Prim.Native.Nat.{ℕ, _+_, _-_, _<_, compare, Ordering, Ordering·lt, Ordering·eq, Ordering·gt}
+-- Monomials by their exponents: a list of n numbers, that of x1 first. Degree and weighted degree, product, quotient, divisibility and the three orders (document 000, section 2.1), on exponents alone. Assumes nothing.
+use Prim.Native.Nat.{ℕ, _+_, _-_, _*_, _<_, compare, Ordering, Ordering·lt, Ordering·eq, Ordering·gt}
 use mathlib.Core.Path.{_≡_}
 use mathlib.Core.Bool.{Bool, true, false, _&&_}
 use mathlib.Core.List.{List, [], _∷_}
@@ -12,6 +12,21 @@ use Rattle.monomial.specs.declared.order.Order.the-variants.{Lex, DegLex
 abbrev pub degree : List ℕ → ℕ
 degree [] = 0
 degree (a ∷ α) = a + degree α
+
+-- the weighted degree: the sum of the exponents, each times the weight of its variable (weights of x1, x2, .. in turn)
+abbrev pub weighted : (weights α : List ℕ) → ℕ
+weighted [] α = 0
+weighted (v ∷ vs) [] = 0
+weighted (v ∷ vs) (a ∷ α) = v * a + weighted vs α
+
+-- six weights of 1: "Known results in 01 are read with weights of 1."
+abbrev pub ones : List ℕ
+ones = replicate 6 1
+
+-- each weight is at least 1
+abbrev pub Positive : (weights : List ℕ) → Type 0
+Positive [] = Unit {0}
+Positive (v ∷ vs) = (0 < v) × Positive vs
 
 -- f of the two exponents of each variable
 abbrev pub each : (ℕ → ℕ → ℕ) → List ℕ → List ℕ → List ℕ
@@ -36,7 +51,7 @@ divides [] α = true
 divides (b ∷ β) [] = false
 divides (b ∷ β) (a ∷ α) = leb b a && divides β α
 
--- ---- the orders: `compareIn o α β` is how α stands to β
+-- ---- the orders: `compareIn o vs α β` is how α stands to β with the weights vs
 
 -- the first answer that is not "equal"
 abbrev pub orElse : Ordering → Ordering → Ordering
@@ -72,11 +87,11 @@ pub record RevLexLarger (α β : List ℕ) : Type 0 where
   pub after : (j : ℕ) → at < j → j < length α → getD α j 0 ≡ getD β j 0
   pub smaller : getD α at 0 < getD β at 0
 
--- lp: Lex. Dp: the degree, then Lex. dp: the degree, then RevLex
-abbrev pub compareIn : Order → List ℕ → List ℕ → Ordering
-compareIn Lex α β = lex α β
-compareIn DegLex α β = orElse (compare (degree α) (degree β)) (lex α β)
-compareIn DegRevLex α β = orElse (compare (degree α) (degree β)) (revLex α β)
+-- lp: Lex. Dp: the weighted degree, then Lex. dp: the weighted degree, then RevLex
+abbrev pub compareIn : Order → (weights : List ℕ) → List ℕ → List ℕ → Ordering
+compareIn Lex vs α β = lex α β
+compareIn DegLex vs α β = orElse (compare (weighted vs α) (weighted vs β)) (lex α β)
+compareIn DegRevLex vs α β = orElse (compare (weighted vs α) (weighted vs β)) (revLex α β)
 
 -- document 01, "Terms": the orders are 1 = lp, 2 = Dp, 3 = dp (any other number is refused before it is read so)
 abbrev pub orderBy : (isLp isDp : Bool) → Order

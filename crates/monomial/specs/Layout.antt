@@ -7,7 +7,7 @@ use lib.Dec.{ltb, eqb}
 use lib.ListN.{length, take, drop, replicate}
 use Rattle.monomial.specs.declared.order.Order.{Order}
 use Rattle.monomial.specs.declared.order.Order.the-variants.{Lex, DegLex, DegRevLex}
-use Rattle.monomial.specs.Exponents.{degree}
+use Rattle.monomial.specs.Exponents.{weighted}
 
 -- the k lowest bytes of w, from the lowest up
 unfoldable pub bytes : ℕ → ℕ → List ℕ
@@ -35,9 +35,9 @@ lowBit Lex i = 40 - 8 * i
 lowBit DegLex i = 40 - 8 * i
 lowBit DegRevLex i = 8 * i
 
--- "Bits 48 to 63 hold the degree, the sum of the exponents. Six 8-bit fields lie below."
-unfoldable pub wordOf : Order → List ℕ → ℕ
-wordOf o α = degree α * 2 ^ 48 + ofBytes (upward o (six α))
+-- "Bits 48 to 63 hold the degree, the sum of the exponents. Six 8-bit fields lie below.", and of document 02 "the degree field holds the weighted sum"
+unfoldable pub wordOf : Order → (weights : List ℕ) → List ℕ → ℕ
+wordOf o vs α = weighted vs α * 2 ^ 48 + ofBytes (upward o (six α))
 
 -- the six fields of a word, that of x1 first
 unfoldable pub fields : Order → ℕ → List ℕ
@@ -56,18 +56,23 @@ abbrev pub below : ℕ → List ℕ → Bool
 below k [] = true
 below k (a ∷ α) = ltb a k && below k α
 
--- w is of the layout, in order o and n variables
-pub record Layout (o : Order) (n w : ℕ) : Type 0 where
-  -- bits 48 to 63 hold the degree
-  pub degree-is : w / 2 ^ 48 ≡ degree (exponents o n w)
+-- w is of the layout, in order o and n variables with these weights
+pub record Layout (o : Order) (n : ℕ) (weights : List ℕ) (w : ℕ) : Type 0 where
+  -- bits 48 to 63 hold the weighted degree
+  pub degree-is : w / 2 ^ 48 ≡ weighted weights (exponents o n w)
   -- "The top bit of each field is 0"
   pub tops : Below 128 (fields o w)
   -- "fields of variables beyond n are 0"
   pub beyond : Below 1 (drop n (fields o w))
 
 -- the same as a test: refusal 5 where it is false
-unfoldable pub inLayout : Order → ℕ → ℕ → Bool
-inLayout o n w = below 128 (fields o w) && (below 1 (drop n (fields o w)) && eqb (w / 2 ^ 48) (degree (exponents o n w)))
+unfoldable pub inLayout : Order → (n : ℕ) (weights : List ℕ) (w : ℕ) → Bool
+inLayout o n vs w = below 128 (fields o w) && (below 1 (drop n (fields o w)) && eqb (w / 2 ^ 48) (weighted vs (exponents o n w)))
+
+-- weights that a word of weights holds: six, each a byte
+pub record WeightsFit (weights : List ℕ) : Type 0 where
+  pub six-are : length weights ≡ 6
+  pub bytes-are : Below 256 weights
 
 -- the bits of the fields of variables beyond n: under orders 1 and 2 they lie below the others, under order 3 above
 abbrev pub beyondBits : Order → (n : ℕ) → ℕ
@@ -75,6 +80,6 @@ beyondBits Lex n = 2 ^ (48 - 8 * n) - 1
 beyondBits DegLex n = 2 ^ (48 - 8 * n) - 1
 beyondBits DegRevLex n = 2 ^ 48 - 2 ^ (8 * n)
 
--- r is whether w is of the layout, for each order and number of variables that have these bits beyond
-abbrev pub TestsLayout : (beyond w : ℕ) (r : Bool) → Type 0
-TestsLayout beyond w r = (o : Order) (n : ℕ) → n ≤ 6 → beyond ≡ beyondBits o n → r ≡ inLayout o n w
+-- r is whether w is of the layout, for each order, number of variables and weights that have these bits beyond and this word of weights
+abbrev pub TestsLayout : (beyond v w : ℕ) (r : Bool) → Type 0
+TestsLayout beyond v w r = (o : Order) (n : ℕ) → n ≤ 6 → beyond ≡ beyondBits o n → r ≡ inLayout o n (fields o v) w

@@ -2,8 +2,8 @@
 use crate::order::Order;
 use crate::word::TOPS;
 ghost use mathlib.Core.Path.{_≡_};
-ghost use Prim.Native.Nat.{_≤_};
-ghost use Rattle.monomial.specs.Exponents.{degree};
+ghost use Prim.Native.Nat.{_≤_, _<_, _%_, _*_};
+ghost use Rattle.monomial.specs.Exponents.{weighted};
 ghost use Rattle.monomial.specs.Layout.{bytes, beyondBits, TestsLayout};
 
 // The six fields.
@@ -24,9 +24,9 @@ pub fn beyond_bits(order: Order, n: u32) -> u64
 }
 
 // Whether w is of the layout: refusal 5 where it is not. `beyond` is what `beyond_bits` gives for the
-// order and number of variables; of other bits nothing is promised.
-pub fn in_layout(beyond: u64, w: u64) -> bool
-    ensures { λ r. ⌜ TestsLayout beyond w r ⌝ }
+// order and number of variables, and `weights` what `weight_word` gives; of others nothing is promised.
+pub fn in_layout(beyond: u64, weights: u64, w: u64) -> bool
+    ensures { λ r. ⌜ TestsLayout beyond weights w r ⌝ }
 {
     if w & TOPS != 0 {
         return false;
@@ -34,17 +34,24 @@ pub fn in_layout(beyond: u64, w: u64) -> bool
     if w & beyond != 0 {
         return false;
     }
-    w / 0x1_0000_0000_0000 == field_sum(w)
+    w / 0x1_0000_0000_0000 == weighted_sum(weights, w)
 }
 
-// The sum of the six fields.
-fn field_sum(w: u64) -> u64
-    ensures { λ r. ⌜ r ≡ degree (bytes 6 w) ⌝ }
+// The sum of the six fields of w, each times the field of `weights` at its place.
+pub fn weighted_sum(weights: u64, w: u64) -> u64
+    ensures { λ r. ⌜ r ≡ weighted (bytes 6 weights) (bytes 6 w) ⌝ }
 {
-    w % 0x100
-        + w / 0x100 % 0x100
-        + w / 0x1_0000 % 0x100
-        + w / 0x100_0000 % 0x100
-        + w / 0x1_0000_0000 % 0x100
-        + w / 0x100_0000_0000 % 0x100
+    byte_product(weights, w)
+        + byte_product(weights / 0x100, w / 0x100)
+        + byte_product(weights / 0x1_0000, w / 0x1_0000)
+        + byte_product(weights / 0x100_0000, w / 0x100_0000)
+        + byte_product(weights / 0x1_0000_0000, w / 0x1_0000_0000)
+        + byte_product(weights / 0x100_0000_0000, w / 0x100_0000_0000)
+}
+
+// The product of the two lowest bytes.
+fn byte_product(x: u64, y: u64) -> u64
+    ensures { λ r. ⌜ (r ≡ x % 256 * (y % 256)) × (r < 65536) ⌝ }
+{
+    x % 0x100 * (y % 0x100)
 }

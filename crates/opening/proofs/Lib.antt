@@ -1,5 +1,6 @@
 pub mod Judging
 pub mod StartsJudged
+pub mod WeightsJudged
 pub mod PolynomialsJudged
 pub mod BadPlaces
 pub mod Parts

@@ -17,7 +17,7 @@ use Rattle.conditions.specs.Operations.{GoodOperations}
 use Rattle.polynomial.specs.declared.setting.Setting.{Setting}
 use Rattle.polynomial.specs.Terms.{Term, terms}
 use Rattle.polynomial.specs.Opening.{first, termBy, termRefusal, termsRefusal, fall, orderBy, refusalOf, polynomialRefusal, partOf}
-use Rattle.opening.specs.Run.{unless, between, setting, runRefusal}
+use Rattle.opening.specs.Run.{unless, between, weightsGood, setting, runRefusal}
 use Rattle.refusal.specs.Judgement.{condition, OneOf, oneOf, NumberedBy}
 use Rattle.refusal.proofs.JudgementLaws.{judged-numbers, numbered-then, numbers-listed}
 use Rattle.opening.specs.Reduction.{reductionRefusal}
@@ -28,8 +28,8 @@ use Rattle.opening.proofs.ReductionJudgements.{reduction-judged}
 
 -- ---- the numbers of the conditions, among any that have them
 module _ (ns : List ℕ) (t : Setting) where
-  pub setting-by : oneOf ns 1 ≡ true → oneOf ns 2 ≡ true → oneOf ns 3 ≡ true → NumberedBy ns (settingConditions t)
-  setting-by one two three = (one, (two, (three, tt)))
+  pub setting-by : oneOf ns 1 ≡ true → oneOf ns 2 ≡ true → oneOf ns 3 ≡ true → oneOf ns 24 ≡ true → NumberedBy ns (settingConditions t)
+  setting-by one two three twenty-four = (one, (two, (three, (twenty-four, tt))))
 
   module _ (four : oneOf ns 4 ≡ true) (five : oneOf ns 5 ≡ true) (six : oneOf ns 6 ≡ true) where
     places-by : (us : List (Term ℕ)) → NumberedBy ns (placesConditions t us)
@@ -49,39 +49,39 @@ module _ (ns : List ℕ) (t : Setting) where
 
 -- ---- a run
 abbrev runNumbers : List ℕ
-runNumbers = 1 ∷ 2 ∷ 3 ∷ 4 ∷ 5 ∷ 6 ∷ 8 ∷ 9 ∷ []
+runNumbers = 1 ∷ 2 ∷ 3 ∷ 4 ∷ 5 ∷ 6 ∷ 8 ∷ 9 ∷ 24 ∷ []
 
 module _ (t : Setting) (words coefs ss ops : List ℕ) (bw bc ww wc ow oc : ℕ) where
-  pub run-numbers : OneOf (0 ∷ 1 ∷ 2 ∷ 3 ∷ 4 ∷ 5 ∷ 6 ∷ 8 ∷ 9 ∷ []) (runRefusal t words coefs ss ops bw bc ww wc ow oc)
+  pub run-numbers : OneOf (0 ∷ 1 ∷ 2 ∷ 3 ∷ 4 ∷ 5 ∷ 6 ∷ 8 ∷ 9 ∷ 24 ∷ []) (runRefusal t words coefs ss ops bw bc ww wc ow oc)
   run-numbers =
       judged-numbers runNumbers (runConditions t words coefs ss ops bw bc ww wc ow oc) (runRefusal t words coefs ss ops bw bc ww wc ow oc)
       (numbered-then runNumbers (settingConditions t)
-      (condition 8 (GoodShape words coefs ss ops bw bc ww wc ow oc) ∷ (condition 9 (GoodOperations ops (length ss - 1)) ∷ polynomialsConditions t words coefs ss))
-      (setting-by runNumbers t refl refl refl) (refl, (refl, polynomials-by runNumbers t refl refl refl words coefs ss)))
+      (condition 8 (GoodShape (t .weights) words coefs ss ops bw bc ww wc ow oc) ∷ (condition 9 (GoodOperations ops (length ss - 1)) ∷ polynomialsConditions t words coefs ss))
+      (setting-by runNumbers t refl refl refl refl) (refl, (refl, polynomials-by runNumbers t refl refl refl words coefs ss)))
       (judged t words coefs ss ops bw bc ww wc ow oc)
 
   pub run-listed : (runRefusal t words coefs ss ops bw bc ww wc ow oc ≡ 0 → ⊥) → listed (runRefusal t words coefs ss ops bw bc ww wc ow oc) ≡ true
   unfolding listed
-  run-listed = numbers-listed runNumbers (runRefusal t words coefs ss ops bw bc ww wc ow oc) (refl, (refl, (refl, (refl, (refl, (refl, (refl, (refl, tt)))))))) run-numbers
+  run-listed = numbers-listed runNumbers (runRefusal t words coefs ss ops bw bc ww wc ow oc) (refl, (refl, (refl, (refl, (refl, (refl, (refl, (refl, (refl, tt))))))))) run-numbers
 
 -- ---- a reduction
 abbrev reductionNumbers : List ℕ
-reductionNumbers = 1 ∷ 2 ∷ 3 ∷ 4 ∷ 5 ∷ 6 ∷ 7 ∷ 8 ∷ []
+reductionNumbers = 1 ∷ 2 ∷ 3 ∷ 4 ∷ 5 ∷ 6 ∷ 7 ∷ 8 ∷ 24 ∷ []
 
 module _ (t : Setting) (words coefs ss : List ℕ) (limit bw bc ww wc ow oc : ℕ) where
-  pub reduction-numbers : OneOf (0 ∷ 1 ∷ 2 ∷ 3 ∷ 4 ∷ 5 ∷ 6 ∷ 7 ∷ 8 ∷ []) (reductionRefusal t words coefs ss limit bw bc ww wc ow oc)
+  pub reduction-numbers : OneOf (0 ∷ 1 ∷ 2 ∷ 3 ∷ 4 ∷ 5 ∷ 6 ∷ 7 ∷ 8 ∷ 24 ∷ []) (reductionRefusal t words coefs ss limit bw bc ww wc ow oc)
   reduction-numbers =
       let polynomials = polynomialsConditions t words coefs ss in
       let seven = condition 7 (GoodDivisors words coefs ss) in
       judged-numbers reductionNumbers (reductionConditions t words coefs ss limit bw bc ww wc ow oc) (reductionRefusal t words coefs ss limit bw bc ww wc ow oc)
       (numbered-then reductionNumbers (settingConditions t)
-      (condition 8 (GoodReductionShape (length words) (length coefs) ss limit bw bc ww wc ow oc) ∷ (polynomials ++ (seven ∷ [])))
-      (setting-by reductionNumbers t refl refl refl) (refl, numbered-then reductionNumbers polynomials (seven ∷ []) (polynomials-by reductionNumbers t refl refl refl words coefs ss) (refl, tt)))
+      (condition 8 (GoodReductionShape (length (t .weights)) (length words) (length coefs) ss limit bw bc ww wc ow oc) ∷ (polynomials ++ (seven ∷ [])))
+      (setting-by reductionNumbers t refl refl refl refl) (refl, numbered-then reductionNumbers polynomials (seven ∷ []) (polynomials-by reductionNumbers t refl refl refl words coefs ss) (refl, tt)))
       (reduction-judged t words coefs ss limit bw bc ww wc ow oc)
 
   pub reduction-listed : (reductionRefusal t words coefs ss limit bw bc ww wc ow oc ≡ 0 → ⊥) → listed (reductionRefusal t words coefs ss limit bw bc ww wc ow oc) ≡ true
   unfolding listed
-  reduction-listed = numbers-listed reductionNumbers (reductionRefusal t words coefs ss limit bw bc ww wc ow oc) (refl, (refl, (refl, (refl, (refl, (refl, (refl, (refl, tt)))))))) reduction-numbers
+  reduction-listed = numbers-listed reductionNumbers (reductionRefusal t words coefs ss limit bw bc ww wc ow oc) (refl, (refl, (refl, (refl, (refl, (refl, (refl, (refl, (refl, tt))))))))) reduction-numbers
 
 -- ---- the same of a chain of checks, test by test
 abbrev pub Numbered : ℕ → Type 0
@@ -104,7 +104,8 @@ unfolding setting listed
 setting-numbered t =
     first-numbered _ _ (unless-numbered (isPrime (t .p) && leb (t .p) largestPrime) 1 refl)
     (first-numbered _ _ (unless-numbered (between 1 3 (t .order)) 2 refl)
-    (unless-numbered (between 1 mostVariables (t .n)) 3 refl))
+    (first-numbered _ _ (unless-numbered (between 1 mostVariables (t .n)) 3 refl)
+    (unless-numbered (weightsGood (t .n) (t .weights)) 24 refl)))
 
 -- ---- polynomials: 4, 5 and 6
 term-numbered : (coefGood wordGood : Bool) → Numbered (termBy coefGood wordGood)
@@ -113,10 +114,10 @@ term-numbered false w = inr refl
 term-numbered true false = inr refl
 term-numbered true true = inl refl
 
-terms-numbered : (o : Order) (n p : ℕ) (ts : List (Term ℕ)) → Numbered (termsRefusal (termRefusal o n p) ts)
+terms-numbered : (o : Order) (n : ℕ) (vs : List ℕ) (p : ℕ) (ts : List (Term ℕ)) → Numbered (termsRefusal (termRefusal o n vs p) ts)
 unfolding termsRefusal
-terms-numbered o n p [] = inl refl
-terms-numbered o n p (t ∷ ts) = first-numbered _ _ (term-numbered (ltb 0 (t .coef) && ltb (t .coef) p) (inLayout o n (t .mono))) (terms-numbered o n p ts)
+terms-numbered o n vs p [] = inl refl
+terms-numbered o n vs p (t ∷ ts) = first-numbered _ _ (term-numbered (ltb 0 (t .coef) && ltb (t .coef) p) (inLayout o n vs (t .mono))) (terms-numbered o n vs p ts)
 
 order-numbered : (falling : Bool) → Numbered (orderBy falling)
 unfolding listed
@@ -125,4 +126,4 @@ order-numbered false = inr refl
 
 pub polynomial-numbered : (t : Setting) (ts : List (Term ℕ)) → Numbered (polynomialRefusal t ts)
 unfolding refusalOf
-polynomial-numbered t ts = first-numbered _ _ (terms-numbered (orderOf (t .order)) (t .n) (t .p) ts) (order-numbered (fall (compareWords (orderOf (t .order))) ts))
+polynomial-numbered t ts = first-numbered _ _ (terms-numbered (orderOf (t .order)) (t .n) (t .weights) (t .p) ts) (order-numbered (fall (compareWords (orderOf (t .order))) ts))

@@ -21,7 +21,7 @@ use Rattle.opening.proofs.BadPlaces.{places-all}
 -- `last` is the word that stands as the last one before the first part: it does not matter
 module _ (t : Setting) (last : ℕ) where
   abbrev judge : Term ℕ → ℕ
-  judge = termRefusal (orderOf (t .order)) (t .n) (t .p)
+  judge = termRefusal (orderOf (t .order)) (t .n) (t .weights) (t .p)
 
   abbrev cmp : ℕ → ℕ → Ordering
   cmp = compareWords (orderOf (t .order))

@@ -45,15 +45,15 @@ module _ (t : Setting) where
   good-coef : (u : Term ℕ) → GoodCoef t u → (ltb 0 (u .coef) && ltb (u .coef) (t .p)) ≡ true
   good-coef u g = both (ltb 0 (u .coef)) (ltb (u .coef) (t .p)) (lt-ltb 0 (u .coef) (g .0)) (lt-ltb (u .coef) (t .p) (g .1))
 
-  pub places-judged : (us : List (Term ℕ)) → Judged (placesConditions t us) (termsRefusal (termRefusal (orderOf (t .order)) (t .n) (t .p)) us)
+  pub places-judged : (us : List (Term ℕ)) → Judged (placesConditions t us) (termsRefusal (termRefusal (orderOf (t .order)) (t .n) (t .weights) (t .p)) us)
   unfolding termsRefusal
   places-judged [] = refl
-  places-judged (u ∷ us) = by (ltb 0 (u .coef) && ltb (u .coef) (t .p)) (inLayout (orderOf (t .order)) (t .n) (u .mono)) refl refl (termsRefusal (termRefusal (orderOf (t .order)) (t .n) (t .p)) us) (places-judged us)
+  places-judged (u ∷ us) = by (ltb 0 (u .coef) && ltb (u .coef) (t .p)) (inLayout (orderOf (t .order)) (t .n) (t .weights) (u .mono)) refl refl (termsRefusal (termRefusal (orderOf (t .order)) (t .n) (t .weights) (t .p)) us) (places-judged us)
     where
-      by : (a b : Bool) → (ltb 0 (u .coef) && ltb (u .coef) (t .p)) ≡ a → inLayout (orderOf (t .order)) (t .n) (u .mono) ≡ b → (r : ℕ) → Judged (placesConditions t us) r → Judged (placesConditions t (u ∷ us)) (first (termBy a b) r)
+      by : (a b : Bool) → (ltb 0 (u .coef) && ltb (u .coef) (t .p)) ≡ a → inLayout (orderOf (t .order)) (t .n) (t .weights) (u .mono) ≡ b → (r : ℕ) → Judged (placesConditions t us) r → Judged (placesConditions t (u ∷ us)) (first (termBy a b) r)
       by false b e f r j = inl ((λ g. clash e (good-coef u g)), refl)
-      by true false e f r j = inr (coef-good u e, inl ((λ g. clash f (layout-test (orderOf (t .order)) (t .n) (u .mono) g)), refl))
-      by true true e f r j = inr (coef-good u e, inr (test-layout (orderOf (t .order)) (t .n) (u .mono) f, j))
+      by true false e f r j = inr (coef-good u e, inl ((λ g. clash f (layout-test (orderOf (t .order)) (t .n) (t .weights) (u .mono) g)), refl))
+      by true true e f r j = inr (coef-good u e, inr (test-layout (orderOf (t .order)) (t .n) (t .weights) (u .mono) f, j))
 
   places-counted : (us : List (Term ℕ)) → Counted (placesConditions t us)
   places-counted [] = tt
@@ -72,14 +72,14 @@ module _ (t : Setting) where
       order-good : fall (compareWords (orderOf (t .order))) us ≡ true → GoodOrder t us
       order-good e =
           let o = orderOf (t .order) in
-          falling-agrees (compareWords o) (byExponents o (t .n)) (λ w. Layout o (t .n) w) (λ x y i j. sym (compare-layout o (t .n) x y few i j)) us a
+          falling-agrees (compareWords o) (byExponents o (t .n) (t .weights)) (λ w. Layout o (t .n) (t .weights) w) (λ x y i j. sym (compare-layout o (t .n) (t .weights) x y few i j)) us a
           (fall-falling (compareWords o) (words-order o) us e)
 
       good-order : GoodOrder t us → fall (compareWords (orderOf (t .order))) us ≡ true
       good-order g =
           let o = orderOf (t .order) in
           falling-fall (compareWords o) us
-          (falling-agrees (byExponents o (t .n)) (compareWords o) (λ w. Layout o (t .n) w) (λ x y i j. compare-layout o (t .n) x y few i j) us a g)
+          (falling-agrees (byExponents o (t .n) (t .weights)) (compareWords o) (λ w. Layout o (t .n) (t .weights) w) (λ x y i j. compare-layout o (t .n) (t .weights) x y few i j) us a g)
 
       order-judged : (b : Bool) → fall (compareWords (orderOf (t .order))) us ≡ b → Judged (condition 6 (GoodOrder t us) ∷ []) (orderBy b)
       order-judged true e = inr (order-good e, refl)
@@ -89,7 +89,7 @@ module _ (t : Setting) where
     unfolding refusalOf
     polynomial-judged us =
         let falls = fall (compareWords (orderOf (t .order))) us in
-        judged-first (placesConditions t us) (condition 6 (GoodOrder t us) ∷ []) (termsRefusal (termRefusal (orderOf (t .order)) (t .n) (t .p)) us) (orderBy falls) (places-counted us) (places-judged us)
+        judged-first (placesConditions t us) (condition 6 (GoodOrder t us) ∷ []) (termsRefusal (termRefusal (orderOf (t .order)) (t .n) (t .weights) (t .p)) us) (orderBy falls) (places-counted us) (places-judged us)
         (λ a. order-judged us (words-good us a) falls refl)
 
 -- ---- one polynomial after the other

@@ -28,12 +28,12 @@ use Rattle.opening.proofs.PolynomialsJudged.{polynomials-counted, polyn
 use Rattle.opening.proofs.ReductionLaws.{reduction-shape-passes}
 use Rattle.opening.proofs.Judgements.{setting-counted, setting-judged}
 
-good-reduction-shape : {words coefs : ℕ} {ss : List ℕ} {limit bw bc ww wc ow oc : ℕ} → GoodReductionShape words coefs ss limit bw bc ww wc ow oc → reductionShape words coefs ss limit bw bc ww wc ow oc ≡ true
+good-reduction-shape : {weights words coefs : ℕ} {ss : List ℕ} {limit bw bc ww wc ow oc : ℕ} → GoodReductionShape weights words coefs ss limit bw bc ww wc ow oc → reductionShape weights words coefs ss limit bw bc ww wc ow oc ≡ true
 unfolding reductionShape
 good-reduction-shape g = both _ _ (good-lent (g .lent)) (both _ _ (good-starts _ _ (g .starts)) (both _ _ (le-leb _ _ (g .some)) (le-leb _ _ (g .few-steps))))
 
 -- ---- a divisor is zero where its starts are equal
-module _ (words coefs : List ℕ) {ss : List ℕ} {limit bw bc ww wc ow oc : ℕ} (shape : GoodReductionShape (length words) (length coefs) ss limit bw bc ww wc ow oc) where
+module _ (words coefs : List ℕ) {weights : ℕ} {ss : List ℕ} {limit bw bc ww wc ow oc : ℕ} (shape : GoodReductionShape weights (length words) (length coefs) ss limit bw bc ww wc ow oc) where
   part-long : (k : ℕ) → k + 1 < length ss → length (terms (partOf ss k words) (partOf ss k coefs)) ≡ getD ss (k + 1) 0 - getD ss k 0
   part-long k l =
       let w = good-within ss (length words) (good-starts (length words) ss (shape .starts)) k l in
@@ -61,12 +61,12 @@ module _ (t : Setting) (words coefs ss : List ℕ) (limit bw bc ww wc ow oc : �
   pub reduction-judged : Judged (reductionConditions t words coefs ss limit bw bc ww wc ow oc) (reductionRefusal t words coefs ss limit bw bc ww wc ow oc)
   unfolding reductionRefusal
   reduction-judged =
-      let shape = reductionShape (length words) (length coefs) ss limit bw bc ww wc ow oc in
+      let shape = reductionShape (length (t .weights)) (length words) (length coefs) ss limit bw bc ww wc ow oc in
       let late = polynomialsRefusal t words coefs ss in
       let last = unless (divisorsGood ss) 7 in
       let polynomials = polynomialsConditions t words coefs ss in
       let seven = condition 7 (GoodDivisors words coefs ss) in
-      let eight = condition 8 (GoodReductionShape (length words) (length coefs) ss limit bw bc ww wc ow oc) in
+      let eight = condition 8 (GoodReductionShape (length (t .weights)) (length words) (length coefs) ss limit bw bc ww wc ow oc) in
       judged-first (settingConditions t) (eight ∷ (polynomials ++ (seven ∷ []))) (setting t) (first (unless shape 8) (first late last)) (setting-counted t) (setting-judged t)
       (λ s. judged-test eight (polynomials ++ (seven ∷ [])) shape (first late last) (omega arith) reduction-shape-passes good-reduction-shape
       (λ g. judged-first polynomials (seven ∷ []) late last (polynomials-counted t words coefs ss) (polynomials-judged t words coefs ss (s .1 .1 .0 .1))

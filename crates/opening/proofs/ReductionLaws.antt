@@ -30,10 +30,10 @@ few-starts n h = lt-leb 2 n (omega arith)
 pub some-starts : (n : ℕ) → 1 < n → ltb 1 n ≡ true
 some-starts n h = le-leb 2 n h
 
-pub reduction-shape-passes : {words coefs : ℕ} {ss : List ℕ} {limit bw bc ww wc ow oc : ℕ} → reductionShape words coefs ss limit bw bc ww wc ow oc ≡ true → GoodReductionShape words coefs ss limit bw bc ww wc ow oc
+pub reduction-shape-passes : {weights words coefs : ℕ} {ss : List ℕ} {limit bw bc ww wc ow oc : ℕ} → reductionShape weights words coefs ss limit bw bc ww wc ow oc ≡ true → GoodReductionShape weights words coefs ss limit bw bc ww wc ow oc
 unfolding reductionShape
-reduction-shape-passes {words} {coefs} {ss} {limit} {bw} {bc} {ww} {wc} {ow} {oc} h =
-    let x = and-both (lentGood words coefs bw bc ww wc ow oc) (startsGood ss words && (ltb 1 (length ss) && leb limit mostSteps)) h in
+reduction-shape-passes {weights} {words} {coefs} {ss} {limit} {bw} {bc} {ww} {wc} {ow} {oc} h =
+    let x = and-both (lentGood weights words coefs bw bc ww wc ow oc) (startsGood ss words && (ltb 1 (length ss) && leb limit mostSteps)) h in
     let y = and-both (startsGood ss words) (ltb 1 (length ss) && leb limit mostSteps) (x .1) in
     let z = and-both (ltb 1 (length ss)) (leb limit mostSteps) (y .1) in
     record { lent = lent-passes (x .0); starts = starts-good words ss (y .0); some = leb-true 2 (length ss) (z .0); few-steps = leb-true limit mostSteps (z .1) }
@@ -44,7 +44,7 @@ unfolding reductionRefusal
 reduction-setting t words coefs starts limit bw bc ww wc ow oc r e h = rw (← e) (first-some r _ h)
 
 -- past setting and shape, the polynomials decide, and then the divisors
-module _ (t : Setting) (words coefs starts : List ℕ) (limit bw bc ww wc ow oc : ℕ) {r : ℕ} (e : setting t ≡ 0) (g : reductionShape (length words) (length coefs) starts limit bw bc ww wc ow oc ≡ true) (er : r ≡ polynomialsRefusal t words coefs starts) where
+module _ (t : Setting) (words coefs starts : List ℕ) (limit bw bc ww wc ow oc : ℕ) {r : ℕ} (e : setting t ≡ 0) (g : reductionShape (length (t .weights)) (length words) (length coefs) starts limit bw bc ww wc ow oc ≡ true) (er : r ≡ polynomialsRefusal t words coefs starts) where
   past : reductionRefusal t words coefs starts limit bw bc ww wc ow oc ≡ first r (unless (divisorsGood starts) 7)
   unfolding reductionRefusal
   past = rw (e, g, er) refl
@@ -59,7 +59,7 @@ module _ (t : Setting) (words coefs starts : List ℕ) (limit bw bc ww wc ow oc 
 pub reduction-opened : (t : Setting) (words coefs starts : List ℕ) (limit bw bc ww wc ow oc : ℕ) → reductionRefusal t words coefs starts limit bw bc ww wc ow oc ≡ 0 → ReductionOpened t words coefs starts limit bw bc ww wc ow oc
 unfolding reductionRefusal
 reduction-opened t words coefs starts limit bw bc ww wc ow oc h =
-    let good = reductionShape (length words) (length coefs) starts limit bw bc ww wc ow oc in
+    let good = reductionShape (length (t .weights)) (length words) (length coefs) starts limit bw bc ww wc ow oc in
     let polys = polynomialsRefusal t words coefs starts in
     let last = unless (divisorsGood starts) 7 in
     let a = first-none (setting t) (first (unless good 8) (first polys last)) h in
@@ -75,6 +75,8 @@ reduction-opened t words coefs starts limit bw bc ww wc ow oc h =
       order-high = s .order-high;
       n-low = s .n-low;
       n-high = s .n-high;
+      weights = s .weights;
+      weights-six = l .weights-six;
       lent = l .lent;
       output = l .output;
       bucket-words = l .bucket-words;
@@ -89,11 +91,11 @@ reduction-opened t words coefs starts limit bw bc ww wc ow oc h =
     }
 
 -- by whether lengths and starts are good
-module _ (words coefs : ℕ) (ss : List ℕ) (limit bw bc ww wc ow oc : ℕ) where
-  pub reduction-off : (lentGood words coefs bw bc ww wc ow oc && startsGood ss words) ≡ false → reductionShape words coefs ss limit bw bc ww wc ow oc ≡ false
+module _ (weights words coefs : ℕ) (ss : List ℕ) (limit bw bc ww wc ow oc : ℕ) where
+  pub reduction-off : (lentGood weights words coefs bw bc ww wc ow oc && startsGood ss words) ≡ false → reductionShape weights words coefs ss limit bw bc ww wc ow oc ≡ false
   unfolding reductionShape
-  reduction-off e = and-off (lentGood words coefs bw bc ww wc ow oc) (startsGood ss words) (ltb 1 (length ss) && leb limit mostSteps) e
+  reduction-off e = and-off (lentGood weights words coefs bw bc ww wc ow oc) (startsGood ss words) (ltb 1 (length ss) && leb limit mostSteps) e
 
-  pub reduction-on : (lentGood words coefs bw bc ww wc ow oc && startsGood ss words) ≡ true → reductionShape words coefs ss limit bw bc ww wc ow oc ≡ (ltb 1 (length ss) && leb limit mostSteps)
+  pub reduction-on : (lentGood weights words coefs bw bc ww wc ow oc && startsGood ss words) ≡ true → reductionShape weights words coefs ss limit bw bc ww wc ow oc ≡ (ltb 1 (length ss) && leb limit mostSteps)
   unfolding reductionShape
-  reduction-on e = and-on (lentGood words coefs bw bc ww wc ow oc) (startsGood ss words) (ltb 1 (length ss) && leb limit mostSteps) e
+  reduction-on e = and-on (lentGood weights words coefs bw bc ww wc ow oc) (startsGood ss words) (ltb 1 (length ss) && leb limit mostSteps) e

@@ -23,7 +23,7 @@ stop-setting t words coefs starts ops bw bc ww wc ow oc r e h = rw (← e) (firs
 pub opened : (t : Setting) (words coefs starts ops : List ℕ) (bw bc ww wc ow oc : ℕ) → runRefusal t words coefs starts ops bw bc ww wc ow oc ≡ 0 → Opened t words coefs starts ops bw bc ww wc ow oc
 unfolding runRefusal
 opened t words coefs starts ops bw bc ww wc ow oc h =
-    let good = shapeGood (length words) (length coefs) starts (length ops) bw bc ww wc ow oc in
+    let good = shapeGood (length (t .weights)) (length words) (length coefs) starts (length ops) bw bc ww wc ow oc in
     let done = operationsGood ops (length starts - 1) in
     let last = polynomialsRefusal t words coefs starts in
     let a = first-none (setting t) (first (unless good 8) (first (unless done 9) last)) h in
@@ -38,6 +38,8 @@ opened t words coefs starts ops bw bc ww wc ow oc h =
       order-high = s .order-high;
       n-low = s .n-low;
       n-high = s .n-high;
+      weights = s .weights;
+      weights-six = l .weights-six;
       lent = l .lent;
       output = l .output;
       bucket-words = l .bucket-words;

@@ -8,8 +8,11 @@ use Rattle.refusal.specs.Judgement.{Judged}
 use Rattle.refusal.proofs.JudgementLaws.{judged-none}
 use Rattle.residue.specs.Prime.{Prime, isPrime}
 use Rattle.polynomial.specs.declared.setting.Setting.{Setting}
-use Rattle.opening.specs.Run.{between, setting}
+use Rattle.opening.specs.Run.{between, weightsGood, setting}
 use Rattle.opening.specs.Judgement.{settingConditions}
+use Rattle.polynomial.specs.Settings.{Testable}
+use lib.ListN.{length}
+use Rattle.opening.proofs.WeightsJudged.{good-weights, weights-fit}
 use Rattle.opening.proofs.Judgements.{setting-counted, setting-judged}
 
 module _ (t : Setting) where
@@ -30,9 +33,13 @@ module _ (t : Setting) where
     unfolding setting
     no-variables h k = rw (le-leb (t .p) largestPrime limit, prime, h, k)
 
-    pub set : between 1 3 (t .order) ≡ true → between 1 mostVariables (t .n) ≡ true → 0 ≡ setting t
+    pub no-weights : between 1 3 (t .order) ≡ true → between 1 mostVariables (t .n) ≡ true → weightsGood (t .n) (t .weights) ≡ false → 24 ≡ setting t
     unfolding setting
-    set h k = rw (le-leb (t .p) largestPrime limit, prime, h, k)
+    no-weights h k l = rw (le-leb (t .p) largestPrime limit, prime, h, k, l)
+
+    pub set : between 1 3 (t .order) ≡ true → between 1 mostVariables (t .n) ≡ true → weightsGood (t .n) (t .weights) ≡ true → 0 ≡ setting t
+    unfolding setting
+    set h k l = rw (le-leb (t .p) largestPrime limit, prime, h, k, l)
 
 -- what a setting that passes is
 pub record Set (t : Setting) : Type 0 where
@@ -42,6 +49,7 @@ pub record Set (t : Setting) : Type 0 where
   pub order-high : t .order ≤ 3
   pub n-low : 1 ≤ t .n
   pub n-high : t .n ≤ 6
+  pub weights : weightsGood (t .n) (t .weights) ≡ true
 
 pub setting-passes : (t : Setting) → setting t ≡ 0 → Set t
 setting-passes t h =
@@ -53,4 +61,9 @@ setting-passes t h =
       order-high = a .1 .0 .1;
       n-low = a .1 .1 .0 .0;
       n-high = a .1 .1 .0 .1;
+      weights = good-weights (t .n) (t .weights) (a .1 .1 .1 .0);
     }
+
+-- with six weights, the layout test can be made in it
+pub setting-testable : (t : Setting) → setting t ≡ 0 → length (t .weights) ≡ 6 → Testable t
+setting-testable t h six = let s = setting-passes t h in record { few = s .n-high; fit = weights-fit (t .n) (t .weights) (s .weights) six }

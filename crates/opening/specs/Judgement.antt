@@ -1,10 +1,10 @@
--- The conditions of a run's opening refusals, as document 01 says them, in its order. Assumes nothing.
+-- The conditions of a run's opening refusals, as documents 01 and 02 say them, in their order. Assumes nothing.
 use Prim.Native.Nat.{ℕ, zero, suc, _+_, _-_, _<_, _≤_, Ordering}
 use mathlib.Core.Path.{_≡_}
 use mathlib.Core.List.{List, [], _∷_, _++_}
 use mathlib.Core.Logic.{_⊎_}
 use lib.ListN.{length, getD}
-use Rattle.limits.specs.Limits.{largestPrime, mostVariables}
+use Rattle.limits.specs.Limits.{largestPrime, largestWeight, mostVariables}
 use Rattle.refusal.specs.Judgement.{Condition, condition}
 use Rattle.conditions.specs.Lengths.{GoodLent, GoodPairs}
 use Rattle.conditions.specs.Operations.{GoodOperations}
@@ -23,8 +23,14 @@ GoodPrime p = Prime p × (p ≤ largestPrime)
 abbrev pub Between : (low high x : ℕ) → Type 0
 Between low high x = (low ≤ x) × (x ≤ high)
 
+-- "24, a weight outside its range (beyond n, not 1)", over the weights that are there
+pub record GoodWeights (n : ℕ) (weights : List ℕ) : Type 0 where
+  pub in-range : (i : ℕ) → i < length weights → i < n → Between 1 largestWeight (getD weights i 0)
+  pub beyond-one : (i : ℕ) → i < length weights → n ≤ i → getD weights i 0 ≡ 1
+
+-- with 24 "after 3"
 abbrev pub settingConditions : Setting → List Condition
-settingConditions t = condition 1 (GoodPrime (t .p)) ∷ (condition 2 (Between 1 3 (t .order)) ∷ (condition 3 (Between 1 mostVariables (t .n)) ∷ []))
+settingConditions t = condition 1 (GoodPrime (t .p)) ∷ (condition 2 (Between 1 3 (t .order)) ∷ (condition 3 (Between 1 mostVariables (t .n)) ∷ (condition 24 (GoodWeights (t .n) (t .weights)) ∷ [])))
 
 -- ---- 8: the sizes of what is lent
 
@@ -36,16 +42,16 @@ pub record GoodStarts (ss : List ℕ) (len : ℕ) : Type 0 where
   pub none-falls : (k : ℕ) → k + 1 < length ss → getD ss k 0 ≤ getD ss (k + 1) 0
 
 -- with "starts missing or not as above, operations not whole pairs or over 16,777,216 of them"
-pub record GoodShape (words coefs ss ops : List ℕ) (bw bc ww wc ow oc : ℕ) : Type 0 where
-  pub lent : GoodLent (length words) (length coefs) bw bc ww wc ow oc
+pub record GoodShape (weights words coefs ss ops : List ℕ) (bw bc ww wc ow oc : ℕ) : Type 0 where
+  pub lent : GoodLent (length weights) (length words) (length coefs) bw bc ww wc ow oc
   pub starts : GoodStarts ss (length words)
   pub pairs : GoodPairs (length ops)
 
 -- ---- a polynomial: "the first place with 4 or 5 (4 first at one place), then 6"
 
--- how two words stand to each other by their exponents, in n variables
-abbrev pub byExponents : Order → (n : ℕ) → ℕ → ℕ → Ordering
-byExponents o n x y = compareIn o (exponents o n x) (exponents o n y)
+-- how two words stand to each other by their exponents, in n variables with these weights
+abbrev pub byExponents : Order → (n : ℕ) (weights : List ℕ) → ℕ → ℕ → Ordering
+byExponents o n vs x y = compareIn o vs (exponents o n x) (exponents o n y)
 
 module _ (t : Setting) where
   -- "4: coefficient 0 or ≥ p."
@@ -54,11 +60,11 @@ module _ (t : Setting) where
 
   -- "5: word not of the layout above."
   abbrev pub GoodWord : Term ℕ → Type 0
-  GoodWord u = Layout (orderOf (t .order)) (t .n) (u .mono)
+  GoodWord u = Layout (orderOf (t .order)) (t .n) (t .weights) (u .mono)
 
   -- "6: terms do not fall strictly.", under the chosen order
   abbrev pub GoodOrder : List (Term ℕ) → Type 0
-  GoodOrder us = Falling (byExponents (orderOf (t .order)) (t .n)) us
+  GoodOrder us = Falling (byExponents (orderOf (t .order)) (t .n) (t .weights)) us
 
   -- 4 and 5, place by place
   abbrev pub placesConditions : List (Term ℕ) → List Condition
@@ -93,10 +99,10 @@ module _ (t : Setting) where
     abbrev pub polynomialsConditions : List Condition
     polynomialsConditions = conditionsBelow (length ss - 1)
 
--- "Opening order: 1, 2, 3, 8, 9; then polynomial by polynomial"
+-- "Opening order: 1, 2, 3, 8, 9; then polynomial by polynomial", with 24 "after 3"
 abbrev pub runConditions : Setting → (words coefs ss ops : List ℕ) (bw bc ww wc ow oc : ℕ) → List Condition
 runConditions t words coefs ss ops bw bc ww wc ow oc =
     settingConditions t ++
-    (condition 8 (GoodShape words coefs ss ops bw bc ww wc ow oc) ∷
+    (condition 8 (GoodShape (t .weights) words coefs ss ops bw bc ww wc ow oc) ∷
     (condition 9 (GoodOperations ops (length ss - 1)) ∷
     polynomialsConditions t words coefs ss))

@@ -10,6 +10,7 @@ ghost use Rattle.opening.specs.Run.{shapeGood};
 
 // Whether lengths and starts are as a run asks, by the lengths of the slices.
 pub fn shape_good(
+    weights: usize,
     words: usize,
     coefs: usize,
     starts: &[usize],
@@ -21,9 +22,9 @@ pub fn shape_good(
     ow: usize,
     oc: usize,
 ) -> bool
-    ensures { λ r. ⌜ r ≡ shapeGood words coefs (now (starts .entry)) ops bw bc ww wc ow oc ⌝ }
+    ensures { λ r. ⌜ r ≡ shapeGood weights words coefs (now (starts .entry)) ops bw bc ww wc ow oc ⌝ }
 {
-    if !input_good(words, coefs, starts, bw, bc, ww, wc, ow, oc) {
+    if !input_good(weights, words, coefs, starts, bw, bc, ww, wc, ow, oc) {
         return false;
     }
     pairs_good(ops)
@@ -31,6 +32,7 @@ pub fn shape_good(
 
 // Whether lengths and starts are as runs and reductions ask.
 pub fn input_good(
+    weights: usize,
     words: usize,
     coefs: usize,
     starts: &[usize],
@@ -41,9 +43,9 @@ pub fn input_good(
     ow: usize,
     oc: usize,
 ) -> bool
-    ensures { λ r. ⌜ r ≡ lentGood words coefs bw bc ww wc ow oc && startsGood (now (starts .entry)) words ⌝ }
+    ensures { λ r. ⌜ r ≡ lentGood weights words coefs bw bc ww wc ow oc && startsGood (now (starts .entry)) words ⌝ }
 {
-    if !lent_good(words, coefs, bw, bc, ww, wc, ow, oc) {
+    if !lent_good(weights, words, coefs, bw, bc, ww, wc, ow, oc) {
         return false;
     }
     starts_good(starts, words)

@@ -139,12 +139,12 @@ pub slices-on : (t : Setting) (ws cs us ds : List ℕ) (a b : Checking) → leng
 slices-on t ws cs us ds a b long ea eb =
     eb
     ∙ (ap (λ (s : Carried ℕ). polynomialOn t s (terms us ds)) ea
-    ∙ (sym (carry-cut (termRefusal (orderOf (t .order)) (t .n) (t .p)) (compareWords (orderOf (t .order))) (unseen 0) (terms ws cs) (terms us ds))
+    ∙ (sym (carry-cut (termRefusal (orderOf (t .order)) (t .n) (t .weights) (t .p)) (compareWords (orderOf (t .order))) (unseen 0) (terms ws cs) (terms us ds))
     ∙ ap (polynomialOn t (unseen 0)) (terms-append ws cs us ds long)))
 
 -- and its verdict is what `check` returns for the whole
 pub slices-whole : (t : Setting) (ws cs : List ℕ) (a : Checking) → carriedBy a ≡ polynomialOn t (unseen 0) (terms ws cs) → verdict (carriedBy a) ≡ polynomialRefusal t (terms ws cs)
-slices-whole t ws cs a e = ap (λ (s : Carried ℕ). verdict s) e ∙ carry-whole (termRefusal (orderOf (t .order)) (t .n) (t .p)) (compareWords (orderOf (t .order))) 0 (terms ws cs)
+slices-whole t ws cs a e = ap (λ (s : Carried ℕ). verdict s) e ∙ carry-whole (termRefusal (orderOf (t .order)) (t .n) (t .weights) (t .p)) (compareWords (orderOf (t .order))) 0 (terms ws cs)
 
 -- ---- the steps of the code
 pub good-is : (s : Carried ℕ) → s .stop ≡ 0 → good (s .late) (s .seen) (s .last) ≡ s

@@ -21,9 +21,9 @@ use Rattle.polynomial.specs.Checking.{orderNext}
 use Rattle.polynomial.proofs.MergeLaws.{under-more}
 
 -- ---- one term
-module _ (o : Order) (n p w c : ℕ) where
-  pub coef-zero : c ≡ 0 → 4 ≡ termRefusal o n p (term w c)
-  coef-zero h = sym (ap (λ (t : Bool). termBy (t && ltb c p) (inLayout o n w)) (le-ltb 0 c (let k : c ≤ 0 = omega arith in k)))
+module _ (o : Order) (n : ℕ) (vs : List ℕ) (p w c : ℕ) where
+  pub coef-zero : c ≡ 0 → 4 ≡ termRefusal o n vs p (term w c)
+  coef-zero h = sym (ap (λ (t : Bool). termBy (t && ltb c p) (inLayout o n vs w)) (le-ltb 0 c (let k : c ≤ 0 = omega arith in k)))
 
   some : (c ≡ 0 → ⊥) → 0 < c
   some h = positive c h
@@ -32,16 +32,16 @@ module _ (o : Order) (n p w c : ℕ) where
       positive zero f = absurd (f refl)
       positive (suc k) f = omega arith
 
-  pub coef-large : (c ≡ 0 → ⊥) → p ≤ c → 4 ≡ termRefusal o n p (term w c)
-  coef-large h k = sym (ap₂ (λ (s t : Bool). termBy (s && t) (inLayout o n w)) (lt-ltb 0 c (some h)) (le-ltb c p k))
+  pub coef-large : (c ≡ 0 → ⊥) → p ≤ c → 4 ≡ termRefusal o n vs p (term w c)
+  coef-large h k = sym (ap₂ (λ (s t : Bool). termBy (s && t) (inLayout o n vs w)) (lt-ltb 0 c (some h)) (le-ltb c p k))
 
-  by-word : (c ≡ 0 → ⊥) → c < p → (r : Bool) → r ≡ inLayout o n w → termBy true r ≡ termRefusal o n p (term w c)
+  by-word : (c ≡ 0 → ⊥) → c < p → (r : Bool) → r ≡ inLayout o n vs w → termBy true r ≡ termRefusal o n vs p (term w c)
   by-word h k r e = ap₂ termBy (sym (ap₂ _&&_ (lt-ltb 0 c (some h)) (lt-ltb c p k))) e
 
-  pub word-good : (c ≡ 0 → ⊥) → c < p → (r : Bool) → r ≡ inLayout o n w → r ≡ true → 0 ≡ termRefusal o n p (term w c)
+  pub word-good : (c ≡ 0 → ⊥) → c < p → (r : Bool) → r ≡ inLayout o n vs w → r ≡ true → 0 ≡ termRefusal o n vs p (term w c)
   word-good h k r e t = sym (ap (termBy true) t) ∙ by-word h k r e
 
-  pub word-bad : (c ≡ 0 → ⊥) → c < p → (r : Bool) → r ≡ inLayout o n w → r ≡ false → 5 ≡ termRefusal o n p (term w c)
+  pub word-bad : (c ≡ 0 → ⊥) → c < p → (r : Bool) → r ≡ inLayout o n vs w → r ≡ false → 5 ≡ termRefusal o n vs p (term w c)
   word-bad h k r e t = sym (ap (termBy true) t) ∙ by-word h k r e
 
 -- ---- the order of two neighbours, by their keys
@@ -100,20 +100,20 @@ order-none : (b : Bool) → orderBy b ≡ 0 → b ≡ true
 order-none true h = refl
 order-none false h = absurd (let z : ⊥ = omega arith in z)
 
-terms-pass : (o : Order) (n p : ℕ) (ts : List (Term ℕ)) → termsRefusal (termRefusal o n p) ts ≡ 0 → Reduced p ts × All (λ t. Layout o n (t .mono)) ts
+terms-pass : (o : Order) (n : ℕ) (vs : List ℕ) (p : ℕ) (ts : List (Term ℕ)) → termsRefusal (termRefusal o n vs p) ts ≡ 0 → Reduced p ts × All (λ t. Layout o n vs (t .mono)) ts
 unfolding termsRefusal
-terms-pass o n p [] h = (tt, tt)
-terms-pass o n p (t ∷ ts) h =
-    let a = first-none (termRefusal o n p t) (termsRefusal (termRefusal o n p) ts) h in
-    let b = by-none (ltb 0 (t .coef) && ltb (t .coef) p) (inLayout o n (t .mono)) (a .0) in
+terms-pass o n vs p [] h = (tt, tt)
+terms-pass o n vs p (t ∷ ts) h =
+    let a = first-none (termRefusal o n vs p t) (termsRefusal (termRefusal o n vs p) ts) h in
+    let b = by-none (ltb 0 (t .coef) && ltb (t .coef) p) (inLayout o n vs (t .mono)) (a .0) in
     let c = and-both (ltb 0 (t .coef)) (ltb (t .coef) p) (b .0) in
-    let r = terms-pass o n p ts (a .1) in
-    (((ltb-true 0 (t .coef) (c .0), ltb-true (t .coef) p (c .1)), r .0), (test-layout o n (t .mono) (b .1), r .1))
+    let r = terms-pass o n vs p ts (a .1) in
+    (((ltb-true 0 (t .coef) (c .0), ltb-true (t .coef) p (c .1)), r .0), (test-layout o n vs (t .mono) (b .1), r .1))
 
 -- a polynomial that no refusal meets is canonical, and its words are of the layout
-pub passes : (o : Order) (n p : ℕ) (ts : List (Term ℕ)) → refusalOf (termRefusal o n p) (compareWords o) ts ≡ 0 → Canonical (compareWords o) p ts × All (λ t. Layout o n (t .mono)) ts
+pub passes : (o : Order) (n : ℕ) (vs : List ℕ) (p : ℕ) (ts : List (Term ℕ)) → refusalOf (termRefusal o n vs p) (compareWords o) ts ≡ 0 → Canonical (compareWords o) p ts × All (λ t. Layout o n vs (t .mono)) ts
 unfolding refusalOf
-passes o n p ts h =
-    let a = first-none (termsRefusal (termRefusal o n p) ts) (orderBy (fall (compareWords o) ts)) h in
-    let b = terms-pass o n p ts (a .0) in
+passes o n vs p ts h =
+    let a = first-none (termsRefusal (termRefusal o n vs p) ts) (orderBy (fall (compareWords o) ts)) h in
+    let b = terms-pass o n vs p ts (a .0) in
     (record { falling = fall-falling (compareWords o) (words-order o) ts (order-none (fall (compareWords o) ts) (a .1)); reduced = b .0 }, b .1)

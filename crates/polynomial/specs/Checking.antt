@@ -5,7 +5,7 @@ use mathlib.Core.Bool.{Bool, true, false}
 use mathlib.Core.List.{List, [], _∷_, _++_}
 use Rattle.monomial.specs.declared.order.Order.{Order}
 use Rattle.monomial.specs.Exponents.{orderOf}
-use Rattle.monomial.specs.Layout.{beyondBits}
+use Rattle.monomial.specs.Layout.{beyondBits, fields}
 use Rattle.monomial.specs.Words.{compareWords}
 use Rattle.polynomial.specs.declared.check.Checking.{Checking}
 use Rattle.polynomial.specs.declared.setting.Setting.{Setting}
@@ -67,11 +67,11 @@ carriedBy s = record { stop = s .stop; late = s .late; seen = s .seen; last = s 
 
 -- the check carried on over a part, and over several
 abbrev pub polynomialOn : Setting → Carried ℕ → List (Term ℕ) → Carried ℕ
-polynomialOn t s ts = carryOn (termRefusal (orderOf (t .order)) (t .n) (t .p)) (compareWords (orderOf (t .order))) s ts
+polynomialOn t s ts = carryOn (termRefusal (orderOf (t .order)) (t .n) (t .weights) (t .p)) (compareWords (orderOf (t .order))) s ts
 
 abbrev pub polynomialOver : Setting → Carried ℕ → List (List (Term ℕ)) → Carried ℕ
-polynomialOver t s parts = carryOver (termRefusal (orderOf (t .order)) (t .n) (t .p)) (compareWords (orderOf (t .order))) s parts
+polynomialOver t s parts = carryOver (termRefusal (orderOf (t .order)) (t .n) (t .weights) (t .p)) (compareWords (orderOf (t .order))) s parts
 
--- r is the refusal of the term, for each order and number of variables that have these bits beyond
-abbrev pub JudgesTerm : (beyond p : ℕ) → Term ℕ → (r : ℕ) → Type 0
-JudgesTerm beyond p t r = (o : Order) (n : ℕ) → n ≤ 6 → beyond ≡ beyondBits o n → r ≡ termRefusal o n p t
+-- r is the refusal of the term, for each order and number of variables that have these bits beyond, with the weights of this word
+abbrev pub JudgesTerm : (beyond v p : ℕ) → Term ℕ → (r : ℕ) → Type 0
+JudgesTerm beyond v p t r = (o : Order) (n : ℕ) → n ≤ 6 → beyond ≡ beyondBits o n → r ≡ termRefusal o n (fields o v) p t

@@ -40,8 +40,8 @@ termBy false w = 4
 termBy true false = 5
 termBy true true = 0
 
-abbrev pub termRefusal : Order → (n p : ℕ) → Term ℕ → ℕ
-termRefusal o n p t = termBy (ltb 0 (t .coef) && ltb (t .coef) p) (inLayout o n (t .mono))
+abbrev pub termRefusal : Order → (n : ℕ) (weights : List ℕ) (p : ℕ) → Term ℕ → ℕ
+termRefusal o n vs p t = termBy (ltb 0 (t .coef) && ltb (t .coef) p) (inLayout o n vs (t .mono))
 
 -- the refusal of the first term that has one, by any judgement of a term
 unfoldable pub termsRefusal : {A : Type 0} → (judge : Term A → ℕ) → List (Term A) → ℕ
@@ -70,7 +70,7 @@ refusalOf judge cmp ts = first (termsRefusal judge ts) (orderBy (fall cmp ts))
 
 -- that of words in a setting
 abbrev pub polynomialRefusal : Setting → List (Term ℕ) → ℕ
-polynomialRefusal t ts = refusalOf (termRefusal (orderOf (t .order)) (t .n) (t .p)) (compareWords (orderOf (t .order))) ts
+polynomialRefusal t ts = refusalOf (termRefusal (orderOf (t .order)) (t .n) (t .weights) (t .p)) (compareWords (orderOf (t .order))) ts
 
 -- what the part of polynomial k asks: both of its starts are there, rise, and end within the slice
 pub record Within (starts : List ℕ) (k len : ℕ) : Type 0 where

@@ -1,14 +1,15 @@
 // The opening check of one polynomial, whole or part by part. Refusals are document 01's numbers, and
 // 0 is none.
 use crate::setting::Setting;
+use monomial::exponents::weight_word;
 use monomial::layout::beyond_bits;
 use monomial::layout::in_layout;
 use monomial::order::Order;
 use monomial::order::order_of;
 ghost use mathlib.Core.Path.{_≡_};
-ghost use Prim.Native.Nat.{_≤_};
 ghost use lib.ListN.{length};
 ghost use Rattle.monomial.specs.Words.{compareWords};
+ghost use Rattle.polynomial.specs.Settings.{Testable};
 ghost use Rattle.polynomial.specs.Terms.{term, terms};
 ghost use Rattle.polynomial.specs.Opening.{polynomialRefusal};
 ghost use Rattle.polynomial.specs.Checking.{unseen, verdict, carriedBy, lateAfter, polynomialOn, JudgesTerm};
@@ -47,7 +48,7 @@ impl Checking {
 // The refusal of a polynomial in a setting: the first place with 4 or 5, and else 6 where the terms do
 // not fall. One pass over the terms.
 pub fn check(t: Setting, words: &[u64], coefs: &[u32]) -> u32
-    requires { ⌜ (t .n ≤ 6) × (length (now coefs) ≡ length (now words)) ⌝ }
+    requires { ⌜ Testable t × (length (now coefs) ≡ length (now words)) ⌝ }
     ensures { λ r. ⌜ r ≡ polynomialRefusal t (terms (now (words .entry)) (now (coefs .entry))) ⌝ }
 {
     check_on(t, words, coefs, Checking::unseen()).verdict()
@@ -56,7 +57,7 @@ pub fn check(t: Setting, words: &[u64], coefs: &[u32]) -> u32
 // The check carried on over a further part of a polynomial. The loop keeps plain numbers, since a
 // struct made for each term is slower; so is judging a term before it is compared.
 pub fn check_on(t: Setting, words: &[u64], coefs: &[u32], from: Checking) -> Checking
-    requires { ⌜ (t .n ≤ 6) × (length (now coefs) ≡ length (now words)) ⌝ }
+    requires { ⌜ Testable t × (length (now coefs) ≡ length (now words)) ⌝ }
     ensures { λ r. ⌜ carriedBy r ≡ polynomialOn t (carriedBy from) (terms (now (words .entry)) (now (coefs .entry))) ⌝ }
 {
     if from.stop != 0 {
@@ -65,7 +66,9 @@ pub fn check_on(t: Setting, words: &[u64], coefs: &[u32], from: Checking) -> Che
     let order = order_of(t.order);
     let n = t.n;
     let p = t.p;
+    let six = t.weights;
     let beyond = beyond_bits(order, n);
+    let weights = weight_word(order, &six);
     let mut late = from.late;
     let mut seen = from.seen;
     let mut last = from.last;
@@ -75,7 +78,7 @@ pub fn check_on(t: Setting, words: &[u64], coefs: &[u32], from: Checking) -> Che
         late = check_fall(order, seen, last, word, late);
         seen = true;
         last = word;
-        let stop = check_term(beyond, p, word, coefs[i]);
+        let stop = check_term(beyond, weights, p, word, coefs[i]);
         if stop != 0 {
             return Checking {
                 stop,
@@ -94,10 +97,10 @@ pub fn check_on(t: Setting, words: &[u64], coefs: &[u32], from: Checking) -> Che
     }
 }
 
-// The refusal of one term: 4 for its coefficient, 5 for its word. `beyond` is what `beyond_bits` gives;
-// of other bits nothing is promised.
-pub fn check_term(beyond: u64, p: u32, word: u64, coef: u32) -> u32
-    ensures { λ r. ⌜ JudgesTerm beyond p (term word coef) r ⌝ }
+// The refusal of one term: 4 for its coefficient, 5 for its word. `beyond` is what `beyond_bits` gives,
+// and `weights` what `weight_word` gives; of others nothing is promised.
+pub fn check_term(beyond: u64, weights: u64, p: u32, word: u64, coef: u32) -> u32
+    ensures { λ r. ⌜ JudgesTerm beyond weights p (term word coef) r ⌝ }
 {
     if coef == 0 {
         return 4;
@@ -105,7 +108,11 @@ pub fn check_term(beyond: u64, p: u32, word: u64, coef: u32) -> u32
     if p <= coef {
         return 4;
     }
-    if in_layout(beyond, word) { 0 } else { 5 }
+    if in_layout(beyond, weights, word) {
+        0
+    } else {
+        5
+    }
 }
 
 // 6 where a word came before that is not larger, and else what came so far.

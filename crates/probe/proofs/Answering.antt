@@ -16,6 +16,16 @@ yes {t} e h = sym e ∙ not-false t h
 pub no : {t b : Bool} → t ≡ b → not t ≡ true → b ≡ false
 no {t} e h = sym e ∙ not-true t h
 
+-- two tests in turn
+pub one-fails : {s : Bool} (t : Bool) → s ≡ false → (s && t) ≡ false
+one-fails t e = rw e
+
+pub other-fails : {s t : Bool} → s ≡ true → t ≡ false → (s && t) ≡ false
+other-fails e f = rw (e, f)
+
+pub both-hold : {s t : Bool} → s ≡ true → t ≡ true → (s && t) ≡ true
+both-hold e f = rw (e, f)
+
 -- three tests in turn
 pub first-fails : {s : Bool} (t u : Bool) → s ≡ false → (s && (t && u)) ≡ false
 first-fails t u e = rw e
@@ -25,6 +35,9 @@ second-fails u e f = rw (e, f)
 
 pub third-fails : {s t u : Bool} → s ≡ true → t ≡ true → u ≡ false → (s && (t && u)) ≡ false
 third-fails e f g = rw (e, f, g)
+
+pub by-third : {s t : Bool} (u : Bool) → s ≡ true → t ≡ true → u ≡ (s && (t && u))
+by-third u e f = rw (e, f)
 
 pub all-hold : {s t u : Bool} → s ≡ true → t ≡ true → u ≡ true → (s && (t && u)) ≡ true
 all-hold e f g = rw (e, f, g)

@@ -1,5 +1,5 @@
 -- The tests before a polynomial is checked or a part of it is read, the merge in an order by its number, and the multiple by a prepared factor. Assumes nothing.
-use mathlib.Core.Path.{_≡_, refl}
+use mathlib.Core.Path.{_≡_, refl, sym}
 use mathlib.Core.Bool.{true, false, _&&_}
 use mathlib.Core.List.{List, [], _∷_}
 use Prim.Native.Nat.{ℕ, zero, suc, _+_, _≤_, _<_}
@@ -7,31 +7,53 @@ use native.Mathlib.Omega.{arith}
 use lib.Dec.{leb, ltb, eqb}
 use lib.ListN.{length, getD}
 use borrow.Author.Tests.{ltb-true, leb-true, eqb-true, lt-ltb, le-ltb, le-leb, lt-leb}
+use Rattle.limits.specs.Limits.{largestWeight}
 use Rattle.residue.specs.declared.factor.Factor.{Factor}
 use Rattle.residue.specs.Share.{FactorOf}
 use Rattle.residue.proofs.Shoup.{prepared}
 use Rattle.monomial.specs.declared.order.Order.{Order}
 use Rattle.monomial.specs.Words.{compareWords}
 use Rattle.monomial.proofs.Places.{and-both}
+use Rattle.polynomial.specs.declared.setting.Setting.{Setting}
+use Rattle.polynomial.specs.Settings.{settingOf, Testable}
 use Rattle.polynomial.specs.Terms.{Term}
 use Rattle.polynomial.specs.Opening.{Within}
 use Rattle.merge_common.specs.Merging.{Made}
 use Rattle.multiple.specs.Multiplying.{Multiplicands, Multiplied}
+use Rattle.probe.specs.Answers.{weightsFit}
 use Rattle.probe.specs.Lending.{checkable, partThere, Factors}
+use Rattle.probe.proofs.Answering.{first-fails, second-fails, by-third}
+use Rattle.probe.proofs.WeightLaws.{weights-fit}
 
-module _ (n words coefs : ℕ) where
-  pub too-many : 6 < n → false ≡ checkable n words coefs
+module _ (n : ℕ) (vs : List ℕ) (words coefs : ℕ) where
+  pub too-many : 6 < n → false ≡ checkable n vs words coefs
   unfolding checkable
-  too-many h = rw (lt-leb n 6 h)
+  too-many h = sym (first-fails (weightsFit largestWeight vs) (eqb coefs words) (lt-leb n 6 h))
 
-  pub by-lengths : n ≤ 6 → eqb coefs words ≡ checkable n words coefs
+  pub unfit : n ≤ 6 → weightsFit largestWeight vs ≡ false → false ≡ checkable n vs words coefs
   unfolding checkable
-  by-lengths h = rw (le-leb n 6 h)
+  unfit h f = sym (second-fails (eqb coefs words) (le-leb n 6 h) f)
 
-  pub checkable-parts : checkable n words coefs ≡ true → (n ≤ 6) × (coefs ≡ words)
+  pub by-lengths : n ≤ 6 → weightsFit largestWeight vs ≡ true → eqb coefs words ≡ checkable n vs words coefs
   unfolding checkable
-  checkable-parts h =
-      let s = and-both (leb n 6) (eqb coefs words) h in (leb-true n 6 (s .0), eqb-true coefs words (s .1))
+  by-lengths h f = by-third (eqb coefs words) (le-leb n 6 h) f
+
+  -- what a check asks of the setting and the lengths
+  module _ (h : checkable n vs words coefs ≡ true) where
+    parts : (n ≤ 6) × (weightsFit largestWeight vs ≡ true) × (coefs ≡ words)
+    unfolding checkable
+    parts =
+        let s = and-both (leb n 6) (weightsFit largestWeight vs && eqb coefs words) h in
+        let t = and-both (weightsFit largestWeight vs) (eqb coefs words) (s .1) in
+        (leb-true n 6 (s .0), t .0, eqb-true coefs words (t .1))
+
+    pub six-weights : length vs ≡ 6
+    six-weights = weights-fit largestWeight vs (omega arith) (parts .1) .six-are
+
+    pub checks : (p order : ℕ) (t : Setting) → t ≡ settingOf p order n vs → Testable t × (coefs ≡ words)
+    checks p order t e =
+        let s : Testable (settingOf p order n vs) = record { few = parts .0; fit = weights-fit largestWeight vs (omega arith) (parts .1) } in
+        (rw e s, parts .2)
 
 module _ (starts : List ℕ) (k len : ℕ) where
   pub no-start : length starts ≤ k + 1 → false ≡ partThere starts k len

@@ -4,16 +4,18 @@ use mathlib.Core.Bool.{Bool, _&&_}
 use mathlib.Core.List.{List}
 use lib.Dec.{leb, ltb, eqb}
 use lib.ListN.{length, getD}
+use Rattle.limits.specs.Limits.{largestWeight}
 use Rattle.residue.specs.Modular.{Modulus}
 use Rattle.monomial.specs.Words.{Packed}
 use Rattle.polynomial.specs.Checking.{Carried}
 use Rattle.merge_common.specs.Lent.{Poly}
 use Rattle.multiple.specs.Multiplying.{AllPacked}
 use Rattle.probe.specs.declared.polynomials.CheckNumbers.{CheckNumbers}
+use Rattle.probe.specs.Answers.{weightsFit}
 
--- at most 6 variables, and as many coefficients as words
-unfoldable pub checkable : (n words coefs : ℕ) → Bool
-checkable n words coefs = leb n 6 && eqb coefs words
+-- at most 6 variables, six weights up to 16, and as many coefficients as words
+unfoldable pub checkable : (n : ℕ) (weights : List ℕ) (words coefs : ℕ) → Bool
+checkable n vs words coefs = leb n 6 && (weightsFit largestWeight vs && eqb coefs words)
 
 -- what a check carries, from its four numbers and from what is returned
 abbrev pub numbers : (stop late : ℕ) (seen : Bool) (last : ℕ) → Carried ℕ

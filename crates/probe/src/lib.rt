@@ -5,3 +5,4 @@ mod geobuckets;
 mod monomials;
 mod polynomials;
 mod residues;
+mod weights;

@@ -1,6 +1,10 @@
 // Monomials in one word. An order is its number, 1 to 3; any other number counts as 3. Where the
-// slice has over 6 places, a word is not packed, or there is no quotient, the answer is REFUSED.
+// slice has over 6 places, the weights do not fit, a word is not packed, or there is no quotient, the
+// answer is REFUSED.
+use crate::weights::weights_fit;
+use limits::LARGEST_WEIGHT;
 use monomial::exponents::exponent;
+use monomial::exponents::weight_word;
 use monomial::exponents::word_of;
 use monomial::layout::beyond_bits;
 use monomial::layout::in_layout;
@@ -14,10 +18,11 @@ ghost use mathlib.Core.Bool.{cond, _&&_};
 ghost use Prim.Native.Nat.{_-_};
 ghost use lib.Dec.{leb, ltb};
 ghost use lib.ListN.{length, getD};
+ghost use Rattle.limits.specs.Limits.{largestWeight};
 ghost use Rattle.monomial.specs.Exponents.{orderOf};
 ghost use Rattle.monomial.specs.Layout.{wordOf, fields, inLayout};
 ghost use Rattle.monomial.specs.Words.{keyOf, compareWords, answer, dividesWord};
-ghost use Rattle.probe.specs.Answers.{packed, comparisonNumber};
+ghost use Rattle.probe.specs.Answers.{packed, comparisonNumber, weightsFit};
 
 const REFUSED: u64 = 0xffff_ffff_ffff_ffff;
 
@@ -46,15 +51,19 @@ fn comparison_number(c: Comparison) -> u32
     }
 }
 
-// False also where n is over 6.
+// False also where n is over 6, or the weights are not six or one is over 16.
 #[no_mangle]
-pub extern "C" fn probe_in_layout(order: u32, n: u32, w: u64) -> bool
-    ensures { λ r. ⌜ r ≡ (leb n 6 && inLayout (orderOf order) n w) ⌝ }
+pub extern "C" fn probe_in_layout(order: u32, n: u32, weights: &[u32], w: u64) -> bool
+    ensures { λ r. ⌜ r ≡ (leb n 6 && (weightsFit largestWeight (now (weights .entry)) && inLayout (orderOf order) n (now (weights .entry)) w)) ⌝ }
 {
     if n > 6 {
         return false;
     }
-    in_layout(beyond_bits(order_of(order), n), w)
+    if !weights_fit(weights, LARGEST_WEIGHT) {
+        return false;
+    }
+    let order = order_of(order);
+    in_layout(beyond_bits(order, n), weight_word(order, weights), w)
 }
 
 // Whether y divides x: 0 or 1, and 2 where a word is not packed.
@@ -78,14 +87,19 @@ pub extern "C" fn probe_quotient(x: u64, y: u64) -> u64
     quotient(x, y)
 }
 
+// The weights may go to 17: one over 16 is kept as that until it is refused.
 #[no_mangle]
-pub extern "C" fn probe_word_of(order: u32, exps: &[u8]) -> u64
-    ensures { λ r. ⌜ r ≡ cond (leb (length (now (exps .entry))) 6) (wordOf (orderOf order) (now (exps .entry))) 18446744073709551615 ⌝ }
+pub extern "C" fn probe_word_of(order: u32, weights: &[u32], exps: &[u8]) -> u64
+    ensures { λ r. ⌜ r ≡ cond (leb (length (now (exps .entry))) 6 && weightsFit 17 (now (weights .entry))) (wordOf (orderOf order) (now (weights .entry)) (now (exps .entry))) 18446744073709551615 ⌝ }
 {
     if exps.len() > 6 {
         return REFUSED;
     }
-    word_of(order_of(order), exps)
+    if !weights_fit(weights, 17) {
+        return REFUSED;
+    }
+    let order = order_of(order);
+    word_of(order, weight_word(order, weights), exps)
 }
 
 // The exponent of variable i, from 0, or 256 where there is no such variable.

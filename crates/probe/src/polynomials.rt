@@ -2,6 +2,8 @@
 // merge, and the multiple by a term. An order is its number, 1 to 3; any other number counts as 3.
 // The merges and the multiple ask what the functions that they call ask: whoever calls them tests it
 // first.
+use crate::weights::weights_fit;
+use limits::LARGEST_WEIGHT;
 use merge_by_order::merging::merge;
 use merge_by_order::within::merge_within;
 use monomial::order::order_of;
@@ -12,7 +14,7 @@ use polynomial::check::check;
 use polynomial::check::check_on;
 use polynomial::part::coefs_of;
 use polynomial::part::words_of;
-use polynomial::setting::Setting;
+use polynomial::setting::setting_of;
 use polynomial::starts::starts_good;
 use residue::factor::Factor;
 ghost use mathlib.Core.Path.{_≡_};
@@ -51,23 +53,31 @@ pub struct CheckNumbers {
     pub last: u64,
 }
 
-// The refusal of a polynomial, 0 for none, or NOT_CHECKED where n is over 6 or the lengths differ.
+// The refusal of a polynomial, 0 for none, or NOT_CHECKED where it cannot be checked.
 #[no_mangle]
-pub extern "C" fn probe_check(order: u32, n: u32, p: u32, words: &[u64], coefs: &[u32]) -> u32
-    ensures { λ r. ⌜ r ≡ cond (checkable n (length (now (words .entry))) (length (now (coefs .entry)))) (polynomialRefusal (settingOf p order n) (terms (now (words .entry)) (now (coefs .entry)))) 4294967295 ⌝ }
+pub extern "C" fn probe_check(
+    order: u32,
+    n: u32,
+    weights: &[u32],
+    p: u32,
+    words: &[u64],
+    coefs: &[u32],
+) -> u32
+    ensures { λ r. ⌜ r ≡ cond (checkable n (now (weights .entry)) (length (now (words .entry))) (length (now (coefs .entry)))) (polynomialRefusal (settingOf p order n (now (weights .entry))) (terms (now (words .entry)) (now (coefs .entry)))) 4294967295 ⌝ }
 {
-    if !is_checkable(n, words.len(), coefs.len()) {
+    if !is_checkable(n, weights, words.len(), coefs.len()) {
         return NOT_CHECKED;
     }
-    check(Setting { p, order, n }, words, coefs)
+    check(setting_of(p, order, n, weights), words, coefs)
 }
 
-// The check carried on over a part from four numbers; NOT_CHECKED, 0, false and 0 where n is over 6 or
-// the lengths differ.
+// The check carried on over a part from four numbers; NOT_CHECKED, 0, false and 0 where it cannot be
+// checked.
 #[no_mangle]
 pub extern "C" fn probe_check_on(
     order: u32,
     n: u32,
+    weights: &[u32],
     p: u32,
     words: &[u64],
     coefs: &[u32],
@@ -76,9 +86,9 @@ pub extern "C" fn probe_check_on(
     seen: bool,
     last: u64,
 ) -> CheckNumbers
-    ensures { λ r. ⌜ checkNumbers r ≡ cond (checkable n (length (now (words .entry))) (length (now (coefs .entry)))) (polynomialOn (settingOf p order n) (numbers stop late seen last) (terms (now (words .entry)) (now (coefs .entry)))) (numbers 4294967295 0 false 0) ⌝ }
+    ensures { λ r. ⌜ checkNumbers r ≡ cond (checkable n (now (weights .entry)) (length (now (words .entry))) (length (now (coefs .entry)))) (polynomialOn (settingOf p order n (now (weights .entry))) (numbers stop late seen last) (terms (now (words .entry)) (now (coefs .entry)))) (numbers 4294967295 0 false 0) ⌝ }
 {
-    if !is_checkable(n, words.len(), coefs.len()) {
+    if !is_checkable(n, weights, words.len(), coefs.len()) {
         return CheckNumbers {
             stop: NOT_CHECKED,
             late: 0,
@@ -92,7 +102,7 @@ pub extern "C" fn probe_check_on(
         seen,
         last,
     };
-    let to = check_on(Setting { p, order, n }, words, coefs, from);
+    let to = check_on(setting_of(p, order, n, weights), words, coefs, from);
     CheckNumbers {
         stop: to.stop,
         late: to.late,
@@ -101,11 +111,15 @@ pub extern "C" fn probe_check_on(
     }
 }
 
-// Whether a polynomial in n variables with so many words and coefficients can be checked.
-fn is_checkable(n: u32, words: usize, coefs: usize) -> bool
-    ensures { λ r. ⌜ r ≡ checkable n words coefs ⌝ }
+// Whether a polynomial in n variables with these weights, and so many words and coefficients, can be
+// checked: n and each weight are not over their limit, there are six weights, and the lengths agree.
+fn is_checkable(n: u32, weights: &[u32], words: usize, coefs: usize) -> bool
+    ensures { λ r. ⌜ r ≡ checkable n (now (weights .entry)) words coefs ⌝ }
 {
     if n > 6 {
+        return false;
+    }
+    if !weights_fit(weights, LARGEST_WEIGHT) {
         return false;
     }
     coefs == words

@@ -14,6 +14,7 @@ use Rattle.residue.proofs.Modular.{negative-below}
 use Rattle.residue.proofs.Inverses.{inverse-below}
 use Rattle.monomial.specs.declared.order.Order.{Order}
 use Rattle.monomial.specs.Words.{compareWords, Packed, dividesWord}
+use Rattle.monomial.specs.Layout.{Below}
 use Rattle.monomial.proofs.LayoutLaws.{layout-packed}
 use Rattle.polynomial.specs.Terms.{Term, term, terms, All, Canonical}
 use Rattle.polynomial.specs.Multiple.{multiple}
@@ -44,10 +45,10 @@ over-terms q [] cs e = refl
 over-terms q (w ∷ ws) [] e = absurd (let z : ⊥ = omega arith in z)
 over-terms q (w ∷ ws) (c ∷ cs) e = rw (over-terms q ws cs (let z : length cs ≡ length ws = omega arith in z)) refl
 
-all-packed : (o : Order) (ws cs : List ℕ) → length cs ≡ length ws → All (λ t. OfLayout o (t .mono)) (terms ws cs) → AllPacked ws
-all-packed o [] cs e a = tt
-all-packed o (w ∷ ws) [] e a = absurd (let z : ⊥ = omega arith in z)
-all-packed o (w ∷ ws) (c ∷ cs) e a = (layout-packed o 6 w (omega arith) (a .0), all-packed o ws cs (let z : length cs ≡ length ws = omega arith in z) (a .1))
+all-packed : (o : Order) (vs : List ℕ) → Below 17 vs → (ws cs : List ℕ) → length cs ≡ length ws → All (λ t. OfLayout o vs (t .mono)) (terms ws cs) → AllPacked ws
+all-packed o vs u [] cs e a = tt
+all-packed o vs u (w ∷ ws) [] e a = absurd (let z : ⊥ = omega arith in z)
+all-packed o vs u (w ∷ ws) (c ∷ cs) e a = (layout-packed o 6 vs w (omega arith) (a .0) u, all-packed o vs u ws cs (let z : length cs ≡ length ws = omega arith in z) (a .1))
 
 -- ---- the polynomial of a divisor is its lead and its tail
 pub part-cons : (starts : List ℕ) (k : ℕ) (l : List ℕ) → Within starts k (length l) → getD starts k 0 < getD starts (k + 1) 0 → partOf starts k l ≡ getD l (getD starts k 0) 0 ∷ tailOf starts k l
@@ -93,21 +94,21 @@ module _ {o : Order} {p : ℕ} {words coefs starts : List ℕ} {k : ℕ} {s : St
   abbrev tail : List (Term ℕ)
   tail = terms (tailOf starts k words) (tailOf starts k coefs)
 
-  pub valid : Valid (compareWords o) p (OfLayout o) (divisorLead ∷ tail)
-  valid = subst (Valid (compareWords o) p (OfLayout o)) (ap₂ terms words-cons coefs-cons) (a .checked .valid k (a .high))
+  pub valid : Valid (compareWords o) p (OfLayout o (a .checked .weights)) (divisorLead ∷ tail)
+  valid = subst (Valid (compareWords o) p (OfLayout o (a .checked .weights))) (ap₂ terms words-cons coefs-cons) (a .checked .valid k (a .high))
 
   -- ---- the quotient
   abbrev q : ℕ
   q = lead .word - leadWord words starts k
 
   pub quotient-le : leadWord words starts k ≤ lead .word
-  quotient-le = omega (arith, word-operations o 6 (omega arith) .back (lead .word) (leadWord words starts k) (a .of-layout) (valid .are .0) (a .fits))
+  quotient-le = omega (arith, word-operations o 6 (a .checked .weights) (omega arith) .back (lead .word) (leadWord words starts k) (a .of-layout) (valid .are .0) (a .fits))
 
   pub quotient-packed : Packed q
-  quotient-packed = layout-packed o 6 q (omega arith) (word-operations o 6 (omega arith) .quotient-is (lead .word) (leadWord words starts k) (a .of-layout) (valid .are .0) (a .fits))
+  quotient-packed = layout-packed o 6 (a .checked .weights) q (omega arith) (word-operations o 6 (a .checked .weights) (omega arith) .quotient-is (lead .word) (leadWord words starts k) (a .of-layout) (valid .are .0) (a .fits)) (a .checked .small)
 
   pub tail-packed : AllPacked (tailOf starts k words)
-  tail-packed = all-packed o (tailOf starts k words) (tailOf starts k coefs) tail-long (valid .are .1)
+  tail-packed = all-packed o (a .checked .weights) (a .checked .small) (tailOf starts k words) (tailOf starts k coefs) tail-long (valid .are .1)
 
   -- ---- the factor
   pub inverting : Inverting p coefs starts k inverses
@@ -137,8 +138,8 @@ module _ {o : Order} {p : ℕ} {words coefs starts : List ℕ} {k : ℕ} {s : St
     none-large : anyTooLarge overWord q tail ≡ false
     none-large = over-terms q (tailOf starts k words) (tailOf starts k coefs) tail-long ∙ none
 
-    pub to-add : Added (compareWords o) p (OfLayout o) (term (lead .word) (lead .coef)) (toAdd o p words coefs starts k s lead b bw bc)
-    to-add = tail-added (compareWords o) dividesWord _-_ _+_ overWord (OfLayout o) (word-operations o 6 (omega arith)) p (a .checked .prime) (term (lead .word) (lead .coef)) divisorLead tail (a .of-layout) (a .coef-pos) (a .coef-small) valid (a .fits) none-large
+    pub to-add : Added (compareWords o) p (OfLayout o (a .checked .weights)) (term (lead .word) (lead .coef)) (toAdd o p words coefs starts k s lead b bw bc)
+    to-add = tail-added (compareWords o) dividesWord _-_ _+_ overWord (OfLayout o (a .checked .weights)) (word-operations o 6 (a .checked .weights) (omega arith)) p (a .checked .prime) (term (lead .word) (lead .coef)) divisorLead tail (a .of-layout) (a .coef-pos) (a .coef-small) valid (a .fits) none-large
 
     module _ {q' : ℕ} (eq : q' ≡ q) {tw tc : List ℕ} (etw : tw ≡ tailOf starts k words) (etc : tc ≡ tailOf starts k coefs) {v : ℕ} (ev : v ≡ multiplier) {f : Factor} (ef : FactorOf p v f) {r : State} (er : r ≡ finishedOne s) {b₁ : Buckets} (eb₁ : b₁ ≡ dropped b (lead .bucket)) where
       made : multiple (λ x y. x + y) (f .prime) (f .value) q' (terms tw tc) ≡ toAdd o p words coefs starts k s lead b bw bc

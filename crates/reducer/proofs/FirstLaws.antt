@@ -39,8 +39,8 @@ module _ {o : Order} {p : ℕ} {words coefs starts : List ℕ} (c : Checked o p 
     some = c .some;
     there = λ k low high. let w = c .parts k high in omega (arith, c .not-zero k low high, w .ends);
     packed = λ k low high.
-        let v : Valid _ p (OfLayout o) (leadAt k ∷ tailAt k) = subst (Valid _ p (OfLayout o)) (polynomial-cons k low high) (c .valid k high) in
-        layout-packed o 6 (leadWord words starts k) (omega arith) (v .are .0);
+        let v : Valid _ p (OfLayout o (c .weights)) (leadAt k ∷ tailAt k) = subst (Valid _ p (OfLayout o (c .weights))) (polynomial-cons k low high) (c .valid k high) in
+        layout-packed o 6 (c .weights) (leadWord words starts k) (omega arith) (v .are .0) (c .small);
   }
 
   module _ {α k : ℕ} (f : FirstFit words starts α k) where

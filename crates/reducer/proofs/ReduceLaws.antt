@@ -40,7 +40,7 @@ leftBy true n = suc n
 leftBy false n = 0
 
 pub record Turning (o : Order) (p : ℕ) (words coefs starts : List ℕ) (limit : ℕ) (ow₀ oc₀ : List ℕ) (b : Buckets) (bw bc ww wc ow oc inverses mw mc : List ℕ) (s : State) : Type 0 where
-  pub sound : Sound o p limit s b bw bc ow oc
+  pub sound : Sound o p words coefs starts limit s b bw bc ow oc
   pub kept : Inverses p coefs starts inverses
   pub work : WorkSpace ww wc
   pub scratch-words : length mw ≡ mostTerms
@@ -84,7 +84,7 @@ module _ {o : Order} {p : ℕ} {words coefs starts : List ℕ} {limit : ℕ} (a 
             f-is : terms fw fc ≡ polynomial words coefs starts 0
             f-is = ap₂ terms ew ec
 
-            from : (x : State) (b' : Buckets) (bw' bc' : List ℕ) → Sound o p limit x b' bw' bc' ow oc → Reaches o p (divisorsOf words coefs starts) (length ow) limit x b' bw' bc' ow oc (reductionOfWords o p (divisorsOf words coefs starts) (length ow) limit (polynomial words coefs starts 0)) → Turning o p words coefs starts limit ow oc b' bw' bc' ww' wc' ow oc inverses mw mc x
+            from : (x : State) (b' : Buckets) (bw' bc' : List ℕ) → Sound o p words coefs starts limit x b' bw' bc' ow oc → Reaches o p (divisorsOf words coefs starts) (length ow) limit x b' bw' bc' ow oc (reductionOfWords o p (divisorsOf words coefs starts) (length ow) limit (polynomial words coefs starts 0)) → Turning o p words coefs starts limit ow oc b' bw' bc' ww' wc' ow oc inverses mw mc x
             from x b' bw' bc' s r = record {
               sound = s;
               kept = i;
@@ -105,9 +105,10 @@ module _ {o : Order} {p : ℕ} {words coefs starts : List ℕ} {limit : ℕ} (a 
                 (subst (λ (y : State). Turning o p words coefs starts limit ow oc noBuckets bw bc ww' wc' ow oc inverses mw mc y) (sym es)
                 (from x noBuckets bw bc
                 (record {
+                  checked = a .checked;
                   stands = stands-none (compareWords o) p bw bc (a .checked .modulus) (l .words-long) (l .coefs-long);
                   room = omega (arith, ap held (lists-none bw bc), held-none);
-                  of-layout = subst (AllOf (λ b. All (λ t. OfLayout o (t .mono)) b)) (sym (lists-none bw bc)) (of-every (OfLayout o) empty (every-none (OfLayout o)));
+                  of-layout = subst (AllOf (λ b. All (λ t. OfLayout o (a .checked .weights) (t .mono)) b)) (sym (lists-none bw bc)) (of-every (OfLayout o (a .checked .weights)) empty (every-none (OfLayout o (a .checked .weights))));
                   output = record { same-long = l .same-long; fits = omega arith };
                   few-leads = omega arith;
                   few-places = omega arith;
@@ -130,9 +131,10 @@ module _ {o : Order} {p : ℕ} {words coefs starts : List ℕ} {limit : ℕ} (a 
                 subst (λ (y : State). Turning o p words coefs starts limit ow oc b' bw' bc' ww' wc' ow oc inverses mw mc y) (sym es)
                 (from x b' bw' bc'
                 (record {
+                  checked = a .checked;
                   stands = e .stands;
                   room = omega (arith, ap held lists, adds (compareWords o) p (words-order o) (omega (arith, a .checked .modulus .two)) f empty (omega (arith, room-six {A = ℕ} empty refl, held-none)) (addend .canonical) (subst (Good (compareWords o) p 4) none (stands-none (compareWords o) p bw bc (a .checked .modulus) (l .words-long) (l .coefs-long) .good)) .size, held-none);
-                  of-layout = subst (AllOf (λ b. All (λ t. OfLayout o (t .mono)) b)) (sym lists) (of-every (OfLayout o) _ (add-every (OfLayout o) (compareWords o) p f empty (subst (All (λ t. OfLayout o (t .mono))) (sym f-is) (valid .are)) (every-none (OfLayout o))));
+                  of-layout = subst (AllOf (λ b. All (λ t. OfLayout o (a .checked .weights) (t .mono)) b)) (sym lists) (of-every (OfLayout o (a .checked .weights)) _ (add-every (OfLayout o (a .checked .weights)) (compareWords o) p f empty (subst (All (λ t. OfLayout o (a .checked .weights) (t .mono))) (sym f-is) (valid .are)) (every-none (OfLayout o (a .checked .weights)))));
                   output = record { same-long = l .same-long; fits = omega arith };
                   few-leads = omega arith;
                   few-places = omega arith;
@@ -161,7 +163,6 @@ module _ {o : Order} {p : ℕ} {words coefs starts : List ℕ} {limit : ℕ} (a 
     module _ (more : goesOn (s .course) ≡ true) where
       pub turn-asks : {leads : List ℕ} → KeptLeads words starts leads → Stepping o p words coefs starts leads limit s inverses b bw bc ww wc mw mc ow oc
       turn-asks l = record {
-        checked = a .checked;
         few-steps = a .few-steps;
         more = more;
         sound = v .sound;

@@ -86,7 +86,7 @@ module _ {o : Order} {p : ℕ} {words coefs starts leads : List ℕ} {limit : �
   O = words-order o
 
   pos : 0 < p
-  pos = omega (arith, a .checked .modulus .two)
+  pos = omega (arith, a .sound .checked .modulus .two)
 
   canon : Canon (compareWords o) p (bucketsIn b₀ bw bc)
   canon = good-canon cmp p 4 bs (a .sound .stands .good)
@@ -97,8 +97,8 @@ module _ {o : Order} {p : ℕ} {words coefs starts leads : List ℕ} {limit : �
   found : Finds (compareWords o) p (bucketsIn b₀ bw bc) (search (compareWords o) p (bucketsIn b₀ bw bc))
   found = finds cmp p O pos bs canon
 
-  every : OfLead (OfLayout o) (search (compareWords o) p (bucketsIn b₀ bw bc) .answer) × Every (OfLayout o) (search (compareWords o) p (bucketsIn b₀ bw bc) .buckets)
-  every = search-every (OfLayout o) cmp p bs (every-of (OfLayout o) bs (a .sound .of-layout))
+  every : OfLead (OfLayout o (a .sound .checked .weights)) (search (compareWords o) p (bucketsIn b₀ bw bc) .answer) × Every (OfLayout o (a .sound .checked .weights)) (search (compareWords o) p (bucketsIn b₀ bw bc) .buckets)
+  every = search-every (OfLayout o (a .sound .checked .weights)) cmp p bs (every-of (OfLayout o (a .sound .checked .weights)) bs (a .sound .of-layout))
 
   left-few : held (withLead (search (compareWords o) p (bucketsIn b₀ bw bc) .answer) (search (compareWords o) p (bucketsIn b₀ bw bc) .buckets)) ≤ mostTerms
   left-few = by (search cmp p bs .answer) refl
@@ -115,11 +115,12 @@ module _ {o : Order} {p : ℕ} {words coefs starts leads : List ℕ} {limit : �
       by (lead at u) n = refl
 
   -- ---- the step ends the reduction with the lead left where it is
-  halted-sound : (r : Course) → goesOn r ≡ false → Sound o p limit (turned (counted s (k .count)) r) b bw bc' ow oc
+  halted-sound : (r : Course) → goesOn r ≡ false → Sound o p words coefs starts limit (turned (counted s (k .count)) r) b bw bc' ow oc
   halted-sound r off = record {
+    checked = a .sound .checked;
     stands = d .stands;
     room = omega (arith, ap held (d .lists-are), left-few);
-    of-layout = subst (AllOf (λ b. All (λ t. OfLayout o (t .mono)) b)) (sym (d .lists-are)) (of-every (OfLayout o) _ (with-every (OfLayout o) (search cmp p bs .answer) (search cmp p bs .buckets) (every .0) (every .1)));
+    of-layout = subst (AllOf (λ b. All (λ t. OfLayout o (a .sound .checked .weights) (t .mono)) b)) (sym (d .lists-are)) (of-every (OfLayout o (a .sound .checked .weights)) _ (with-every (OfLayout o (a .sound .checked .weights)) (search cmp p bs .answer) (search cmp p bs .buckets) (every .0) (every .1)));
     output = a .sound .output;
     few-leads = a .sound .few-leads;
     few-places = a .sound .few-places;
@@ -202,8 +203,8 @@ module _ {o : Order} {p : ℕ} {words coefs starts leads : List ℕ} {limit : �
     reduced : LeadOf (compareWords o) p (lead (L .at) (L .term)) (search (compareWords o) p (bucketsIn b₀ bw bc) .buckets)
     reduced = subst (λ (x : Lead ℕ). LeadOf cmp p x (search cmp p bs .buckets)) (L .is) (found .leads)
 
-    word-layout : OfLayout o (k .word)
-    word-layout = subst (OfLayout o) (sym word-is) (subst (OfLead (OfLayout o)) (L .is) (every .0))
+    word-layout : OfLayout o (a .sound .checked .weights) (k .word)
+    word-layout = subst (OfLayout o (a .sound .checked .weights)) (sym word-is) (subst (OfLead (OfLayout o (a .sound .checked .weights))) (L .is) (every .0))
 
     fewer : held (search (compareWords o) p (bucketsIn b₀ bw bc) .buckets) < held (bucketsIn b₀ bw bc)
     fewer = subst (λ (x : Lead ℕ). Fewer cmp p x (search cmp p bs .buckets) bs) (L .is) (found .fewer)
@@ -221,7 +222,7 @@ module _ {o : Order} {p : ℕ} {words coefs starts leads : List ℕ} {limit : �
         es (a .kept)
 
     pub first-asks : Leads words starts × KeptLeads words starts leads × Packed (k .word)
-    first-asks = (leads-there (a .checked), a .leads-kept, layout-packed o 6 (k .word) (omega arith) word-layout)
+    first-asks = (leads-there (a .sound .checked), a .leads-kept, layout-packed o 6 (a .sound .checked .weights) (k .word) (omega arith) word-layout (a .sound .checked .small))
 
     module _ (room : t .finished ≡ limit → ⊥) where
       few : s .finished < limit
@@ -241,9 +242,8 @@ module _ {o : Order} {p : ℕ} {words coefs starts leads : List ℕ} {limit : �
       module _ {i : ℕ} (f : FirstFit words starts (k .word) i) where
         pub divide-asks : i + 1 < length starts → Dividing o p words coefs starts i t k inverses b bw bc' ww wc mw mc
         divide-asks high =
-            subst (λ (x : State). Dividing o p words coefs starts i x k inverses b bw bc' ww wc mw mc) (sym et)
-            (record {
-              checked = a .checked;
+            record {
+              checked = a .sound .checked;
               low = f .low;
               high = high;
               fits = f .here high;
@@ -259,10 +259,10 @@ module _ {o : Order} {p : ℕ} {words coefs starts leads : List ℕ} {limit : �
               work = a .work;
               scratch-words = a .scratch-words;
               scratch-coefs = a .scratch-coefs;
-              few-leads = omega (arith, few, a .few-steps);
-              few-comparisons = omega (arith, few, a .few-steps, a .sound .few-comparisons (a .more), d .few);
-              few-brought = omega (arith, few, a .few-steps, a .sound .few-brought (a .more));
-            })
+              few-leads = subst (λ (x : State). x .finished < 10000000000000) (sym et) (omega (arith, few, a .few-steps));
+              few-comparisons = subst (λ (x : State). x .comparisons < 2000000000000000000) (sym et) (omega (arith, few, a .few-steps, a .sound .few-comparisons (a .more), d .few));
+              few-brought = subst (λ (x : State). x .brought < 2000000000000000000) (sym et) (omega (arith, few, a .few-steps, a .sound .few-brought (a .more)));
+            }
 
         pub keep-asks : Keeping t k b ow oc
         keep-asks =
@@ -284,7 +284,7 @@ module _ {o : Order} {p : ℕ} {words coefs starts leads : List ℕ} {limit : �
           tail-is = length-terms (tailOf starts i words) (tailOf starts i coefs) (tail-long D)
 
           fit : chosen dividesWord (divisorsOf words coefs starts) (L .term .mono) ≡ fits i (term (leadWord words starts i) (leadCoef coefs starts i)) (terms (tailOf starts i words) (tailOf starts i coefs))
-          fit = ap (chosen dividesWord (divisorsOf words coefs starts)) (sym word-is) ∙ fit-some (a .checked) f high
+          fit = ap (chosen dividesWord (divisorsOf words coefs starts)) (sym word-is) ∙ fit-some (a .sound .checked) f high
 
           large-is : anyTooLarge overWord (L .term .mono - leadWord words starts i) (terms (tailOf starts i words) (tailOf starts i coefs)) ≡ anyOver (k .word - leadWord words starts i) (tailOf starts i words)
           large-is = over-terms (L .term .mono - leadWord words starts i) (tailOf starts i words) (tailOf starts i coefs) (tail-long D) ∙ ap (λ (m : ℕ). anyOver (m - leadWord words starts i) (tailOf starts i words)) (sym word-is)
@@ -302,13 +302,14 @@ module _ {o : Order} {p : ℕ} {words coefs starts leads : List ℕ} {limit : �
           divided-to : {inverses' : List ℕ} → Inverses p coefs starts inverses' → {bw' bc'' : List ℕ} {b' : Buckets} {m : ℕ}
               → anyOver (k .word - leadWord words starts i) (tailOf starts i words) ≡ false → held (bucketsIn (dropped b (k .bucket)) bw bc') + length (tailOf starts i words) ≤ mostTerms
               → AddDone (compareWords o) p (dropped b (k .bucket)) (tailMultiple _-_ _+_ p (L .term) (term (leadWord words starts i) (leadCoef coefs starts i)) (terms (tailOf starts i words) (tailOf starts i coefs))) bw bc' bw' bc'' b' m
-              → Added (compareWords o) p (OfLayout o) (L .term) (tailMultiple _-_ _+_ p (L .term) (term (leadWord words starts i) (leadCoef coefs starts i)) (terms (tailOf starts i words) (tailOf starts i coefs)))
+              → Added (compareWords o) p (OfLayout o (a .sound .checked .weights)) (L .term) (tailMultiple _-_ _+_ p (L .term) (term (leadWord words starts i) (leadCoef coefs starts i)) (terms (tailOf starts i words) (tailOf starts i coefs)))
               → Stepped o p words coefs starts limit s b₀ bw bc ow oc (brought (counted (finishedOne (counted s (k .count))) m) (length (tailOf starts i words))) inverses' b' bw' bc'' ow oc
           divided-to i' {bw'} {bc''} {b'} {m} no-over small e u = record {
             sound = record {
+              checked = a .sound .checked;
               stands = e .stands;
               room = omega (arith, ap held (e .lists-are), adds cmp p O pos h cs (omega (arith, room-six cs (from-long _ 0 6), h-long)) (u .canonical) (taken .stands .good) .size, h-long);
-              of-layout = subst (AllOf (λ b. All (λ t. OfLayout o (t .mono)) b)) (sym (e .lists-are)) (of-every (OfLayout o) _ (add-every (OfLayout o) cmp p h cs (u .are) (subst (Every (OfLayout o)) (sym (taken .lists-are)) (every .1))));
+              of-layout = subst (AllOf (λ b. All (λ t. OfLayout o (a .sound .checked .weights) (t .mono)) b)) (sym (e .lists-are)) (of-every (OfLayout o (a .sound .checked .weights)) _ (add-every (OfLayout o (a .sound .checked .weights)) cmp p h cs (u .are) (subst (Every (OfLayout o (a .sound .checked .weights))) (sym (taken .lists-are)) (every .1))));
               output = a .sound .output;
               few-leads = omega (arith, few);
               few-places = omega (arith, a .sound .few-places);
@@ -352,6 +353,7 @@ module _ {o : Order} {p : ℕ} {words coefs starts leads : List ℕ} {limit : �
                   omega (arith, x, y, z, length-append (w .pairs) (search cmp p (w .buckets) .pairs), length-append (w .pairs ++ search cmp p (w .buckets) .pairs) (addCompared cmp p h (search cmp p (w .buckets) .buckets)))
 
           pub divided-step : {s' : State} {inverses' : List ℕ} {b' : Buckets} {bw' bc'' : List ℕ} → Divided o p words coefs starts i t k b bw bc' s' inverses' b' bw' bc'' → Stepped o p words coefs starts limit s b₀ bw bc ow oc s' inverses' b' bw' bc'' ow oc
+          unfolding D divide-asks
           divided-step {s'} {inverses'} {b'} {bw'} {bc''} v = by (v .done)
             where
               by : DividedTo o p words coefs starts i t k b bw bc' s' b' bw' bc'' → Stepped o p words coefs starts limit s b₀ bw bc ow oc s' inverses' b' bw' bc'' ow oc
@@ -369,12 +371,12 @@ module _ {o : Order} {p : ℕ} {words coefs starts leads : List ℕ} {limit : �
                   subst (λ (x : State). Stepped o p words coefs starts limit s b₀ bw bc ow oc x inverses' b' bw' bc'' ow oc) (sym (es ∙ ap (λ (x : State). brought (counted (finishedOne x) m) (length (tailOf starts i words))) et))
                   (divided-to (v .kept) h l
                   (subst (λ (x : Term ℕ). AddDone cmp p (dropped b (k .bucket)) (tailMultiple _-_ _+_ p x (term (leadWord words starts i) (leadCoef coefs starts i)) (terms (tailOf starts i words) (tailOf starts i coefs))) bw bc' bw' bc'' b' m) term-is e)
-                  (subst (λ (x : Term ℕ). Added cmp p (OfLayout o) x (tailMultiple _-_ _+_ p x (term (leadWord words starts i) (leadCoef coefs starts i)) (terms (tailOf starts i words) (tailOf starts i coefs)))) term-is (to-add D h l)))
+                  (subst (λ (x : Term ℕ). Added cmp p (OfLayout o (a .sound .checked .weights)) x (tailMultiple _-_ _+_ p x (term (leadWord words starts i) (leadCoef coefs starts i)) (terms (tailOf starts i words) (tailOf starts i coefs)))) term-is (to-add D h l)))
 
         -- ---- the lead goes to the remainder
         module _ (low : length starts ≤ i + 1) where
           no-fit : chosen dividesWord (divisorsOf words coefs starts) (L .term .mono) ≡ unfit
-          no-fit = ap (chosen dividesWord (divisorsOf words coefs starts)) (sym word-is) ∙ fit-none (a .checked) f low
+          no-fit = ap (chosen dividesWord (divisorsOf words coefs starts)) (sym word-is) ∙ fit-none (a .sound .checked) f low
 
           at-next : (w : events.Work ℕ) {x : Reduction ℕ} → stepsFrom (compareWords o) (chosen dividesWord (divisorsOf words coefs starts)) _-_ _+_ overWord p (length ow) (suc (limit - suc (s .finished))) (s .finished) (remainderIn s ow oc) w ≡ x → stepsFrom (compareWords o) (chosen dividesWord (divisorsOf words coefs starts)) _-_ _+_ overWord p (length ow) (limit - s .finished) (s .finished) (remainderIn s ow oc) w ≡ x
           at-next w e = ap (λ (m : ℕ). stepsFrom cmp (chosen dividesWord (divisorsOf words coefs starts)) _-_ _+_ overWord p (length ow) m (s .finished) (remainderIn s ow oc) w) one-left ∙ e
@@ -394,9 +396,10 @@ module _ {o : Order} {p : ℕ} {words coefs starts leads : List ℕ} {limit : �
                   let grows : remainderIn (gave (finishedOne (counted s (k .count))) 1 1) (set ow (s .places) (k .word)) (set oc (s .places) (k .coef)) ≡ remainderIn s ow oc ++ L .term ∷ [] = grown out x y refl fit ∙ ap (λ (u : Term ℕ). remainderIn s ow oc ++ (u ∷ [])) term-is in
                   record {
                     sound = record {
+                      checked = a .sound .checked;
                       stands = taken .stands;
                       room = omega (arith, ap held (taken .lists-are), fewer, a .sound .room);
-                      of-layout = subst (AllOf (λ b. All (λ t. OfLayout o (t .mono)) b)) (sym (taken .lists-are)) (of-every (OfLayout o) _ (every .1));
+                      of-layout = subst (AllOf (λ b. All (λ t. OfLayout o (a .sound .checked .weights) (t .mono)) b)) (sym (taken .lists-are)) (of-every (OfLayout o (a .sound .checked .weights)) _ (every .1));
                       output = grown-output out x y refl fit;
                       few-leads = omega (arith, few);
                       few-places = omega (arith, a .sound .few-places);

@@ -58,7 +58,7 @@ pub record Dividing (o : Order) (p : ℕ) (words coefs starts : List ℕ) (k : �
   -- the buckets without the lead
   pub rest : Stands (compareWords o) p (dropped b (lead .bucket)) bw bc
   pub one-less : held (bucketsIn b bw bc) ≡ held (bucketsIn (dropped b (lead .bucket)) bw bc) + 1
-  pub of-layout : OfLayout o (lead .word)
+  pub of-layout : OfLayout o (checked .weights) (lead .word)
   pub coef-pos : 0 < lead .coef
   pub coef-small : lead .coef < p
   pub kept : Inverses p coefs starts inverses

@@ -73,11 +73,12 @@ module _ (o : Order) (p : ℕ) (gs : List (List (Term ℕ))) (places limit : ℕ
     pub going : goesOn (s .course) ≡ true → Going s b bw bc ow oc R
     pub ended : goesOn (s .course) ≡ false → Ended s b bw bc ow oc R
 
--- a state between steps: its buckets, and its counts, which are far from 64 bits
-pub record Sound (o : Order) (p limit : ℕ) (s : State) (b : Buckets) (bw bc ow oc : List ℕ) : Type 0 where
+-- a state between steps: its buckets, whose words have the divisors' weights, and its counts, which are far from 64 bits
+pub record Sound (o : Order) (p : ℕ) (words coefs starts : List ℕ) (limit : ℕ) (s : State) (b : Buckets) (bw bc ow oc : List ℕ) : Type 0 where
+  pub checked : Checked o p words coefs starts
   pub stands : Stands (compareWords o) p b bw bc
   pub room : held (bucketsIn b bw bc) ≤ mostTerms
-  pub of-layout : AllOf (λ b. All (λ t. OfLayout o (t .mono)) b) (bucketsIn b bw bc)
+  pub of-layout : AllOf (λ b. All (λ t. OfLayout o (checked .weights) (t .mono)) b) (bucketsIn b bw bc)
   pub output : Output (s .places) ow oc
   pub few-leads : s .finished ≤ limit
   -- each lead has at most one place of the remainder
@@ -87,10 +88,9 @@ pub record Sound (o : Order) (p limit : ℕ) (s : State) (b : Buckets) (bw bc ow
   pub few-brought : goesOn (s .course) ≡ true → s .brought ≤ mostTerms * (s .finished + 1)
 
 pub record Stepping (o : Order) (p : ℕ) (words coefs starts leads : List ℕ) (limit : ℕ) (s : State) (inverses : List ℕ) (b : Buckets) (bw bc ww wc mw mc ow oc : List ℕ) : Type 0 where
-  pub checked : Checked o p words coefs starts
   pub few-steps : limit ≤ mostSteps
   pub more : goesOn (s .course) ≡ true
-  pub sound : Sound o p limit s b bw bc ow oc
+  pub sound : Sound o p words coefs starts limit s b bw bc ow oc
   pub leads-kept : KeptLeads words starts leads
   pub kept : Inverses p coefs starts inverses
   pub work : WorkSpace ww wc
@@ -99,7 +99,7 @@ pub record Stepping (o : Order) (p : ℕ) (words coefs starts leads : List ℕ) 
 
 -- whatever reduction the published steps come to, this step is one of them; output past the remainder is untouched
 pub record Stepped (o : Order) (p : ℕ) (words coefs starts : List ℕ) (limit : ℕ) (s : State) (b : Buckets) (bw bc ow oc : List ℕ) (s' : State) (inverses' : List ℕ) (b' : Buckets) (bw' bc' ow' oc' : List ℕ) : Type 0 where
-  pub sound : Sound o p limit s' b' bw' bc' ow' oc'
+  pub sound : Sound o p words coefs starts limit s' b' bw' bc' ow' oc'
   pub kept : Inverses p coefs starts inverses'
   pub further : goesOn (s' .course) ≡ true → (s' .finished ≡ s .finished + 1) × (s .finished < limit)
   pub reaches : (R : Reduction ℕ) → Going o p (divisorsOf words coefs starts) (length ow) limit s b bw bc ow oc R → Reaches o p (divisorsOf words coefs starts) (length ow) limit s' b' bw' bc' ow' oc' R

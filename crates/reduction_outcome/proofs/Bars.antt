@@ -10,4 +10,4 @@ use Rattle.division.proofs.Absurd.{never-multiple, never-x1}
 use Rattle.reduction_outcome.specs.Meaning.{InVariables, SumWith}
 
 pub absurd-refused : (t : Setting) → 1 < t .p → SumWith t ((term (0 ∷ 1 ∷ []) 1 ∷ []) ∷ []) (term (1 ∷ 0 ∷ []) 1 ∷ []) [] → ⊥
-absurd-refused t h = never-multiple (compareIn (orderOf (t .order))) (exponents-order (orderOf (t .order))) product (InVariables t) (t .p) (term (0 ∷ 1 ∷ []) 1) (term (1 ∷ 0 ∷ []) 1) (λ α i e. never-x1 α e) (omega arith) h
+absurd-refused t h = never-multiple (compareIn (orderOf (t .order)) (t .weights)) (exponents-order (orderOf (t .order)) (t .weights)) product (InVariables t) (t .p) (term (0 ∷ 1 ∷ []) 1) (term (1 ∷ 0 ∷ []) 1) (λ α i e. never-x1 α e) (omega arith) h

@@ -96,17 +96,20 @@ module _ (tally : Tally) (t : Setting) (words coefs ss : List ℕ) (limit : ℕ)
     abbrev n : ℕ
     n = t .n
 
+    abbrev weights : List ℕ
+    weights = t .weights
+
     abbrev cmp : ℕ → ℕ → Ordering
     cmp = compareWords (orderOf (t .order))
 
     opened : ReductionOpened t words coefs ss limit (length bw) (length bc) (length ww) (length wc) (length ow) (length oc)
     opened = reduction-opened t words coefs ss limit (length bw) (length bc) (length ww) (length wc) (length ow) (length oc) none
 
-    given : Given (orderOf (t .order)) (t .n) (t .p) (divisorsOf words coefs ss) (polynomial words coefs ss 0)
+    given : Given (orderOf (t .order)) (t .n) (t .weights) (t .p) (divisorsOf words coefs ss) (polynomial words coefs ss 0)
     given = record { few = opened .n-high; prime = opened .prime; divisors = valid-divisors opened; valid = valid-polynomial opened 0 (opened .some) }
 
     few : length f ≤ mostTerms → length (polynomial words coefs ss 0) ≤ mostTerms
-    few h = omega (arith, h, renamed-long (exponents (orderOf order) n) (λ w. Layout (orderOf order) n w) (polynomial words coefs ss 0))
+    few h = omega (arith, h, renamed-long (exponents (orderOf order) n) (λ w. Layout (orderOf order) n weights w) (polynomial words coefs ss 0))
 
     -- ---- what lies in the outcome
     outcome-is : outcome ≡ ended last ow oc
@@ -124,11 +127,11 @@ module _ (tally : Tally) (t : Setting) (words coefs ss : List ℕ) (limit : ℕ)
     held-is : heldAt (outcome .bw) (outcome .bc) ≡ flat (last .work .buckets)
     held-is = ap (λ (x : Outcome). heldAt (x .bw) (x .bc)) outcome-is ∙ held-back cmp p 4 (last .work .buckets) (R.held-canon given (length ow) limit)
 
-    held-as : OneList (compareWords (orderOf (t .order))) (λ w. Layout (orderOf (t .order)) (t .n) w) (last .work .buckets) (heldAt (outcome .bw) (outcome .bc))
+    held-as : OneList (compareWords (orderOf (t .order))) (λ w. Layout (orderOf (t .order)) (t .n) (t .weights) w) (last .work .buckets) (heldAt (outcome .bw) (outcome .bc))
     held-as =
         let bs = last .work .buckets in
-        subst (OneList cmp (λ w. Layout (orderOf order) n w) bs) (sym held-is)
-        (record { are = flat-are (λ w. Layout (orderOf order) n w) bs (R.last-state given (length ow) limit .held-are); totals = λ m. flat-total cmp m bs; count = flat-held bs })
+        subst (OneList cmp (λ w. Layout (orderOf order) n weights w) bs) (sym held-is)
+        (record { are = flat-are (λ w. Layout (orderOf order) n weights w) bs (R.last-state given (length ow) limit .held-are); totals = λ m. flat-total cmp m bs; count = flat-held bs })
 
     -- what holds of the number, the leads and the remainder that the reduction comes to holds of those in the outcome
     of-outcome : (P : (number finished : ℕ) → List (Term (List ℕ)) → Type 0) → P (last .stop) (last .leads) (byExponents t (last .remainder)) → P (outcome .answer .number) (outcome .answer .finished) (remainderIn t outcome)
@@ -139,18 +142,18 @@ module _ (tally : Tally) (t : Setting) (words coefs ss : List ℕ) (limit : ℕ)
     of-answer e = sym (ap (λ (x : Stated). x .number) outcome-answer) ∙ e
 
     -- the words in the output, in the bucket space and of the leads are of the layout, so that their exponents determine them
-    pub remainder-words : All (λ u. Layout (orderOf (t .order)) (t .n) (u .mono)) (terms (take (outcome .answer .places) (outcome .ow)) (take (outcome .answer .places) (outcome .oc)))
-    remainder-words = subst (λ (l : List (Term ℕ)). All (λ u. Layout (orderOf order) n (u .mono)) l) (sym written-is) (R.last-state given (length ow) limit .out-gone .are)
+    pub remainder-words : All (λ u. Layout (orderOf (t .order)) (t .n) (t .weights) (u .mono)) (terms (take (outcome .answer .places) (outcome .ow)) (take (outcome .answer .places) (outcome .oc)))
+    remainder-words = subst (λ (l : List (Term ℕ)). All (λ u. Layout (orderOf order) n weights (u .mono)) l) (sym written-is) (R.last-state given (length ow) limit .out-gone .are)
 
-    pub held-words : All (λ u. Layout (orderOf (t .order)) (t .n) (u .mono)) (heldAt (outcome .bw) (outcome .bc))
+    pub held-words : All (λ u. Layout (orderOf (t .order)) (t .n) (t .weights) (u .mono)) (heldAt (outcome .bw) (outcome .bc))
     held-words = held-as .are
 
-    pub leads-words : All (λ u. Layout (orderOf (t .order)) (t .n) (u .mono)) leads
+    pub leads-words : All (λ u. Layout (orderOf (t .order)) (t .n) (t .weights) (u .mono)) leads
     leads-words = R.last-state given (length ow) limit .given-gone .are
 
     -- the answer has the number of places that the remainder takes, and "Output past the last place written is untouched"
     pub places-count : length (remainderIn t outcome) ≡ outcome .answer .places
-    places-count = ap length remainder-is ∙ (renamed-long (exponents (orderOf order) n) (λ w. Layout (orderOf order) n w) (last .remainder) ∙ sym (ap (λ (x : Stated). x .places) outcome-answer))
+    places-count = ap length remainder-is ∙ (renamed-long (exponents (orderOf order) n) (λ w. Layout (orderOf order) n weights w) (last .remainder) ∙ sym (ap (λ (x : Stated). x .places) outcome-answer))
 
     pub output-past : (drop (outcome .answer .places) (outcome .ow) ≡ drop (outcome .answer .places) ow) × (drop (outcome .answer .places) (outcome .oc) ≡ drop (outcome .answer .places) oc)
     output-past =
@@ -164,19 +167,19 @@ module _ (tally : Tally) (t : Setting) (words coefs ss : List ℕ) (limit : ℕ)
     -- ---- Demand 1: it finishes, or a step is refused with 10 to 13, or polynomial 0 with 11, each under its condition. It bars a reduction that stops with 13 before the limit's leads are removed.
     pub demand-1-ending : EndsWith t gs (outcome .answer .number) f (length ow) limit outcome
     demand-1-ending =
-        of-outcome (λ k l r. Ending (compareIn (orderOf order)) (chosen divides gs) quotient (overExponents t) p (length ow) limit k l f r (heldIn t outcome ∷ []))
+        of-outcome (λ k l r. Ending (compareIn (orderOf order) weights) (chosen divides gs) quotient (overExponents t) p (length ow) limit k l f r (heldIn t outcome ∷ []))
         (X.by-ending given (length ow) limit (heldAt (outcome .bw) (outcome .bc)) held-as)
 
     -- "and no other"
     pub demand-1-only : (k : ℕ) → EndsWith t gs k f (length ow) limit outcome → outcome .answer .number ≡ k
-    demand-1-only k e = ending-once (compareIn (orderOf order)) (exponents-order (orderOf order)) (chosen divides gs) quotient (overExponents t) p (length ow) limit (outcome .answer .number) k (outcome .answer .finished) f (remainderIn t outcome) (heldIn t outcome ∷ []) demand-1-ending e
+    demand-1-only k e = ending-once (compareIn (orderOf order) weights) (exponents-order (orderOf order) weights) (chosen divides gs) quotient (overExponents t) p (length ow) limit (outcome .answer .number) k (outcome .answer .finished) f (remainderIn t outcome) (heldIn t outcome ∷ []) demand-1-ending e
 
     -- 11: "polynomial 0 itself is tested before the first step, leaving buckets, work space and tally all 0"
     pub demand-1-first : mostTerms < length f → outcome ≡ returned (record { number = 11; finished = 0; places = 0 }) (record { comparisons = 0; brought = 0; given = 0; held = 0 }) empty [] ow oc
     unfolding held
     demand-1-first h =
         outcome-is
-        ∙ ap (λ (x : Reduction ℕ). ended x ow oc) (begins-not cmp (chosen dividesWord (divisorsOf words coefs ss)) _-_ _+_ overWord p (length ow) limit (polynomial words coefs ss 0) (omega (arith, h, renamed-long (exponents (orderOf order) n) (λ w. Layout (orderOf order) n w) (polynomial words coefs ss 0))))
+        ∙ ap (λ (x : Reduction ℕ). ended x ow oc) (begins-not cmp (chosen dividesWord (divisorsOf words coefs ss)) _-_ _+_ overWord p (length ow) limit (polynomial words coefs ss 0) (omega (arith, h, renamed-long (exponents (orderOf order) n) (λ w. Layout (orderOf order) n weights w) (polynomial words coefs ss 0))))
 
     -- 13 means that the division takes more steps than the limit
     pub demand-1-short : outcome .answer .number ≡ 13 → (k : ℕ) (s : List (Term (List ℕ))) → DividesTo t gs k f s → limit < k
@@ -203,11 +206,11 @@ module _ (tally : Tally) (t : Setting) (words coefs ss : List ℕ) (limit : ℕ)
     demand-2-sum h = of-outcome (λ k l r. SumWith t gs f (r ++ heldIn t outcome)) (X.by-sum given (length ow) limit (heldAt (outcome .bw) (outcome .bc)) held-as (few h))
 
     -- what it holds has a canonical list
-    pub held-canonical : (h : List (Term (List ℕ))) × Canonical (compareIn (orderOf (t .order))) (t .p) h × Same (compareIn (orderOf (t .order))) (t .p) h (heldIn t outcome)
+    pub held-canonical : (h : List (Term (List ℕ))) × Canonical (compareIn (orderOf (t .order)) (t .weights)) (t .p) h × Same (compareIn (orderOf (t .order)) (t .weights)) (t .p) h (heldIn t outcome)
     held-canonical = X.held-canonical given (length ow) limit (heldAt (outcome .bw) (outcome .bc)) held-as
 
     -- the canonical list h of what it holds, divided further, gives the steps and the remainder of polynomial 0
-    pub demand-2-stopped : length f ≤ mostTerms → (h : List (Term (List ℕ))) → Canonical (compareIn (orderOf (t .order))) (t .p) h → Same (compareIn (orderOf (t .order))) (t .p) h (heldIn t outcome)
+    pub demand-2-stopped : length f ≤ mostTerms → (h : List (Term (List ℕ))) → Canonical (compareIn (orderOf (t .order)) (t .weights)) (t .p) h → Same (compareIn (orderOf (t .order)) (t .weights)) (t .p) h (heldIn t outcome)
         → (k : ℕ) (s : List (Term (List ℕ))) → DividesTo t gs k h s → DividesTo t gs (outcome .answer .finished + k) f (remainderIn t outcome ++ s)
     demand-2-stopped l h c e k s d = of-outcome (λ j i r. DividesTo t gs (i + k) f (r ++ s)) (X.by-stopped given (length ow) limit (heldAt (outcome .bw) (outcome .bc)) held-as (few l) h c e k s d)
 
@@ -216,8 +219,8 @@ module _ (tally : Tally) (t : Setting) (words coefs ss : List ℕ) (limit : ℕ)
     demand-2-beginning h k s d = of-outcome (λ j l r. (i : ℕ) × (u : List (Term (List ℕ))) × (k ≡ l + i) × (s ≡ r ++ u)) (X.by-beginning given (length ow) limit (few h) k s d)
 
     -- the remainder, finished or so far, is canonical, and no term of it is divisible by a divisor's lead
-    pub remainder-canonical : Canonical (compareIn (orderOf (t .order))) (t .p) (remainderIn t outcome)
-    remainder-canonical = of-outcome (λ k l r. Canonical (compareIn (orderOf order)) p r) (X.remainder-canonical given (length ow) limit)
+    pub remainder-canonical : Canonical (compareIn (orderOf (t .order)) (t .weights)) (t .p) (remainderIn t outcome)
+    remainder-canonical = of-outcome (λ k l r. Canonical (compareIn (orderOf order) weights) p r) (X.remainder-canonical given (length ow) limit)
 
     pub remainder-irreducible : All (λ u. Undivided divides gs (u .mono)) (remainderIn t outcome)
     remainder-irreducible = of-outcome (λ k l r. All (λ u. Undivided divides gs (u .mono)) r) (X.remainder-irreducible given (length ow) limit)
@@ -229,7 +232,7 @@ module _ (tally : Tally) (t : Setting) (words coefs ss : List ℕ) (limit : ℕ)
     pub leads-only : (ls : List (Term (List ℕ))) → Removes t gs (outcome .answer .finished) f ls → ls ≡ byExponents t leads
     leads-only = of-outcome (λ k l r. (ls : List (Term (List ℕ))) → Removes t gs l f ls → ls ≡ byExponents t leads) (X.leads-only given (length ow) limit)
 
-    pub leads-fall : Falling (compareIn (orderOf (t .order))) (byExponents t leads)
+    pub leads-fall : Falling (compareIn (orderOf (t .order)) (t .weights)) (byExponents t leads)
     leads-fall = X.leads-fall given (length ow) limit
 
     pub leads-count : length (byExponents t leads) ≡ outcome .answer .finished
@@ -296,7 +299,7 @@ module _ (tally : Tally) (t : Setting) (words coefs ss : List ℕ) (limit : ℕ)
         le-trans demand-3-bound (bound-monotone (outcome .tally .brought) (mostTerms * (limit + 1)) (omega (arith, ap (λ (x : Tally). x .brought) tally-is, l .brought-few, l .leads-few)))
 
   -- ---- Demand 1: which numbers can come at all
-  numbers-past : (k l : ℕ) (r : List (Term (List ℕ))) (bs : List (List (Term (List ℕ)))) → Ending (compareIn (orderOf (t .order))) (chosen divides gs) quotient (overExponents t) (t .p) (length ow) limit k l f r bs → OneOf reductionNumbers k
+  numbers-past : (k l : ℕ) (r : List (Term (List ℕ))) (bs : List (List (Term (List ℕ)))) → Ending (compareIn (orderOf (t .order)) (t .weights)) (chosen divides gs) quotient (overExponents t) (t .p) (length ow) limit k l f r bs → OneOf reductionNumbers k
   numbers-past k l r bs (first-too-many e h a b c) = one-of reductionNumbers 11 k refl e
   numbers-past k l r bs (by-steps h (finished e a b c)) = one-of reductionNumbers 0 k refl e
   numbers-past k l r bs (by-steps h (at-limit u e a b)) = one-of reductionNumbers 13 k refl e
@@ -311,7 +314,7 @@ module _ (tally : Tally) (t : Setting) (words coefs ss : List ℕ) (limit : ℕ)
       by zero e = numbers-past _ _ _ _ (demand-1-ending e)
       by (suc k) e =
           subst (OneOf reductionNumbers) (sym (ap (λ (x : Outcome). x .answer .number) (demand-1-unchanged (λ z. let q : ⊥ = omega (arith, z, e) in q))))
-          (one-of-more (0 ∷ 1 ∷ 2 ∷ 3 ∷ 4 ∷ 5 ∷ 6 ∷ 7 ∷ 8 ∷ []) (10 ∷ 11 ∷ 12 ∷ 13 ∷ []) opening (reduction-numbers t words coefs ss limit (length bw) (length bc) (length ww) (length wc) (length ow) (length oc)))
+          (one-of-more (0 ∷ 1 ∷ 2 ∷ 3 ∷ 4 ∷ 5 ∷ 6 ∷ 7 ∷ 8 ∷ 24 ∷ []) (10 ∷ 11 ∷ 12 ∷ 13 ∷ []) opening (reduction-numbers t words coefs ss limit (length bw) (length bc) (length ww) (length wc) (length ow) (length oc)))
 
 -- "What either held before is not read": two calls that differ only in the contents of bucket space, work space and tally have the same outcome past the opening.
 pub not-read : (tally tally' : Tally) (t : Setting) (words coefs ss : List ℕ) (limit : ℕ) (bw bc ww wc bw' bc' ww' wc' ow oc : List ℕ) → length bw' ≡ length bw → length bc' ≡ length bc → length ww' ≡ length ww → length wc' ≡ length wc

@@ -30,8 +30,11 @@ module _ {t : Setting} {words coefs ss : List ℕ} {steps lbw lbc lww lwc low lo
   abbrev n : ℕ
   n = t .n
 
-  pub valid-polynomial : (k : ℕ) → k + 1 < length ss → Valid (compareWords (orderOf order)) p (λ w. Layout (orderOf order) n w) (polynomial words coefs ss k)
-  valid-polynomial k h = let v = passes (orderOf order) n p (polynomial words coefs ss k) (o .polynomials k h) in record { canonical = v .0; are = v .1 }
+  abbrev weights : List ℕ
+  weights = t .weights
 
-  pub valid-divisors : AllOf (Valid (compareWords (orderOf order)) p (λ w. Layout (orderOf order) n w)) (divisorsOf words coefs ss)
-  valid-divisors = all-from (λ f. Valid (compareWords (orderOf order)) p (λ w. Layout (orderOf order) n w) f) (polynomial words coefs ss) 1 (length ss - 2) (λ k l h. valid-polynomial k (omega (arith, o .some)))
+  pub valid-polynomial : (k : ℕ) → k + 1 < length ss → Valid (compareWords (orderOf order)) p (λ w. Layout (orderOf order) n weights w) (polynomial words coefs ss k)
+  valid-polynomial k h = let v = passes (orderOf order) n weights p (polynomial words coefs ss k) (o .polynomials k h) in record { canonical = v .0; are = v .1 }
+
+  pub valid-divisors : AllOf (Valid (compareWords (orderOf order)) p (λ w. Layout (orderOf order) n weights w)) (divisorsOf words coefs ss)
+  valid-divisors = all-from (λ f. Valid (compareWords (orderOf order)) p (λ w. Layout (orderOf order) n weights w) f) (polynomial words coefs ss) 1 (length ss - 2) (λ k l h. valid-polynomial k (omega (arith, o .some)))

@@ -21,9 +21,9 @@ use Rattle.division.specs.Combination.{Combination, LeadsOf}
 use Rattle.division.specs.Demanded.{reductionEvents}
 use Rattle.reduction_outcome.specs.Outcome.{reducedThrough}
 
--- the numbers that a reduction can answer with at all: it has no operations, so no 9
+-- the numbers that a reduction can answer with at all, those of its opening checks first: it has no operations, so no 9
 abbrev pub reductionNumbers : List ℕ
-reductionNumbers = 0 ∷ 1 ∷ 2 ∷ 3 ∷ 4 ∷ 5 ∷ 6 ∷ 7 ∷ 8 ∷ 10 ∷ 11 ∷ 12 ∷ 13 ∷ []
+reductionNumbers = 0 ∷ 1 ∷ 2 ∷ 3 ∷ 4 ∷ 5 ∷ 6 ∷ 7 ∷ 8 ∷ 24 ∷ 10 ∷ 11 ∷ 12 ∷ 13 ∷ []
 
 module _ (t : Setting) where
   -- a polynomial by the exponents of its words
@@ -66,16 +66,16 @@ module _ (t : Setting) where
   module _ (gs : List (List (Term (List ℕ)))) where
     -- the division algorithm divides f in k steps, and leaves r
     abbrev pub DividesTo : (k : ℕ) → (f r : List (Term (List ℕ))) → Type 0
-    DividesTo k f r = Division (compareIn (orderOf (t .order))) (chosen divides gs) quotient product (t .p) k f r
+    DividesTo k f r = Division (compareIn (orderOf (t .order)) (t .weights)) (chosen divides gs) quotient product (t .p) k f r
 
     -- its first k steps remove the leads ls, in this order
     abbrev pub Removes : (k : ℕ) → (f ls : List (Term (List ℕ))) → Type 0
-    Removes k f ls = LeadsOf (compareIn (orderOf (t .order))) (chosen divides gs) quotient product (t .p) k f ls
+    Removes k f ls = LeadsOf (compareIn (orderOf (t .order)) (t .weights)) (chosen divides gs) quotient product (t .p) k f ls
 
     -- f is r and a sum of multiples of divisors by monomials in n variables, as polynomials modulo p
     abbrev pub SumWith : (f r : List (Term (List ℕ))) → Type 0
-    SumWith f r = Combination (compareIn (orderOf (t .order))) product InVariables (t .p) gs f r
+    SumWith f r = Combination (compareIn (orderOf (t .order)) (t .weights)) product InVariables (t .p) gs f r
 
     -- the reduction of f ends in the outcome x with the number k, under the condition that document 01 names for it
     abbrev pub EndsWith : (k : ℕ) → (f : List (Term (List ℕ))) → (places limit : ℕ) → Outcome → Type 0
-    EndsWith k f places limit x = Ending (compareIn (orderOf (t .order))) (chosen divides gs) quotient overExponents (t .p) places limit k (x .answer .finished) f (remainderIn x) (heldIn x ∷ [])
+    EndsWith k f places limit x = Ending (compareIn (orderOf (t .order)) (t .weights)) (chosen divides gs) quotient overExponents (t .p) places limit k (x .answer .finished) f (remainderIn x) (heldIn x ∷ [])

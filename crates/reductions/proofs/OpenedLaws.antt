@@ -6,9 +6,9 @@ use native.Mathlib.Omega.{arith}
 use lib.ListN.{length, take, drop, take-append-drop, length-drop}
 use lib.Seq.{take-all}
 use Rattle.monomial.specs.declared.order.Order.{Order}
-use Rattle.monomial.specs.Exponents.{orderOf, degree}
+use Rattle.monomial.specs.Exponents.{orderOf, weighted}
 use Rattle.monomial.specs.Layout.{fields, Below, Layout}
-use Rattle.monomial.proofs.Places.{zeros, degree-append, degree-zeros}
+use Rattle.monomial.proofs.Places.{weighted-enough}
 use Rattle.monomial.proofs.LayoutLaws.{length-fields}
 use Rattle.polynomial.proofs.MergeLaws.{all-map}
 use Rattle.polynomial.proofs.StartLaws.{good-within}
@@ -17,12 +17,13 @@ use Rattle.polynomial.specs.declared.setting.Setting.{Setting}
 use Rattle.opening.specs.Reduction.{ReductionOpened}
 use Rattle.call.specs.Lending.{polynomial, Lent}
 use Rattle.reduction_outcome.proofs.OpenedLaws.{valid-polynomial}
+use Rattle.opening.proofs.WeightsJudged.{weights-range}
 use Rattle.reducer.specs.Stepping.{Reducible}
 
--- a word of the layout in n variables is one in six
-layout-six : (o : Order) (n w : ℕ) → n ≤ 6 → Layout o n w → Layout o 6 w
-layout-six o n w few l = record {
-  degree-is = l .degree-is ∙ sym (ap degree (take-all 6 (fields o w) (omega (arith, length-fields o w))) ∙ (ap degree (sym (take-append-drop n (fields o w))) ∙ (degree-append (take n (fields o w)) (drop n (fields o w)) ∙ (let z : degree (take n (fields o w)) + degree (drop n (fields o w)) ≡ degree (take n (fields o w)) = omega (arith, ap degree (zeros (drop n (fields o w)) (l .beyond)), degree-zeros (length (drop n (fields o w)))) in z))));
+-- a word of the layout in n variables is one in six: the other fields are 0, so their weights do not matter
+layout-six : (o : Order) (n : ℕ) (vs : List ℕ) (w : ℕ) → n ≤ 6 → Layout o n vs w → Layout o 6 vs w
+layout-six o n vs w few l = record {
+  degree-is = l .degree-is ∙ (weighted-enough vs n (fields o w) (l .beyond) ∙ sym (ap (weighted vs) (take-all 6 (fields o w) (omega (arith, length-fields o w)))));
   tops = l .tops;
   beyond = none (drop 6 (fields o w)) (omega (arith, length-drop 6 (fields o w), length-fields o w));
 }
@@ -41,9 +42,14 @@ module _ {t : Setting} {words coefs ss : List ℕ} {steps lbw lbc lww lwc low lo
   abbrev n : ℕ
   n = t .n
 
+  abbrev weights : List ℕ
+  weights = t .weights
+
   pub reducible : Reducible (orderOf order) p words coefs ss steps
   reducible = record {
     checked = record {
+      weights = weights;
+      small = weights-range n weights (o .weights) .0;
       modulus = record { two = o .prime .above; limit = omega (arith, o .limit) };
       prime = o .prime;
       long = sym (o .lent);
@@ -51,7 +57,7 @@ module _ {t : Setting} {words coefs ss : List ℕ} {steps lbw lbc lww lwc low lo
       parts = λ k h. good-within ss (length words) (o .starts) k h;
       valid = λ k h.
           let v = valid-polynomial o k h in
-          record { canonical = v .canonical; are = all-map {P = λ t. Layout (orderOf order) n (t .mono)} {Q = λ t. Layout (orderOf order) 6 (t .mono)} (λ t l. layout-six (orderOf order) n (t .mono) (o .n-high) l) (polynomial words coefs ss k) (v .are) };
+          record { canonical = v .canonical; are = all-map {P = λ t. Layout (orderOf order) n weights (t .mono)} {Q = λ t. Layout (orderOf order) 6 weights (t .mono)} (λ t l. layout-six (orderOf order) n weights (t .mono) (o .n-high) l) (polynomial words coefs ss k) (v .are) };
       not-zero = o .divisors;
     };
     few-steps = o .few-steps;

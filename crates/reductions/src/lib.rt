@@ -7,7 +7,6 @@ use call::answer::ended;
 use call::answer::refused;
 use monomial::order::order_of;
 use opening::reduction::reduction_opening;
-use polynomial::setting::Setting;
 use reducer::steps::reduce_all;
 use space::settle::settle;
 use space::state::clear;
@@ -23,6 +22,7 @@ pub fn reduce<'a>(
     p: u32,
     order: u32,
     n: u32,
+    weights: &[u32],
     words: &'a [u64],
     coefs: &'a [u32],
     starts: &[usize],
@@ -36,10 +36,13 @@ pub fn reduce<'a>(
 ) -> Returned
     ensures { λ r. ⌜ _≡_ {A = Outcome}
         (record { answer = stated (r .answer); tally = r .tally; bw = now (bw .exit); bc = now (bc .exit); ww = now (ww .exit); wc = now (wc .exit); ow = now (ow .exit); oc = now (oc .exit) })
-        (reductionOutcome tally (settingOf p order n) (now (words .entry)) (now (coefs .entry)) (now (starts .entry)) limit (now (bw .entry)) (now (bc .entry)) (now (ww .entry)) (now (wc .entry)) (now (ow .entry)) (now (oc .entry))) ⌝ }
+        (reductionOutcome tally (settingOf p order n (now (weights .entry))) (now (words .entry)) (now (coefs .entry)) (now (starts .entry)) limit (now (bw .entry)) (now (bc .entry)) (now (ww .entry)) (now (wc .entry)) (now (ow .entry)) (now (oc .entry))) ⌝ }
 {
     let number = reduction_opening(
-        Setting { p, order, n },
+        p,
+        order,
+        n,
+        weights,
         words,
         coefs,
         starts,
@@ -81,6 +84,7 @@ pub fn reduce_in_place<'t, 'a>(
     p: u32,
     order: u32,
     n: u32,
+    weights: &[u32],
     words: &'a [u64],
     coefs: &'a [u32],
     starts: &[usize],
@@ -94,13 +98,14 @@ pub fn reduce_in_place<'t, 'a>(
 ) -> Answer
     ensures { λ r. ⌜ _≡_ {A = Outcome}
         (record { answer = stated r; tally = now (tally .exit); bw = now (bw .exit); bc = now (bc .exit); ww = now (ww .exit); wc = now (wc .exit); ow = now (ow .exit); oc = now (oc .exit) })
-        (reductionOutcome (now (tally .entry)) (settingOf p order n) (now (words .entry)) (now (coefs .entry)) (now (starts .entry)) limit (now (bw .entry)) (now (bc .entry)) (now (ww .entry)) (now (wc .entry)) (now (ow .entry)) (now (oc .entry))) ⌝ }
+        (reductionOutcome (now (tally .entry)) (settingOf p order n (now (weights .entry))) (now (words .entry)) (now (coefs .entry)) (now (starts .entry)) limit (now (bw .entry)) (now (bc .entry)) (now (ww .entry)) (now (wc .entry)) (now (ow .entry)) (now (oc .entry))) ⌝ }
 {
     let returned = reduce(
         *tally,
         p,
         order,
         n,
+        weights,
         words,
         coefs,
         starts,

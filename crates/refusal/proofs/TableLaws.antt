@@ -7,7 +7,7 @@ use native.Mathlib.Omega.{arith}
 use borrow.Author.Tests.{eqb-true}
 use lib.Dec.{eqb}
 use Rattle.refusal.specs.declared.Refusal.{Refusal}
-use Rattle.refusal.specs.declared.Refusal.the-variants.{NotPrime, BadOrder, BadVariables, BadCoefficient, BadLayout, NotFalling, ZeroDivisor, BadShape, BadOperation, NoOutput, TooManyTerms, ExponentOver, StepLimit, NotBlocks, BadCheck, BadBlock, BadScript}
+use Rattle.refusal.specs.declared.Refusal.the-variants.{NotPrime, BadOrder, BadVariables, BadCoefficient, BadLayout, NotFalling, ZeroDivisor, BadShape, BadOperation, NoOutput, TooManyTerms, ExponentOver, StepLimit, NotBlocks, BadCheck, BadBlock, BadScript, BadWeight}
 use Rattle.refusal.specs.Table.{numberOf, causes, among, listed, fall, found}
 
 -- n is none of the numbers of these causes
@@ -54,6 +54,7 @@ cause-found NotBlocks = refl
 cause-found BadCheck = refl
 cause-found BadBlock = refl
 cause-found BadScript = refl
+cause-found BadWeight = refl
 
 pub number-once : (r s : Refusal) → numberOf r ≡ numberOf s → r ≡ s
 number-once r s e = sym (cause-found r) ∙ (ap (λ (n : ℕ). found n causes) e ∙ cause-found s)
@@ -67,6 +68,6 @@ behind [] = []
 behind (r ∷ rs) = rs
 
 -- a number of the table that is none of the others' is the largest
-pub largest : (n : ℕ) → NoneOf (behind causes) n → listed n ≡ true → numberOf BadScript ≡ n
+pub largest : (n : ℕ) → NoneOf (behind causes) n → listed n ≡ true → numberOf BadWeight ≡ n
 unfolding listed
-largest n h e = is-first n BadScript (behind causes) h e
+largest n h e = is-first n BadWeight (behind causes) h e

@@ -1,10 +1,10 @@
--- The refusals by cause, with document 01's numbers ("Refusals by cause"). Assumes nothing.
+-- The refusals by cause, with the numbers of document 01 ("Refusals by cause") and of document 02. Assumes nothing.
 use Prim.Native.Nat.{ℕ}
 use mathlib.Core.Bool.{Bool, true, false, _&&_, _||_}
 use mathlib.Core.List.{List, [], _∷_}
 use lib.Dec.{eqb, ltb}
 use Rattle.refusal.specs.declared.Refusal.{Refusal}
-use Rattle.refusal.specs.declared.Refusal.the-variants.{NotPrime, BadOrder, BadVariables, BadCoefficient, BadLayout, NotFalling, ZeroDivisor, BadShape, BadOperation, NoOutput, TooManyTerms, ExponentOver, StepLimit, NotBlocks, BadCheck, BadBlock, BadScript}
+use Rattle.refusal.specs.declared.Refusal.the-variants.{NotPrime, BadOrder, BadVariables, BadCoefficient, BadLayout, NotFalling, ZeroDivisor, BadShape, BadOperation, NoOutput, TooManyTerms, ExponentOver, StepLimit, NotBlocks, BadCheck, BadBlock, BadScript, BadWeight}
 
 -- the table: each cause with its number
 abbrev pub numberOf : Refusal → ℕ
@@ -25,10 +25,11 @@ numberOf NotBlocks = 14
 numberOf BadCheck = 15
 numberOf BadBlock = 16
 numberOf BadScript = 17
+numberOf BadWeight = 24
 
 -- all causes, from the largest number down (theorems `table-falls` and `cause-found`: the numbers fall, and each cause is there)
 abbrev pub causes : List Refusal
-causes = BadScript ∷ BadBlock ∷ BadCheck ∷ NotBlocks ∷ StepLimit ∷ ExponentOver ∷ TooManyTerms ∷ NoOutput ∷ BadOperation ∷ BadShape ∷ ZeroDivisor ∷ NotFalling ∷ BadLayout ∷ BadCoefficient ∷ BadVariables ∷ BadOrder ∷ NotPrime ∷ []
+causes = BadWeight ∷ BadScript ∷ BadBlock ∷ BadCheck ∷ NotBlocks ∷ StepLimit ∷ ExponentOver ∷ TooManyTerms ∷ NoOutput ∷ BadOperation ∷ BadShape ∷ ZeroDivisor ∷ NotFalling ∷ BadLayout ∷ BadCoefficient ∷ BadVariables ∷ BadOrder ∷ NotPrime ∷ []
 
 -- n is the number of one of these causes
 abbrev pub among : ℕ → List Refusal → Bool

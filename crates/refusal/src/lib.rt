@@ -1,4 +1,4 @@
-// The refusals by cause, each with its number in document 01. The numbers have gaps.
+// The refusals by cause, each with its number in document 01 or 02. The numbers have gaps.
 ghost use mathlib.Core.Path.{_≡_};
 ghost use mathlib.Core.Bool.{true};
 ghost use Rattle.refusal.specs.Table.{numberOf, listed};
@@ -22,6 +22,7 @@ pub enum Refusal {
     BadCheck,
     BadBlock,
     BadScript,
+    BadWeight,
 }
 
 // The cause of a number that a check gave: one of the table's.
@@ -46,7 +47,8 @@ pub fn refusal_of(number: u32) -> Refusal
         14 => Refusal::NotBlocks,
         15 => Refusal::BadCheck,
         16 => Refusal::BadBlock,
-        _ => Refusal::BadScript,
+        17 => Refusal::BadScript,
+        _ => Refusal::BadWeight,
     }
 }
 
@@ -72,5 +74,6 @@ pub fn number_of(refusal: Refusal) -> u32
         Refusal::BadCheck => 15,
         Refusal::BadBlock => 16,
         Refusal::BadScript => 17,
+        Refusal::BadWeight => 24,
     }
 }

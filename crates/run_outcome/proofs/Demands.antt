@@ -66,6 +66,9 @@ module _ (tally : Tally) (t : Setting) (words coefs ss ops bw bc ww wc ow oc : L
   abbrev n : ℕ
   n = t .n
 
+  abbrev weights : List ℕ
+  weights = t .weights
+
   abbrev cmp : ℕ → ℕ → Ordering
   cmp = compareWords (orderOf (t .order))
 
@@ -113,11 +116,11 @@ module _ (tally : Tally) (t : Setting) (words coefs ss ops bw bc ww wc ow oc : L
     pos : 0 < p
     pos = omega (arith, open-run .prime .above)
 
-    valid : EachAdded (Valid (orderOf order) n p) operations
-    valid = each-added (Valid (orderOf order) n p) words coefs ss ops (open-run .operations) (λ k h. passes (orderOf order) n p _ (open-run .polynomials k (omega arith)))
+    valid : EachAdded (Valid (orderOf order) n weights p) operations
+    valid = each-added (Valid (orderOf order) n weights p) words coefs ss ops (open-run .operations) (λ k h. passes (orderOf order) n weights p _ (open-run .polynomials k (omega arith)))
 
     canonical : EachAdded (Canonical cmp p) operations
-    canonical = each-added (Canonical cmp p) words coefs ss ops (open-run .operations) (λ k h. passes (orderOf order) n p _ (open-run .polynomials k (omega arith)) .0)
+    canonical = each-added (Canonical cmp p) words coefs ss ops (open-run .operations) (λ k h. passes (orderOf order) n weights p _ (open-run .polynomials k (omega arith)) .0)
 
     -- what holds of each polynomial that the operations add holds of those that are done
     of-done : (P : List (Term ℕ) → Type 0) → EachAdded P operations → EachAdded P done
@@ -191,25 +194,25 @@ module _ (tally : Tally) (t : Setting) (words coefs ss ops bw bc ww wc ow oc : L
         outcome-is tally' t words coefs ss ops bw' bc' ww' wc' ow oc (same ∙ passed) ∙ sym is
 
     -- Demand 2: "Sums are those of polynomials over the integers modulo p. Each lead is the largest term of the true sum under the chosen order.", by exponents: the places written are those of the operations done, in turn. It bars an engine that always gives zero, one that touches nothing, and one that does the first operation and repeats its state for the rest.
-    pub demand-2 : GivenOut (orderOf order) n p done [] [] written
+    pub demand-2 : GivenOut (orderOf order) n weights p done [] [] written
     demand-2 =
-        subst (GivenOut (orderOf order) n p done [] []) (sym (written-is ∙ it .output-is))
-        (subst (λ (os : List Operation). GivenOut (orderOf order) n p os [] [] (after cmp p (length ow) (it .done) .output)) (sym done-are) (gives-out (orderOf order) n (open-run .n-high) p pos (length ow) (it .done) (subst (EachAdded (Valid (orderOf order) n p)) done-are (of-done (Valid (orderOf order) n p) valid)) (it .rooms)))
+        subst (GivenOut (orderOf order) n weights p done [] []) (sym (written-is ∙ it .output-is))
+        (subst (λ (os : List Operation). GivenOut (orderOf order) n weights p os [] [] (after cmp p (length ow) (it .done) .output)) (sym done-are) (gives-out (orderOf order) n weights (open-run .n-high) p pos (length ow) (it .done) (subst (EachAdded (Valid (orderOf order) n weights p)) done-are (of-done (Valid (orderOf order) n weights p) valid)) (it .rooms)))
 
     -- no other places fit
-    pub demand-2-only : (v : List (Term ℕ)) → GivenOut (orderOf order) n p done [] [] v → v ≡ written
-    demand-2-only v h = given-only (orderOf order) n p (open-run .n-high) pos done [] [] v written h demand-2
+    pub demand-2-only : (v : List (Term ℕ)) → GivenOut (orderOf order) n weights p done [] [] v → v ≡ written
+    demand-2-only v h = given-only (orderOf order) n weights p (open-run .n-high) pos done [] [] v written h demand-2
 
     -- the same at each lead and at each full sum
-    pub demand-2-lead : (before rest : List Operation) → done ≡ before ++ (leads ∷ rest) → LeadAt (orderOf order) n p before written
-    demand-2-lead before rest e = lead-at (orderOf order) n p before rest written (subst (λ (os : List Operation). GivenOut (orderOf order) n p os [] [] written) e demand-2)
+    pub demand-2-lead : (before rest : List Operation) → done ≡ before ++ (leads ∷ rest) → LeadAt (orderOf order) n weights p before written
+    demand-2-lead before rest e = lead-at (orderOf order) n weights p before rest written (subst (λ (os : List Operation). GivenOut (orderOf order) n weights p os [] [] written) e demand-2)
 
     -- "for zero, word 0 and coefficient 0 go there": exactly where the true sum is zero
-    pub demand-2-zero : (before : List Operation) (a : LeadAt (orderOf order) n p before written) → (a .place ≡ term 0 0 → (α : List ℕ) → trueSum (orderOf order) n p (broughtBy before) (nonZero (a .earlier)) α ≡ 0) × (((α : List ℕ) → trueSum (orderOf order) n p (broughtBy before) (nonZero (a .earlier)) α ≡ 0) → a .place ≡ term 0 0)
-    demand-2-zero before a = (zero-lead (orderOf order) n p _ (a .place) (a .lead-is), lead-zero (orderOf order) n p _ (a .place) (a .lead-is))
+    pub demand-2-zero : (before : List Operation) (a : LeadAt (orderOf order) n weights p before written) → (a .place ≡ term 0 0 → (α : List ℕ) → trueSum (orderOf order) n weights p (broughtBy before) (nonZero (a .earlier)) α ≡ 0) × (((α : List ℕ) → trueSum (orderOf order) n weights p (broughtBy before) (nonZero (a .earlier)) α ≡ 0) → a .place ≡ term 0 0)
+    demand-2-zero before a = (zero-lead (orderOf order) n weights p _ (a .place) (a .lead-is), lead-zero (orderOf order) n weights p _ (a .place) (a .lead-is))
 
-    pub demand-2-sum : (before rest : List Operation) → done ≡ before ++ (sums ∷ rest) → SumAt (orderOf order) n p before written
-    demand-2-sum before rest e = sum-at (orderOf order) n p before rest written (subst (λ (os : List Operation). GivenOut (orderOf order) n p os [] [] written) e demand-2)
+    pub demand-2-sum : (before rest : List Operation) → done ≡ before ++ (sums ∷ rest) → SumAt (orderOf order) n weights p before written
+    demand-2-sum before rest e = sum-at (orderOf order) n weights p before rest written (subst (λ (os : List Operation). GivenOut (orderOf order) n weights p os [] [] written) e demand-2)
 
     -- ---- Demand 3, for every list of operations, to its end or up to the refused one. It bars an engine whose tally is invented.
     did : Polynomials cmp p (eventsOf done)
@@ -285,4 +288,4 @@ module _ (tally : Tally) (t : Setting) (words coefs ss ops bw bc ww wc ow oc : L
       by zero e = past (outcome .answer) work written (demand-1-ending e)
       by (suc r) e =
           subst (OneOf runNumbers) (sym (ap (λ (x : Outcome). x .answer .number) (demand-1-unchanged (λ z. let q : ⊥ = omega (arith, e, z) in q))))
-          (one-of-more (0 ∷ 1 ∷ 2 ∷ 3 ∷ 4 ∷ 5 ∷ 6 ∷ 8 ∷ 9 ∷ []) (10 ∷ 11 ∷ []) opening (run-numbers t words coefs ss ops (length bw) (length bc) (length ww) (length wc) (length ow) (length oc)))
+          (one-of-more (0 ∷ 1 ∷ 2 ∷ 3 ∷ 4 ∷ 5 ∷ 6 ∷ 8 ∷ 9 ∷ 24 ∷ []) (10 ∷ 11 ∷ []) opening (run-numbers t words coefs ss ops (length bw) (length bc) (length ww) (length wc) (length ow) (length oc)))

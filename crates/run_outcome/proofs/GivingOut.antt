@@ -25,10 +25,10 @@ use Rattle.run_outcome.proofs.Endings.{did, room-did, goes-on, all-done
 use Rattle.run_outcome.proofs.ByExponents.{lead-place, sum-places}
 
 -- a polynomial that passed the opening checks
-abbrev pub Valid : Order → (n p : ℕ) → List (Term ℕ) → Type 0
-Valid o n p f = Canonical (compareWords o) p f × All (λ t. Layout o n (t .mono)) f
+abbrev pub Valid : Order → (n : ℕ) (weights : List ℕ) (p : ℕ) → List (Term ℕ) → Type 0
+Valid o n vs p f = Canonical (compareWords o) p f × All (λ t. Layout o n vs (t .mono)) f
 
-module _ (o : Order) (n : ℕ) (fits : n ≤ 6) (p : ℕ) (pos : 0 < p) (places : ℕ) where
+module _ (o : Order) (n : ℕ) (vs : List ℕ) (fits : n ≤ 6) (p : ℕ) (pos : 0 < p) (places : ℕ) where
   abbrev cmp : ℕ → ℕ → Ordering
   cmp = compareWords o
 
@@ -36,20 +36,20 @@ module _ (o : Order) (n : ℕ) (fits : n ≤ 6) (p : ℕ) (pos : 0 < p) (places 
   O = words-order o
 
   abbrev Laid : List (Term ℕ) → Type 0
-  Laid f = All (λ t. Layout o n (t .mono)) f
+  Laid f = All (λ t. Layout o n vs (t .mono)) f
 
   -- ---- the words in the buckets, brought in and given out are of the layout
   record LaidIn (w : Work ℕ) : Type 0 where
-    held : Every (Layout o n) (w .buckets)
+    held : Every (Layout o n vs) (w .buckets)
     brought : Laid (w .brought)
     given : Laid (w .given)
 
-  none-held : (bs : List (List (Term ℕ))) → Every (Layout o n) (emptied bs)
+  none-held : (bs : List (List (Term ℕ))) → Every (Layout o n vs) (emptied bs)
   unfolding Every emptied
   none-held [] = tt
   none-held (b ∷ bs) = (tt, none-held bs)
 
-  lead-laid : (a : Lead ℕ) → OfLead (Layout o n) a → Laid (leadTerms a)
+  lead-laid : (a : Lead ℕ) → OfLead (Layout o n vs) a → Laid (leadTerms a)
   lead-laid none h = tt
   lead-laid (lead at t) h = (h, tt)
 
@@ -58,18 +58,18 @@ module _ (o : Order) (n : ℕ) (fits : n ≤ 6) (p : ℕ) (pos : 0 < p) (places 
   laid-begun = record { held = none-held empty; brought = tt; given = tt }
 
   laid-added : (f : List (Term ℕ)) (t : Running) → Laid f → LaidIn (t .work) → LaidIn (added cmp p f t .work)
-  laid-added f t h l = record { held = add-every (Layout o n) cmp p f (t .work .buckets) h (l .held); brought = all-append (λ t. Layout o n (t .mono)) (t .work .brought) f (l .brought) h; given = l .given }
+  laid-added f t h l = record { held = add-every (Layout o n vs) cmp p f (t .work .buckets) h (l .held); brought = all-append (λ t. Layout o n vs (t .mono)) (t .work .brought) f (l .brought) h; given = l .given }
 
   laid-taken : (t : Running) → LaidIn (t .work) → LaidIn (taken cmp p t .work)
   laid-taken t l =
-      let s = search-every (Layout o n) cmp p (t .work .buckets) (l .held) in
-      record { held = s .1; brought = l .brought; given = all-append (λ t. Layout o n (t .mono)) (t .work .given) (leadTerms (search cmp p (t .work .buckets) .answer)) (l .given) (lead-laid (search cmp p (t .work .buckets) .answer) (s .0)) }
+      let s = search-every (Layout o n vs) cmp p (t .work .buckets) (l .held) in
+      record { held = s .1; brought = l .brought; given = all-append (λ t. Layout o n vs (t .mono)) (t .work .given) (leadTerms (search cmp p (t .work .buckets) .answer)) (l .given) (lead-laid (search cmp p (t .work .buckets) .answer) (s .0)) }
 
   sum-laid : (t : Running) → LaidIn (t .work) → Laid (fullSum cmp p (t .work .buckets))
-  sum-laid t l = sum-each (Layout o n) cmp p [] (t .work .buckets) tt (l .held)
+  sum-laid t l = sum-each (Layout o n vs) cmp p [] (t .work .buckets) tt (l .held)
 
   laid-summed : (t : Running) → LaidIn (t .work) → LaidIn (summed cmp p t .work)
-  laid-summed t l = record { held = none-held (t .work .buckets); brought = l .brought; given = all-append (λ t. Layout o n (t .mono)) (t .work .given) (fullSum cmp p (t .work .buckets)) (l .given) (sum-laid t l) }
+  laid-summed t l = record { held = none-held (t .work .buckets); brought = l .brought; given = all-append (λ t. Layout o n vs (t .mono)) (t .work .given) (fullSum cmp p (t .work .buckets)) (l .given) (sum-laid t l) }
 
   -- ---- a state that operations have come to
   record Come (t : Running) : Type 0 where
@@ -107,12 +107,12 @@ module _ (o : Order) (n : ℕ) (fits : n ≤ 6) (p : ℕ) (pos : 0 < p) (places 
   record Gives (os : List Operation) (t : Running) : Type 0 where
     more : List (Term ℕ)
     output-is : operateAll cmp p places os t .output ≡ t .output ++ more
-    given-out : GivenOut o n p os (t .work .brought) (t .work .given) more
+    given-out : GivenOut o n vs p os (t .work .brought) (t .work .given) more
 
   after-did : (x : Operation) (os : List Operation) (t : Running) → Come t → Room places x (t .work) (t .output) → operateAll cmp p places (x ∷ os) t .output ≡ operateAll cmp p places os (did cmp p places x t) .output
   after-did x os t c h = ap (λ (v : Running). v .output) (goes-on cmp p places x os t (stop-none c) h)
 
-  gives : (os : List Operation) (t : Running) → Come t → LaidIn (t .work) → EachAdded (Valid o n p) os → RoomForAll cmp p places os t → Gives os t
+  gives : (os : List Operation) (t : Running) → Come t → LaidIn (t .work) → EachAdded (Valid o n vs p) os → RoomForAll cmp p places os t → Gives os t
   unfolding RoomForAll EachAdded operateAll GivenOut
   gives [] t c l g h = record { more = []; output-is = sym (append-nil (t .output)); given-out = refl }
   gives (adds f ∷ os) t c l g h =
@@ -123,11 +123,11 @@ module _ (o : Order) (n : ℕ) (fits : n ≤ 6) (p : ℕ) (pos : 0 < p) (places 
       let a = search cmp p bs .answer in
       let k = canon cmp p (come-sound c) in
       let r = gives os (taken cmp p t) (come-did c leads (h .0) tt) (laid-taken t l) g (subst (RoomForAll cmp p places os) (room-did cmp p places leads t (h .0)) (h .1)) in
-      let place = lead-place o n fits p pos (t .work .brought) (t .work .given) bs (l .brought) (l .given) (come-kept c) a (search-every (Layout o n) cmp p bs (l .held) .0) (lead-right cmp p O pos bs k) in
+      let place = lead-place o n vs fits p pos (t .work .brought) (t .work .given) bs (l .brought) (l .given) (come-kept c) a (search-every (Layout o n vs) cmp p bs (l .held) .0) (lead-right cmp p O pos bs k) in
       record {
         more = placeOf a ∷ r .more;
         output-is = after-did leads os t c (h .0) ∙ (r .output-is ∙ append-assoc (t .output) (placeOf a ∷ []) (r .more));
-        given-out = (placeOf a, r .more, refl, place, subst (λ (x : List (Term ℕ)). GivenOut o n p os (t .work .brought) (t .work .given ++ x) (r .more)) (sym (placed cmp p a (search cmp p bs .buckets) (finds cmp p O pos bs k .leads))) (r .given-out));
+        given-out = (placeOf a, r .more, refl, place, subst (λ (x : List (Term ℕ)). GivenOut o n vs p os (t .work .brought) (t .work .given ++ x) (r .more)) (sym (placed cmp p a (search cmp p bs .buckets) (finds cmp p O pos bs k .leads))) (r .given-out));
       }
   gives (sums ∷ os) t c l g h =
       let bs = t .work .buckets in
@@ -137,11 +137,11 @@ module _ (o : Order) (n : ℕ) (fits : n ≤ 6) (p : ℕ) (pos : 0 < p) (places 
       record {
         more = f ++ (term 0 0 ∷ r .more);
         output-is = after-did sums os t c (h .0) ∙ (r .output-is ∙ (append-assoc (t .output) (f ++ (term 0 0 ∷ [])) (r .more) ∙ ap (λ (x : List (Term ℕ)). t .output ++ x) (append-assoc f (term 0 0 ∷ []) (r .more))));
-        given-out = (f, r .more, refl, sum-places o n fits p pos (t .work .brought) (t .work .given) bs (l .brought) (l .given) (come-kept c) f (sum-laid t l) (s .0) (s .1), r .given-out);
+        given-out = (f, r .more, refl, sum-places o n vs fits p pos (t .work .brought) (t .work .given) bs (l .brought) (l .given) (come-kept c) f (sum-laid t l) (s .0) (s .1), r .given-out);
       }
 
   -- operations that are all done, from the beginning
-  pub gives-out : (os : List Operation) → EachAdded (Valid o n p) os → RoomForAll cmp p places os begun → GivenOut o n p os [] [] (operateAll cmp p places os begun .output)
+  pub gives-out : (os : List Operation) → EachAdded (Valid o n vs p) os → RoomForAll cmp p places os begun → GivenOut o n vs p os [] [] (operateAll cmp p places os begun .output)
   gives-out os g h =
       let r = gives os begun come-begun laid-begun g h in
-      subst (GivenOut o n p os [] []) (sym (r .output-is)) (r .given-out)
+      subst (GivenOut o n vs p os [] []) (sym (r .output-is)) (r .given-out)

@@ -22,9 +22,9 @@ numberFor (adds f) = 11
 numberFor leads = 10
 numberFor sums = 10
 
--- the numbers that a run can answer with at all
+-- the numbers that a run can answer with at all, those of its opening checks first
 abbrev pub runNumbers : List ℕ
-runNumbers = 0 ∷ 1 ∷ 2 ∷ 3 ∷ 4 ∷ 5 ∷ 6 ∷ 8 ∷ 9 ∷ 10 ∷ 11 ∷ []
+runNumbers = 0 ∷ 1 ∷ 2 ∷ 3 ∷ 4 ∷ 5 ∷ 6 ∷ 8 ∷ 9 ∷ 24 ∷ 10 ∷ 11 ∷ []
 
 module _ (cmp : ℕ → ℕ → Ordering) (p places : ℕ) where
   -- there is room for each operation in its turn, from t on

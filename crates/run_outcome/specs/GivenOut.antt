@@ -18,10 +18,10 @@ broughtBy (adds f ∷ os) = f ++ broughtBy os
 broughtBy (leads ∷ os) = broughtBy os
 broughtBy (sums ∷ os) = broughtBy os
 
-module _ (o : Order) (n p : ℕ) where
+module _ (o : Order) (n : ℕ) (vs : List ℕ) (p : ℕ) where
   -- the coefficient, modulo p, of the monomial with the exponents α
   abbrev pub coefOf : List (Term ℕ) → List ℕ → ℕ
-  coefOf f α = coefAt (compareIn o) p α (inExponents o n f)
+  coefOf f α = coefAt (compareIn o vs) p α (inExponents o n f)
 
   -- the true sum, by its coefficients modulo p
   abbrev pub trueSum : (brought given : List (Term ℕ)) → List ℕ → ℕ
@@ -29,10 +29,10 @@ module _ (o : Order) (n p : ℕ) where
 
   -- "Each lead is the largest term of the true sum under the chosen order."
   pub record Largest (sum : List ℕ → ℕ) (t : Term ℕ) : Type 0 where
-    pub is : Layout o n (t .mono)
+    pub is : Layout o n vs (t .mono)
     pub not-zero : 0 < t .coef
     pub coef-is : sum (exponents o n (t .mono)) ≡ t .coef
-    pub largest : (α : List ℕ) → compareIn o α (exponents o n (t .mono)) ≡ Ordering·gt → sum α ≡ 0
+    pub largest : (α : List ℕ) → compareIn o vs α (exponents o n (t .mono)) ≡ Ordering·gt → sum α ≡ 0
 
   -- "A lead goes to the next output place; for zero, word 0 and coefficient 0 go there."
   abbrev pub LeadPlace : (sum : List ℕ → ℕ) → Term ℕ → Type 0
@@ -40,8 +40,8 @@ module _ (o : Order) (n p : ℕ) where
 
   -- the terms are the one canonical list of the sum
   pub record SumPlaces (sum : List ℕ → ℕ) (f : List (Term ℕ)) : Type 0 where
-    pub are : All (λ t. Layout o n (t .mono)) f
-    pub canonical : Canonical (compareIn o) p (inExponents o n f)
+    pub are : All (λ t. Layout o n vs (t .mono)) f
+    pub canonical : Canonical (compareIn o vs) p (inExponents o n f)
     pub coefs-are : (α : List ℕ) → coefOf f α ≡ sum α
 
   -- The operations, after so much was brought in and given out, write these places: an addition none, a lead one, and "A full sum is followed by one such zero place."

@@ -54,7 +54,7 @@ module _ {t : Setting} {words coefs ss ops : List ℕ} {lbw lbc lww lwc low loc 
     modulus = record { two = o .prime .above; limit = omega (arith, o .limit) };
     long = sym (o .lent);
     parts = λ k h. good-within ss (length words) (o .starts) k h;
-    canonical = λ k h. passes (orderOf order) n p _ (o .polynomials k h) .0;
+    canonical = λ k h. passes (orderOf order) n (t .weights) p _ (o .polynomials k h) .0;
     pairs = length ops / 2;
     whole = pairs-whole (length ops) (o .pairs) .0;
     most = pairs-whole (length ops) (o .pairs) .1;

@@ -8,7 +8,6 @@ use call::answer::refused;
 use engine::run::operate_all;
 use monomial::order::order_of;
 use opening::run::run_opening;
-use polynomial::setting::Setting;
 use space::settle::settle;
 use space::state::clear;
 ghost use mathlib.Core.Path.{_≡_};
@@ -23,6 +22,7 @@ pub fn run<'a>(
     p: u32,
     order: u32,
     n: u32,
+    weights: &[u32],
     words: &'a [u64],
     coefs: &'a [u32],
     starts: &[usize],
@@ -36,10 +36,13 @@ pub fn run<'a>(
 ) -> Returned
     ensures { λ r. ⌜ _≡_ {A = Outcome}
         (record { answer = stated (r .answer); tally = r .tally; bw = now (bw .exit); bc = now (bc .exit); ww = now (ww .exit); wc = now (wc .exit); ow = now (ow .exit); oc = now (oc .exit) })
-        (runOutcome tally (settingOf p order n) (now (words .entry)) (now (coefs .entry)) (now (starts .entry)) (now (ops .entry)) (now (bw .entry)) (now (bc .entry)) (now (ww .entry)) (now (wc .entry)) (now (ow .entry)) (now (oc .entry))) ⌝ }
+        (runOutcome tally (settingOf p order n (now (weights .entry))) (now (words .entry)) (now (coefs .entry)) (now (starts .entry)) (now (ops .entry)) (now (bw .entry)) (now (bc .entry)) (now (ww .entry)) (now (wc .entry)) (now (ow .entry)) (now (oc .entry))) ⌝ }
 {
     let number = run_opening(
-        Setting { p, order, n },
+        p,
+        order,
+        n,
+        weights,
         words,
         coefs,
         starts,
@@ -81,6 +84,7 @@ pub fn run_in_place<'t, 'a>(
     p: u32,
     order: u32,
     n: u32,
+    weights: &[u32],
     words: &'a [u64],
     coefs: &'a [u32],
     starts: &[usize],
@@ -94,13 +98,14 @@ pub fn run_in_place<'t, 'a>(
 ) -> Answer
     ensures { λ r. ⌜ _≡_ {A = Outcome}
         (record { answer = stated r; tally = now (tally .exit); bw = now (bw .exit); bc = now (bc .exit); ww = now (ww .exit); wc = now (wc .exit); ow = now (ow .exit); oc = now (oc .exit) })
-        (runOutcome (now (tally .entry)) (settingOf p order n) (now (words .entry)) (now (coefs .entry)) (now (starts .entry)) (now (ops .entry)) (now (bw .entry)) (now (bc .entry)) (now (ww .entry)) (now (wc .entry)) (now (ow .entry)) (now (oc .entry))) ⌝ }
+        (runOutcome (now (tally .entry)) (settingOf p order n (now (weights .entry))) (now (words .entry)) (now (coefs .entry)) (now (starts .entry)) (now (ops .entry)) (now (bw .entry)) (now (bc .entry)) (now (ww .entry)) (now (wc .entry)) (now (ow .entry)) (now (oc .entry))) ⌝ }
 {
     let ran = run(
         *tally,
         p,
         order,
         n,
+        weights,
         words,
         coefs,
         starts,

@@ -1,4 +1,4 @@
-// Pairs of monomials x and y in each order: how they compare, and their words.
+// Pairs of monomials x and y in each order: how they compare, and their words. All weights are 1.
 use crate::text;
 use crate::words;
 use monomial::exponents::word_of;
@@ -91,7 +91,7 @@ fn comparison(order: Order, x: &[u8], y: &[u8])
 {
     text::order(order);
     text::exponents(x);
-    match order.compare(word_of(order, x), word_of(order, y)) {
+    match order.compare(word_in(order, x), word_in(order, y)) {
         Comparison::Smaller => text::put(b" < "),
         Comparison::Same => text::put(b" = "),
         Comparison::Larger => text::put(b" > "),
@@ -105,5 +105,12 @@ fn word(order: Order, x: &[u8])
 {
     text::order(order);
     text::exponents(x);
-    words::reading(order, x.len(), word_of(order, x));
+    words::reading(order, x.len(), word_in(order, x));
+}
+
+// The word of the monomial with these exponents.
+fn word_in(order: Order, x: &[u8]) -> u64
+    requires { ⌜ length (now x) ≤ 6 ⌝ }
+{
+    word_of(order, words::unit_weights(order), x)
 }

@@ -1,11 +1,15 @@
 // Words read back: their exponents, and whether they are of the layout.
 use crate::text;
 use monomial::exponents::exponent;
+use monomial::exponents::weight_word;
 use monomial::layout::beyond_bits;
 use monomial::layout::in_layout;
 use monomial::order::Order;
 use monomial::order::order_of;
+ghost use mathlib.Core.Path.{_≡_};
 ghost use Prim.Native.Nat.{_≤_};
+ghost use Rattle.monomial.specs.Exponents.{ones};
+ghost use Rattle.monomial.specs.Layout.{fields};
 
 // A number of variables and a word, each tried in the three orders. Past the first ones a top bit
 // is set, the degree is wrong, or a field beyond the last variable is not 0.
@@ -66,11 +70,19 @@ pub fn reading(order: Order, n: usize, w: u64)
     text::word(w);
     text::put(b" exponents ");
     back(order, n, w);
-    if in_layout(beyond_bits(order, n as u32), w) {
+    if in_layout(beyond_bits(order, n as u32), unit_weights(order), w) {
         text::put(b" of the layout\n");
     } else {
         text::put(b" not of the layout\n");
     }
+}
+
+// Six weights of 1, as a word.
+pub fn unit_weights(order: Order) -> u64
+    ensures { λ r. ⌜ fields order r ≡ ones ⌝ }
+{
+    let weights = [1; 6];
+    weight_word(order, &weights)
 }
 
 // The exponents of a word.

@@ -16,8 +16,8 @@ use Rattle.text.specs.Numbers.{decimal, andThen}
 use Rattle.text.proofs.ByteLaws.{parts-some, parts-found, parts-last, found-there}
 use Rattle.text.proofs.NumberLaws.{decimal-some}
 use Rattle.merge_common.proofs.Lists.{sets-snoc}
-use Rattle.grammar.specs.declared.entry.Counted.the-variants.{All}
-use Rattle.grammar.specs.declared.entry.Counted.the-variants.{Bad as Counted·Bad}
+use Rattle.grammar.specs.declared.numbers.Counted.the-variants.{All}
+use Rattle.grammar.specs.declared.numbers.Counted.the-variants.{Bad as Counted·Bad}
 use Rattle.grammar.specs.declared.entry.Parsed.{Parsed}
 use Rattle.grammar.specs.declared.entry.Parsed.the-variants.{Term}
 use Rattle.grammar.specs.declared.entry.Parsed.the-variants.{Bad as Parsed·Bad}
@@ -88,50 +88,50 @@ entries-size n (t ∷ ts) g =
     omega (arith, h, entry-size n t (g .0), entries-size n ts (g .1))
 
 -- ---- what the code's answer for one term tells
-pub parsed-term : (o : Order) (x : Option Entry) (r : Parsed) (w c : ℕ) → r ≡ parsed o x → r ≡ Term w c → (t : Entry) × (x ≡ some t) × (w ≡ entryWord o t) × (c ≡ entryCoef t)
-parsed-term o none r w c e h = absurd (let z : _≡_ {A = ℕ} 0 1 = cc in let y : ⊥ = omega arith in y)
-parsed-term o (some t) r w c e h = (t, refl, cc, cc)
+pub parsed-term : (o : Order) (vs : List ℕ) (x : Option Entry) (r : Parsed) (w c : ℕ) → r ≡ parsed o vs x → r ≡ Term w c → (t : Entry) × (x ≡ some t) × (w ≡ entryWord o vs t) × (c ≡ entryCoef t)
+parsed-term o vs none r w c e h = absurd (let z : _≡_ {A = ℕ} 0 1 = cc in let y : ⊥ = omega arith in y)
+parsed-term o vs (some t) r w c e h = (t, refl, cc, cc)
 
-pub parsed-bad : (o : Order) (x : Option Entry) (r : Parsed) → r ≡ parsed o x → r ≡ Parsed·Bad → x ≡ none
-parsed-bad o none r e h = refl
-parsed-bad o (some t) r e h = absurd (let z : _≡_ {A = ℕ} 0 1 = cc in let y : ⊥ = omega arith in y)
+pub parsed-bad : (o : Order) (vs : List ℕ) (x : Option Entry) (r : Parsed) → r ≡ parsed o vs x → r ≡ Parsed·Bad → x ≡ none
+parsed-bad o vs none r e h = refl
+parsed-bad o vs (some t) r e h = absurd (let z : _≡_ {A = ℕ} 0 1 = cc in let y : ⊥ = omega arith in y)
 
 -- ---- the terms put so far
-pub record Adding (o : Order) (n : ℕ) (s : List ℕ) (at : ℕ) (words₀ coefs₀ words coefs : List ℕ) (to i : ℕ) : Type 0 where
+pub record Adding (o : Order) (vs : List ℕ) (n : ℕ) (s : List ℕ) (at : ℕ) (words₀ coefs₀ words coefs : List ℕ) (to i : ℕ) : Type 0 where
   pub done : List Entry
   pub place : to ≡ at + length done
   pub whole : before done (fieldsOf n (parts 32 (drop i s))) ≡ fieldsOf n (parts 32 s)
-  pub words-are : words ≡ sets words₀ at (map (entryWord o) done)
+  pub words-are : words ≡ sets words₀ at (map (entryWord o vs) done)
   pub coefs-are : coefs ≡ sets coefs₀ at (map entryCoef done)
 
-pub adding-start : (o : Order) (n : ℕ) (s : List ℕ) (at : ℕ) (words coefs : List ℕ) → Adding o n s at words coefs words coefs at 0
-adding-start o n s at words coefs = record { done = []; place = omega arith; whole = before-none (fieldsOf n (parts 32 s)); words-are = refl; coefs-are = refl }
+pub adding-start : (o : Order) (vs : List ℕ) (n : ℕ) (s : List ℕ) (at : ℕ) (words coefs : List ℕ) → Adding o vs n s at words coefs words coefs at 0
+adding-start o vs n s at words coefs = record { done = []; place = omega arith; whole = before-none (fieldsOf n (parts 32 s)); words-are = refl; coefs-are = refl }
 
 put-one : {A : Type 0} (f : A → ℕ) (l₀ l : List ℕ) (at to : ℕ) (done : List A) (a : A) (v : ℕ) → to ≡ at + length done → l ≡ sets l₀ at (map f done) → v ≡ f a → set l to v ≡ sets l₀ at (map f (done ++ (a ∷ [])))
 put-one f l₀ l at to done a v p e q =
     let z : to ≡ at + length (map f done) = omega (arith, length-map done f) in
     ap (λ (k : ℕ). set l k v) z ∙ (ap (λ (x : List ℕ). set x (at + length (map f done)) v) e ∙ (ap (λ (x : ℕ). set (sets l₀ at (map f done)) (at + length (map f done)) x) q ∙ (sym (sets-snoc l₀ at (map f done) (f a)) ∙ ap (sets l₀ at) (sym (map-snoc f done a)))))
 
-module _ {o : Order} {n : ℕ} {s : List ℕ} {at : ℕ} {words₀ coefs₀ words coefs : List ℕ} {to i : ℕ} (a : Adding o n s at words₀ coefs₀ words coefs to i) where
+module _ {o : Order} {vs : List ℕ} {n : ℕ} {s : List ℕ} {at : ℕ} {words₀ coefs₀ words coefs : List ℕ} {to i : ℕ} (a : Adding o vs n s at words₀ coefs₀ words coefs to i) where
   pub adding-words : length words ≡ length words₀
-  adding-words = ap length (a .words-are) ∙ length-sets words₀ at (map (entryWord o) (a .done))
+  adding-words = ap length (a .words-are) ∙ length-sets words₀ at (map (entryWord o vs) (a .done))
 
   pub adding-coefs : length coefs ≡ length coefs₀
   adding-coefs = ap length (a .coefs-are) ∙ length-sets coefs₀ at (map entryCoef (a .done))
 
-  pub adding-end : length s ≤ i → ReadEntries o n s at words₀ coefs₀ words coefs (All to)
+  pub adding-end : length s ≤ i → ReadEntries o vs n s at words₀ coefs₀ words coefs (All to)
   unfolding andThen
   adding-end h =
       let w : some (a .done ++ []) ≡ fieldsOf n (parts 32 s) = ap (before (a .done)) (sym (fields-end n s i h)) ∙ a .whole in
       record { is = rw (← w, append-nil) (ap All (a .place), a .words-are, a .coefs-are) }
 
   module _ (l : i < length s) where
-    pub adding-no-space : (getD s i 0 ≡ 32 → ⊥) → ReadEntries o n s at words₀ coefs₀ words coefs Counted·Bad
+    pub adding-no-space : (getD s i 0 ≡ 32 → ⊥) → ReadEntries o vs n s at words₀ coefs₀ words coefs Counted·Bad
     unfolding andThen
     adding-no-space e = let w : none ≡ fieldsOf n (parts 32 s) = ap (before (a .done)) (sym (no-space n s i l e)) ∙ a .whole in record { is = rw (← w) refl }
 
     module _ (b : getD s i 0 ≡ 32) (e : ℕ) (is : e ≡ i + 1 + indexOf 32 (drop (i + 1) s)) where
-      pub adding-bad : entryOf n (take (e - (i + 1)) (drop (i + 1) s)) ≡ none → ReadEntries o n s at words₀ coefs₀ words coefs Counted·Bad
+      pub adding-bad : entryOf n (take (e - (i + 1)) (drop (i + 1) s)) ≡ none → ReadEntries o vs n s at words₀ coefs₀ words coefs Counted·Bad
       unfolding andThen
       adding-bad q =
           let w : none ≡ fieldsOf n (parts 32 s) = ap (λ (x : Option Entry). before (a .done) (andThen x (λ t. andThen (fieldsOf n (parts 32 (drop e s))) (λ ts. some (t ∷ ts))))) (sym q) ∙ (ap (before (a .done)) (sym (space-next n s i l b e is)) ∙ a .whole) in
@@ -144,12 +144,12 @@ module _ {o : Order} {n : ℕ} {s : List ℕ} {at : ℕ} {words₀ coefs₀ word
           let z : 3 ≤ length (take (e - (i + 1)) (drop (i + 1) s)) = rw (g .1) (entry-size n t (g .0)) in
           omega (arith, length-take (e - (i + 1)) (drop (i + 1) s))
 
-      pub adding-more : (t : Entry) → entryOf n (take (e - (i + 1)) (drop (i + 1) s)) ≡ some t → (w c : ℕ) → w ≡ entryWord o t → c ≡ entryCoef t → Adding o n s at words₀ coefs₀ (set words to w) (set coefs to c) (to + 1) e
+      pub adding-more : (t : Entry) → entryOf n (take (e - (i + 1)) (drop (i + 1) s)) ≡ some t → (w c : ℕ) → w ≡ entryWord o vs t → c ≡ entryCoef t → Adding o vs n s at words₀ coefs₀ (set words to w) (set coefs to c) (to + 1) e
       unfolding andThen
       adding-more t q w c x y = record {
         done = a .done ++ (t ∷ []);
         place = simp length-append (omega (arith, a .place));
         whole = sym (before-more (a .done) t (fieldsOf n (parts 32 (drop e s)))) ∙ (ap (λ (z : Option Entry). before (a .done) (andThen z (λ u. andThen (fieldsOf n (parts 32 (drop e s))) (λ ts. some (u ∷ ts))))) (sym q) ∙ (ap (before (a .done)) (sym (space-next n s i l b e is)) ∙ a .whole));
-        words-are = put-one (entryWord o) words₀ words at to (a .done) t w (a .place) (a .words-are) x;
+        words-are = put-one (entryWord o vs) words₀ words at to (a .done) t w (a .place) (a .words-are) x;
         coefs-are = put-one entryCoef coefs₀ coefs at to (a .done) t c (a .place) (a .coefs-are) y;
       }

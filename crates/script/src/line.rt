@@ -1,7 +1,7 @@
-// A line of a script behind the first three: `add` with terms, `lead` or `sum`.
-use grammar::entry::Counted;
+// A line of a script behind the first ones: `add` with terms, `lead` or `sum`.
 use grammar::entry::Parsed;
 use grammar::entry::read_entry;
+use grammar::numbers::Counted;
 use monomial::order::Order;
 use text::bytes::find;
 use text::bytes::is_word;
@@ -11,6 +11,7 @@ ghost use Prim.Native.Nat.{_+_, _*_, _≤_, _<_};
 ghost use mathlib.Core.List.{_∷_, []};
 ghost use lib.ListN.{length};
 ghost use lib.Seq.{sets};
+ghost use Rattle.monomial.specs.Layout.{fields};
 ghost use Rattle.script.specs.Loading.{EntryRoom, ReadEntries, LineRoom, ReadLine, ReadAdd, countsBehind};
 ghost use Rattle.grammar.specs.Grammar.{leadLine};
 
@@ -31,13 +32,14 @@ pub enum Behind {
 fn read_entries(
     s: &[u8],
     order: Order,
+    weights: u64,
     n: u32,
     words: &mut [u64],
     coefs: &mut [u32],
     at: usize,
 ) -> Counted
-    requires { ⌜ EntryRoom (length (now s)) at (length (now words)) (length (now coefs)) ⌝ }
-    ensures { λ r. ⌜ ReadEntries order n (now (s .entry)) at (now (words .entry)) (now (coefs .entry)) (now (words .exit)) (now (coefs .exit)) r ⌝ }
+    requires { ⌜ EntryRoom (fields order weights) (length (now s)) at (length (now words)) (length (now coefs)) ⌝ }
+    ensures { λ r. ⌜ ReadEntries order (fields order weights) n (now (s .entry)) at (now (words .entry)) (now (coefs .entry)) (now (words .exit)) (now (coefs .exit)) r ⌝ }
 {
     let mut to = at;
     let mut i = 0;
@@ -48,7 +50,7 @@ fn read_entries(
         let from = i + 1;
         let e = find(s, from, 32);
         let field = &s[from..e];
-        let entry = read_entry(field, order, n);
+        let entry = read_entry(field, order, weights, n);
         let Parsed::Term(word, coef) = entry else {
             return Counted::Bad;
         };
@@ -85,6 +87,7 @@ fn plain(c: Counts) -> Counts
 fn read_add(
     s: &[u8],
     order: Order,
+    weights: u64,
     n: u32,
     words: &mut [u64],
     coefs: &mut [u32],
@@ -92,12 +95,12 @@ fn read_add(
     ops: &mut [usize],
     c: Counts,
 ) -> Behind
-    requires { ⌜ LineRoom (length (now s) + 3) c (length (now words)) (length (now coefs)) (length (now starts)) (length (now ops)) ⌝ }
-    ensures { λ r. ⌜ ReadAdd order n (now (s .entry)) c (now (words .entry)) (now (coefs .entry)) (now (starts .entry)) (now (ops .entry)) (now (words .exit)) (now (coefs .exit)) (now (starts .exit)) (now (ops .exit)) r ⌝ }
+    requires { ⌜ LineRoom (fields order weights) (length (now s) + 3) c (length (now words)) (length (now coefs)) (length (now starts)) (length (now ops)) ⌝ }
+    ensures { λ r. ⌜ ReadAdd order (fields order weights) n (now (s .entry)) c (now (words .entry)) (now (coefs .entry)) (now (starts .entry)) (now (ops .entry)) (now (words .exit)) (now (coefs .exit)) (now (starts .exit)) (now (ops .exit)) r ⌝ }
 {
     let at = c.terms;
     let k = c.polynomials;
-    let counted = read_entries(s, order, n, words, coefs, at);
+    let counted = read_entries(s, order, weights, n, words, coefs, at);
     let Counted::All(terms) = counted else {
         return Behind::Bad;
     };
@@ -116,6 +119,7 @@ fn read_add(
 pub fn read_line(
     s: &[u8],
     order: Order,
+    weights: u64,
     n: u32,
     words: &mut [u64],
     coefs: &mut [u32],
@@ -123,8 +127,8 @@ pub fn read_line(
     ops: &mut [usize],
     c: Counts,
 ) -> Behind
-    requires { ⌜ LineRoom (length (now s)) c (length (now words)) (length (now coefs)) (length (now starts)) (length (now ops)) ⌝ }
-    ensures { λ r. ⌜ ReadLine order n (now (s .entry)) c (now (words .entry)) (now (coefs .entry)) (now (starts .entry)) (now (ops .entry)) (now (words .exit)) (now (coefs .exit)) (now (starts .exit)) (now (ops .exit)) r ⌝ }
+    requires { ⌜ LineRoom (fields order weights) (length (now s)) c (length (now words)) (length (now coefs)) (length (now starts)) (length (now ops)) ⌝ }
+    ensures { λ r. ⌜ ReadLine order (fields order weights) n (now (s .entry)) c (now (words .entry)) (now (coefs .entry)) (now (starts .entry)) (now (ops .entry)) (now (words .exit)) (now (coefs .exit)) (now (starts .exit)) (now (ops .exit)) r ⌝ }
 {
     let operations = c.operations;
     if is_word(s, b"lead") {
@@ -139,5 +143,5 @@ pub fn read_line(
         return Behind::Bad;
     }
     let terms = &s[3..];
-    read_add(terms, order, n, words, coefs, starts, ops, c)
+    read_add(terms, order, weights, n, words, coefs, starts, ops, c)
 }

@@ -1,4 +1,4 @@
-// The lines of a script behind the first three.
+// The lines of a script behind the first ones.
 use crate::line::Behind;
 use crate::line::Counts;
 use crate::line::read_line;
@@ -6,6 +6,7 @@ use monomial::order::Order;
 use text::bytes::find;
 ghost use Prim.Native.Nat.{_≤_, _-_};
 ghost use lib.ListN.{length};
+ghost use Rattle.monomial.specs.Layout.{fields};
 ghost use Rattle.script.specs.Loading.{LinesRoom, ReadLines};
 
 // Reads the lines from a place on and puts what they say into words, coefficients, starts and
@@ -14,14 +15,15 @@ pub fn read_lines(
     s: &[u8],
     from: usize,
     order: Order,
+    weights: u64,
     n: u32,
     words: &mut [u64],
     coefs: &mut [u32],
     starts: &mut [usize],
     ops: &mut [usize],
 ) -> Behind
-    requires { ⌜ LinesRoom from (length (now s)) (length (now words)) (length (now coefs)) (length (now starts)) (length (now ops)) ⌝ }
-    ensures { λ r. ⌜ ReadLines order n from (now (s .entry)) (now (words .entry)) (now (coefs .entry)) (now (starts .entry)) (now (ops .entry)) (now (words .exit)) (now (coefs .exit)) (now (starts .exit)) (now (ops .exit)) r ⌝ }
+    requires { ⌜ LinesRoom (fields order weights) from (length (now s)) (length (now words)) (length (now coefs)) (length (now starts)) (length (now ops)) ⌝ }
+    ensures { λ r. ⌜ ReadLines order (fields order weights) n from (now (s .entry)) (now (words .entry)) (now (coefs .entry)) (now (starts .entry)) (now (ops .entry)) (now (words .exit)) (now (coefs .exit)) (now (starts .exit)) (now (ops .exit)) r ⌝ }
 {
     let mut c = Counts {
         terms: 0,
@@ -35,7 +37,7 @@ pub fn read_lines(
             return Behind::Bad;
         }
         let line = &s[at..e];
-        let behind = read_line(line, order, n, words, coefs, starts, ops, c);
+        let behind = read_line(line, order, weights, n, words, coefs, starts, ops, c);
         let Behind::Line(next) = behind else {
             return Behind::Bad;
         };

@@ -4,16 +4,19 @@ use crate::line::Counts;
 use crate::lines::read_lines;
 use grammar::header::Head;
 use grammar::header::read_header;
+use grammar::weights::weights_of;
 use limits::SCRIPT_BYTES;
+use monomial::exponents::weight_word;
 use monomial::order::order_of;
 ghost use lib.ListN.{length};
 ghost use Rattle.script.specs.Loading.{ScriptRoom, ReadScript};
 
-// The prime, the number of the order, the number of variables, and the counts.
+// The prime, the number of the order, the number of variables, the weights as one number, and the counts.
 pub struct Loaded {
     pub prime: u32,
     pub order: u32,
     pub vars: u32,
+    pub weights: u64,
     pub counts: Counts,
 }
 
@@ -43,7 +46,19 @@ pub fn read_script(
     starts[0] = 0;
     let from = h.from;
     let order = order_of(h.order);
-    let behind = read_lines(s, from, order, h.vars, words, coefs, starts, ops);
+    let weights = weights_of(h.weights);
+    let weights_word = weight_word(order, &weights);
+    let behind = read_lines(
+        s,
+        from,
+        order,
+        weights_word,
+        h.vars,
+        words,
+        coefs,
+        starts,
+        ops,
+    );
     let Behind::Line(counts) = behind else {
         return Found::Bad;
     };
@@ -51,6 +66,7 @@ pub fn read_script(
         prime: h.prime,
         order: h.order,
         vars: h.vars,
+        weights: h.weights,
         counts,
     };
     Found::Script(loaded)

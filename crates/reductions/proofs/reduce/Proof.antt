@@ -20,13 +20,13 @@ reduction-opening-requires c κs = search needs
 
 refused-requires : tie.Need-refused-requires
 refused-requires c κs =
-    let a = c .before .before .before .before .before .before .before .before .before .before .before .args in
+    let a = c .before .before .before .before .before .before .before .before .before .before .before .before .args in
     let e = c .before .reduction-opening .ensures in
-    subst (λ (k : ℕ). listed k ≡ true) (sym e) (reduction-listed (settingOf (a .p) (a .order) (a .n)) (now (a .words)) (now (a .coefs)) (now (a .starts)) (a .limit) (length (now (a .bw))) (length (now (a .bc))) (length (now (a .ww))) (length (now (a .wc))) (length (now (a .ow))) (length (now (a .oc))) (λ z. c .if1 .taken (e ∙ z)))
+    subst (λ (k : ℕ). listed k ≡ true) (sym e) (reduction-listed (settingOf (a .p) (a .order) (a .n) (now (a .weights))) (now (a .words)) (now (a .coefs)) (now (a .starts)) (a .limit) (length (now (a .bw))) (length (now (a .bc))) (length (now (a .ww))) (length (now (a .wc))) (length (now (a .ow))) (length (now (a .oc))) (λ z. c .if1 .taken (e ∙ z)))
 
 returns : tie.Need-returns
 returns c =
-    let a = c .before .before .before .before .before .before .before .before .before .before .before .before .args in
+    let a = c .before .before .before .before .before .before .before .before .before .before .before .before .before .args in
     rw (← c .before .before .reduction-opening .ensures) (decided-refused (c .before .before .reduction-opening .result) (a .tally) _ (now (a .bw)) (now (a .bc)) (now (a .ww)) (now (a .wc)) (now (a .ow)) (now (a .oc)) (c .before .if1 .taken) (c .refused .ensures))
 
 slice-aggregate-clear : tie.Need-slice-aggregate-clear
@@ -43,8 +43,8 @@ slice-aggregate-reduce-all c = search needs
 
 reduce-all-requires : tie.Need-reduce-all-requires
 reduce-all-requires c κs =
-    let a = c .before .before .before .before .before .before .before .before .before .before .before .before .before .before .before .before .before .before .before .before .before .before .args in
-    let o = reduction-opened (settingOf (a .p) (a .order) (a .n)) (now (a .words)) (now (a .coefs)) (now (a .starts)) (a .limit) (length (now (a .bw))) (length (now (a .bc))) (length (now (a .ww))) (length (now (a .wc))) (length (now (a .ow))) (length (now (a .oc))) (sym (c .before .before .before .before .before .before .before .before .before .before .before .before .reduction-opening .ensures) ∙ c .before .before .before .before .before .before .before .before .before .before .before .if1 .left) in
+    let a = c .before .before .before .before .before .before .before .before .before .before .before .before .before .before .before .before .before .before .before .before .before .before .before .args in
+    let o = reduction-opened (settingOf (a .p) (a .order) (a .n) (now (a .weights))) (now (a .words)) (now (a .coefs)) (now (a .starts)) (a .limit) (length (now (a .bw))) (length (now (a .bc))) (length (now (a .ww))) (length (now (a .wc))) (length (now (a .ow))) (length (now (a .oc))) (sym (c .before .before .before .before .before .before .before .before .before .before .before .before .reduction-opening .ensures) ∙ c .before .before .before .before .before .before .before .before .before .before .before .if1 .left) in
     (rw (c .before .before .before .before .before .before .before .order-of .ensures) (reducible o), spaces (c .before .before .before .before .before .before .before .before .before .clear .ensures) (now (a .bw)) (now (a .bc)) (now (a .ww)) (now (a .wc)) (now (a .ow)) (now (a .oc)) o)
 
 slice-aggregate-settle : tie.Need-slice-aggregate-settle
@@ -52,8 +52,8 @@ slice-aggregate-settle c = search needs
 
 settle-requires : tie.Need-settle-requires
 settle-requires c κs =
-    let a = c .before .before .before .before .before .before .before .before .before .before .before .before .before .before .before .before .before .before .before .before .before .before .before .before .before .before .before .before .before .before .before .before .before .before .before .before .before .before .before .before .before .args in
-    let o = reduction-opened (settingOf (a .p) (a .order) (a .n)) (now (a .words)) (now (a .coefs)) (now (a .starts)) (a .limit) (length (now (a .bw))) (length (now (a .bc))) (length (now (a .ww))) (length (now (a .wc))) (length (now (a .ow))) (length (now (a .oc))) (sym (c .before .before .before .before .before .before .before .before .before .before .before .before .before .before .before .before .before .before .before .before .before .before .before .before .before .before .before .before .before .before .before .reduction-opening .ensures) ∙ c .before .before .before .before .before .before .before .before .before .before .before .before .before .before .before .before .before .before .before .before .before .before .before .before .before .before .before .before .before .before .if1 .left) in
+    let a = c .before .before .before .before .before .before .before .before .before .before .before .before .before .before .before .before .before .before .before .before .before .before .before .before .before .before .before .before .before .before .before .before .before .before .before .before .before .before .before .before .before .before .args in
+    let o = reduction-opened (settingOf (a .p) (a .order) (a .n) (now (a .weights))) (now (a .words)) (now (a .coefs)) (now (a .starts)) (a .limit) (length (now (a .bw))) (length (now (a .bc))) (length (now (a .ww))) (length (now (a .wc))) (length (now (a .ow))) (length (now (a .oc))) (sym (c .before .before .before .before .before .before .before .before .before .before .before .before .before .before .before .before .before .before .before .before .before .before .before .before .before .before .before .before .before .before .before .reduction-opening .ensures) ∙ c .before .before .before .before .before .before .before .before .before .before .before .before .before .before .before .before .before .before .before .before .before .before .before .before .before .before .before .before .before .before .if1 .left) in
     let r = c .before .before .before .before .before .before .before .before .before .before .before .before .before .before .before .before .before .before .reduce-all .ensures in
     let k = c .before .before .before .before .before .before .before .before .before .before .before .before .before .before .before .before .before .before .reduce-all .kept in
     (r .stands .laid, r .stands .words-long, r .stands .coefs-long, k .1 .1 .1 .1 .1 .1 .1 .1 .1 .0 ∙ o .work-words, k .1 .1 .1 .1 .1 .1 .1 .1 .1 .1 .0 ∙ o .work-coefs)
@@ -84,7 +84,7 @@ same-length-6 c = search needs
 
 returns-2 : tie.Need-returns-2
 returns-2 c =
-    let a = c .before .before .before .before .before .before .before .before .before .before .before .before .before .before .before .before .before .before .before .before .before .before .before .before .before .before .before .before .before .before .before .before .before .before .before .before .before .before .before .before .before .before .before .before .before .before .before .before .before .before .before .before .args in
+    let a = c .before .before .before .before .before .before .before .before .before .before .before .before .before .before .before .before .before .before .before .before .before .before .before .before .before .before .before .before .before .before .before .before .before .before .before .before .before .before .before .before .before .before .before .before .before .before .before .before .before .before .before .before .before .args in
     ended-as (in-order (c .before .before .before .before .before .before .before .before .before .before .before .before .before .before .before .before .before .before .before .before .before .before .before .before .before .before .before .before .before .before .before .before .before .before .before .before .before .order-of .ensures) (c .before .before .before .before .before .before .before .before .before .before .before .before .before .before .before .before .before .before .before .before .before .before .before .before .before .before .before .before .before .reduce-all .ensures)) (c .before .before .before .before .before .before .before .before .before .before .settle .ensures) (c .ended .ensures)
     ∙ sym (decided-none _ (a .tally) _ (now (a .bw)) (now (a .bc)) (now (a .ww)) (now (a .wc)) (now (a .ow)) (now (a .oc)) (sym (c .before .before .before .before .before .before .before .before .before .before .before .before .before .before .before .before .before .before .before .before .before .before .before .before .before .before .before .before .before .before .before .before .before .before .before .before .before .before .before .before .before .before .reduction-opening .ensures) ∙ c .before .before .before .before .before .before .before .before .before .before .before .before .before .before .before .before .before .before .before .before .before .before .before .before .before .before .before .before .before .before .before .before .before .before .before .before .before .before .before .before .before .if1 .left))
 

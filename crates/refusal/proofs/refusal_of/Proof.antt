@@ -53,7 +53,10 @@ returns-16 : tie.Need-returns-16
 returns-16 c = sym (c .match .keys16)
 
 returns-17 : tie.Need-returns-17
-returns-17 c = largest _ (c .match .rest) (c .before .pre)
+returns-17 c = sym (c .match .keys17)
+
+returns-18 : tie.Need-returns-18
+returns-18 c = largest _ (c .match .rest) (c .before .pre)
 
 pub refusal-of-spec : {M : Type 1} → statement M
 refusal-of-spec =
@@ -75,4 +78,5 @@ refusal-of-spec =
     returns-14
     returns-15
     returns-16
-    returns-17)
+    returns-17
+    returns-18)

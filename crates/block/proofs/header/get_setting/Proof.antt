@@ -33,8 +33,17 @@ add-get-1-2 c = search needs
 get-1-requires-2 : tie.Need-get-1-requires-2
 get-1-requires-2 c κs = search needs
 
+add-get-3 : tie.Need-add-get-3
+add-get-3 c = search needs
+
+get-3-requires : tie.Need-get-3-requires
+get-3-requires c κs = search needs
+
+weights-of-requires : tie.Need-weights-of-requires
+weights-of-requires c κs = search needs
+
 returns : tie.Need-returns
-returns c = rw (c .before .before .before .get-2 .ensures .0, c .before .before .get-22 .ensures .0, c .before .get-1 .ensures, c .get-12 .ensures)
+returns c = rw (c .before .before .before .before .before .get-2 .ensures .0, c .before .before .before .before .get-22 .ensures .0, c .before .before .before .get-1 .ensures, c .before .before .get-12 .ensures, c .weights-of .ensures, c .before .get-3 .ensures .0)
 
 pub get-setting-spec : {M : Type 1} → statement M
 get-setting-spec =
@@ -50,4 +59,7 @@ get-setting-spec =
     get-1-requires
     add-get-1-2
     get-1-requires-2
+    add-get-3
+    get-3-requires
+    weights-of-requires
     returns)

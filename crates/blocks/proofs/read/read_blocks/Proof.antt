@@ -32,6 +32,15 @@ get-terms-requires c κs = let z = c .before .before .before .before .before .be
 get-setting-requires : tie.Need-get-setting-requires
 get-setting-requires c κs = let z = c .before .before .before .before .before .before .before .before .before .before .before .before .before in let a = z .args in let q = read-passes (a .s .now) (length (a .words .now)) (length (a .coefs .now)) (sym (c .before .before .before .before .before .before .before .before .before .read-refusal .ensures) ∙ c .before .before .before .before .before .before .before .before .if1 .left) in let f = form-formed (a .s .now) (length (a .words .now)) (length (a .coefs .now)) (q .form) in omega (arith, f .some)
 
+slice-aggregate-weight-number : tie.Need-slice-aggregate-weight-number
+slice-aggregate-weight-number c = search needs
+
+weight-number-requires : tie.Need-weight-number-requires
+weight-number-requires c κs = search needs
+
+cast-t20 : tie.Need-cast-t20
+cast-t20 c = search needs
+
 same-length : tie.Need-same-length
 same-length c = search needs
 
@@ -39,7 +48,7 @@ same-length-2 : tie.Need-same-length-2
 same-length-2 c = search needs
 
 returns-2 : tie.Need-returns-2
-returns-2 c = let z = c .before .before .before .before .before .before .before .before .before .before .before .before .before .before in let a = z .args in let e = c .before .before .before .before .before .before .before .before .total-in .ensures in rw (← c .before .before .before .before .before .before .before .before .before .before .read-refusal .ensures) (read-done (c .before .before .before .before .before .before .before .before .before .before .read-refusal .result) (a .s .now) (a .words .now) (a .coefs .now) _ _ _ _ (c .before .before .before .before .before .before .before .before .before .before .read-refusal .ensures) (c .before .before .before .before .before .before .before .before .before .if1 .left) (c .get-setting .ensures) e (c .before .before .before .before .before .get-terms .ensures .0 ∙ ap (λ (n : ℕ). sets (a .words .now) 0 (words (firstTerms (a .s .now) n))) e) (c .before .before .before .before .before .get-terms .ensures .1 ∙ ap (λ (n : ℕ). sets (a .coefs .now) 0 (coefs (firstTerms (a .s .now) n))) e))
+returns-2 c = let z = c .before .before .before .before .before .before .before .before .before .before .before .before .before .before .before .before .before in let a = z .args in let q = c .before .before .before .before .before .before .before .before .before .before .before .before .before .read-refusal in let e = c .before .before .before .before .before .before .before .before .before .before .before .total-in .ensures in let g = c .before .before .before .before .before .before .before .before .get-terms .ensures in rw (← q .ensures) (read-done (q .result) (a .s .now) (a .words .now) (a .coefs .now) _ _ _ _ _ (q .ensures) (c .before .before .before .before .before .before .before .before .before .before .before .before .if1 .left) (c .before .before .before .get-setting .ensures) (c .weight-number .ensures) e (g .0 ∙ ap (λ (n : ℕ). sets (a .words .now) 0 (words (firstTerms (a .s .now) n))) e) (g .1 ∙ ap (λ (n : ℕ). sets (a .coefs .now) 0 (coefs (firstTerms (a .s .now) n))) e))
 
 pub read-blocks-spec : {M : Type 1} → statement M
 read-blocks-spec =
@@ -51,6 +60,9 @@ read-blocks-spec =
     total-in-requires
     get-terms-requires
     get-setting-requires
+    slice-aggregate-weight-number
+    weight-number-requires
+    cast-t20
     same-length
     same-length-2
     returns-2)

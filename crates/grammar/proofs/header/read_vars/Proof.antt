@@ -50,12 +50,15 @@ returns-2 : tie.Need-returns-2
 returns-2 c = vars-bad _ _ _ _ _ (c .before .before .before .before .before .before .before .before .pre) (c .before .before .before .before .before .before .find .ensures .0) (found-bad _ _ (c .before .before .number-behind .ensures) (c .enum-told .given .1))
 
 -- src/header.rt:99:15
-add-t11 : tie.Need-add-t11
-add-t11 c = search needs
+add-read-rest : tie.Need-add-read-rest
+add-read-rest c = search needs
+
+read-rest-requires : tie.Need-read-rest-requires
+read-rest-requires c κs = search needs
 
 -- src/header.rt:82:1
 returns-3 : tie.Need-returns-3
-returns-3 c = vars-good _ _ _ _ _ (c .before .before .before .before .before .before .before .before .before .pre) (c .before .before .before .before .before .before .before .find .ensures .0) _ (c .before .before .before .before .before .before .before .find .ensures .2) (c .before .before .before .before .before .before .if1 .left) (found-value _ _ _ (c .before .before .before .number-behind .ensures) (c .before .n .given .1))
+returns-3 c = vars-good _ _ _ _ _ (c .before .before .before .before .before .before .before .before .before .before .pre) (c .before .before .before .before .before .before .before .before .find .ensures .0) _ (c .before .before .before .before .before .before .before .before .find .ensures .2) (c .before .before .before .before .before .before .before .if1 .left) (found-value _ _ _ (c .before .before .before .before .number-behind .ensures) (c .before .before .n .given .1)) (c .read-rest .ensures)
 
 pub read-vars-spec : {M : Type 1} → statement M
 read-vars-spec =
@@ -71,5 +74,6 @@ read-vars-spec =
     enum-known-n
     enum-told
     returns-2
-    add-t11
+    add-read-rest
+    read-rest-requires
     returns-3)

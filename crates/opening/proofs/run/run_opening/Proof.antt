@@ -1,8 +1,10 @@
 -- `opening::run::run_opening` meets its contract, check by check. Assumes nothing.
-use mathlib.Core.Path.{sym, _∙_}
-use Rattle.opening.specs.Run.{runRefusal}
+use mathlib.Core.Path.{sym, ap, _∙_, subst}
+use Rattle.polynomial.specs.declared.setting.Setting.{Setting}
+use Rattle.polynomial.specs.Settings.{Testable}
+use Rattle.opening.specs.Run.{polynomialsRefusal, runRefusal}
 use Rattle.opening.proofs.Tests.{yes, no}
-use Rattle.opening.proofs.SettingLaws.{setting-passes}
+use Rattle.opening.proofs.SettingLaws.{setting-testable}
 use Rattle.opening.proofs.PolynomialLaws.{some-starts}
 use Rattle.opening.proofs.ShapeLaws.{shape-passes}
 use Rattle.opening.proofs.RunLaws.{stop-setting}
@@ -39,12 +41,19 @@ returns-3 : tie.Need-returns-3
 unfolding runRefusal
 returns-3 c = simp (sym (c .before .before .before .before .before .setting .ensures) ∙ c .before .before .before .before .if1 .left, yes (c .before .before .before .shape-good .ensures) (c .before .before .if2 .left), no (c .before .operations-good .ensures) (c .if3 .taken))
 
+setting-of-requires : tie.Need-setting-of-requires
+setting-of-requires c κs = shape-passes (yes (c .before .before .before .shape-good .ensures) (c .before .before .if2 .left)) .weights-six
+
 polynomials-refusal-requires : tie.Need-polynomials-refusal-requires
-polynomials-refusal-requires c κs = let s = shape-passes (yes (c .before .before .before .shape-good .ensures) (c .before .before .if2 .left)) in (setting-passes _ (sym (c .before .before .before .before .before .setting .ensures) ∙ c .before .before .before .before .if1 .left) .n-high, s .lent, s .starts)
+polynomials-refusal-requires c κs =
+    let s = shape-passes (yes (c .before .before .before .before .shape-good .ensures) (c .before .before .before .if2 .left)) in
+    (subst Testable (sym (c .setting-of .ensures)) (setting-testable _ (sym (c .before .before .before .before .before .before .setting .ensures) ∙ c .before .before .before .before .before .if1 .left) (s .weights-six)), s .lent, s .starts)
 
 returns-4 : tie.Need-returns-4
 unfolding runRefusal
-returns-4 c = simp (sym (c .before .before .before .before .before .before .setting .ensures) ∙ c .before .before .before .before .before .if1 .left, yes (c .before .before .before .before .shape-good .ensures) (c .before .before .before .if2 .left), yes (c .before .before .operations-good .ensures) (c .before .if3 .left), c .polynomials-refusal .ensures)
+returns-4 c =
+    let a = c .before .before .before .before .before .before .before .before .before .before .before .before .before .args in
+    simp (sym (c .before .before .before .before .before .before .before .setting .ensures) ∙ c .before .before .before .before .before .before .if1 .left, yes (c .before .before .before .before .before .shape-good .ensures) (c .before .before .before .before .if2 .left), yes (c .before .before .before .operations-good .ensures) (c .before .before .if3 .left), c .polynomials-refusal .ensures ∙ ap (λ (t : Setting). polynomialsRefusal t (a .words .now) (a .coefs .now) (a .starts .now)) (c .before .setting-of .ensures))
 
 pub run-opening-spec : {M : Type 1} → statement M
 run-opening-spec =
@@ -57,5 +66,6 @@ run-opening-spec =
     sub-operations-good
     operations-good-requires
     returns-3
+    setting-of-requires
     polynomials-refusal-requires
     returns-4)

@@ -1,7 +1,7 @@
 -- `opening::setting::setting` meets its contract, refusal by refusal. Assumes nothing.
 use mathlib.Core.Path.{sym, _∙_}
 use Rattle.opening.proofs.Tests.{yes, no}
-use Rattle.opening.proofs.SettingLaws.{over-limit, no-prime, no-order, no-variables, set}
+use Rattle.opening.proofs.SettingLaws.{over-limit, no-prime, no-order, no-variables, no-weights, set}
 use borrow.Author.Needs.{needs}
 use Rattle.opening.proofs.setting.setting.Statement.{statement}
 use Rattle.opening.proofs.setting.setting.Tie as tie
@@ -29,10 +29,16 @@ is-between-requires-2 : tie.Need-is-between-requires-2
 is-between-requires-2 c κs = search needs
 
 returns-4 : tie.Need-returns-4
-returns-4 c = set _ (c .before .before .before .before .before .before .if1 .left) (yes (c .before .before .before .before .before .is-prime .ensures) (c .before .before .before .before .if2 .left)) (yes (c .before .before .before .is-between .ensures) (c .before .before .if3 .left)) (sym (c .before .is-between2 .ensures) ∙ c .if4 .taken)
+returns-4 c = no-variables _ (c .before .before .before .before .before .before .if1 .left) (yes (c .before .before .before .before .before .is-prime .ensures) (c .before .before .before .before .if2 .left)) (yes (c .before .before .before .is-between .ensures) (c .before .before .if3 .left)) (no (c .before .is-between2 .ensures) (c .if4 .taken))
+
+weights-good-requires : tie.Need-weights-good-requires
+weights-good-requires c κs = search needs
 
 returns-5 : tie.Need-returns-5
-returns-5 c = no-variables _ (c .before .before .before .before .before .before .if1 .left) (yes (c .before .before .before .before .before .is-prime .ensures) (c .before .before .before .before .if2 .left)) (yes (c .before .before .before .is-between .ensures) (c .before .before .if3 .left)) (sym (c .before .is-between2 .ensures) ∙ c .if4 .left)
+returns-5 c = set _ (c .before .before .before .before .before .before .before .before .if1 .left) (yes (c .before .before .before .before .before .before .before .is-prime .ensures) (c .before .before .before .before .before .before .if2 .left)) (yes (c .before .before .before .before .before .is-between .ensures) (c .before .before .before .before .if3 .left)) (yes (c .before .before .before .is-between2 .ensures) (c .before .before .if4 .left)) (sym (c .before .weights-good .ensures) ∙ c .if5 .taken)
+
+returns-6 : tie.Need-returns-6
+returns-6 c = no-weights _ (c .before .before .before .before .before .before .before .before .if1 .left) (yes (c .before .before .before .before .before .before .before .is-prime .ensures) (c .before .before .before .before .before .before .if2 .left)) (yes (c .before .before .before .before .before .is-between .ensures) (c .before .before .before .before .if3 .left)) (yes (c .before .before .before .is-between2 .ensures) (c .before .before .if4 .left)) (sym (c .before .weights-good .ensures) ∙ c .if5 .left)
 
 pub setting-spec : {M : Type 1} → statement M
 setting-spec =
@@ -45,4 +51,6 @@ setting-spec =
     returns-3
     is-between-requires-2
     returns-4
-    returns-5)
+    weights-good-requires
+    returns-5
+    returns-6)

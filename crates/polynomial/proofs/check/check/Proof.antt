@@ -27,7 +27,7 @@ returns c =
     let ts = terms (a .words .now) (a .coefs .now) in
     c .verdict .ensures
     ∙ (ap (λ (s : Carried ℕ). verdict s) (c .before .check-on .ensures ∙ ap (λ (s : Carried ℕ). polynomialOn t s ts) (c .before .before .unseen .ensures))
-    ∙ carry-whole (termRefusal (orderOf (t .order)) (t .n) (t .p)) (compareWords (orderOf (t .order))) 0 ts)
+    ∙ carry-whole (termRefusal (orderOf (t .order)) (t .n) (t .weights) (t .p)) (compareWords (orderOf (t .order))) 0 ts)
 
 pub check-spec : {M : Type 1} → statement M
 check-spec = tie.close (tie.spec unseen-requires check-on-requires verdict-requires returns)

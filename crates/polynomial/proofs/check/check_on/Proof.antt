@@ -4,6 +4,7 @@ use Prim.Native.Nat.{ℕ, _-_}
 use native.Mathlib.Omega.{arith}
 use lib.ListN.{length}
 use borrow.Author.Needs.{needs}
+use Rattle.monomial.specs.Layout.{fields}
 use Rattle.monomial.specs.Words.{compareWords}
 use Rattle.polynomial.specs.Terms.{terms}
 use Rattle.polynomial.specs.Opening.{termRefusal}
@@ -14,10 +15,10 @@ use Rattle.polynomial.proofs.check.check_on.Statement.{statement}
 use Rattle.polynomial.proofs.check.check_on.Tie as tie
 
 abbrev Inv-loop : tie.InvT-loop
-Inv-loop words coefs order n p beyond late₀ seen₀ last₀ i₀ late seen last i = Looked (termRefusal order n p) (compareWords order) (good late₀ seen₀ last₀) (terms words coefs) i late seen last
+Inv-loop words coefs order n p beyond weights late₀ seen₀ last₀ i₀ late seen last i = Looked (termRefusal order n (fields order weights) p) (compareWords order) (good late₀ seen₀ last₀) (terms words coefs) i late seen last
 
 abbrev μ-loop : tie.MeasureT-loop
-μ-loop words coefs order n p beyond late₀ seen₀ last₀ i₀ late seen last i = length words - i
+μ-loop words coefs order n p beyond weights late₀ seen₀ last₀ i₀ late seen last i = length words - i
 
 returns : tie.Need-returns Inv-loop μ-loop
 returns c = stays-stopped _ _ _ _ (c .if1 .taken)
@@ -27,6 +28,12 @@ order-of-requires c κs = search needs
 
 beyond-bits-requires : tie.Need-beyond-bits-requires Inv-loop μ-loop
 beyond-bits-requires c κs = search needs
+
+slice-aggregate-weight-word : tie.Need-slice-aggregate-weight-word Inv-loop μ-loop
+slice-aggregate-weight-word c = search needs
+
+weight-word-requires : tie.Need-weight-word-requires Inv-loop μ-loop
+weight-word-requires c κs = search needs
 
 loop-holds : tie.Need-loop-holds Inv-loop μ-loop
 loop-holds c = look-start _ _ _ _ _ _
@@ -52,14 +59,15 @@ check-term-requires c κs = omega arith
 returns-2 : tie.Need-returns-2 Inv-loop μ-loop
 returns-2 c =
     let h = c .before .before .before .before .before .before in
-    let o = h .before .before .order-of in
-    let k = h .before .before .before .before .before .before .before in
+    let o = h .before .before .before .before .before .order-of in
+    let k = h .before .before .before .before .before .before .before .before .before .before in
     let a = k .args in
-    let judge = termRefusal (o .result) (a .t .n) (a .t .p) in
+    let v = h .before .weight-word in
+    let judge = termRefusal (o .result) (a .t .n) (fields (o .result) (v .result)) (a .t .p) in
     rw
-    (← o .ensures)
-    (look-stop judge (compareWords (o .result)) _ _ (h .loop .i) (h .loop .late) (h .loop .seen) (h .loop .last) (h .loop .inv) (omega (arith, length-terms (a .words .now) (a .coefs .now) (k .pre .1))) _ (lead-at (a .words .now) (a .coefs .now) (h .loop .i) (k .pre .1) (c .before .before .before .before .before .loop-test .taken)) _ _ (c .before .check-term .ensures (h .before .before .order-of .result) (a .t .n) (k .pre .0) (h .before .beyond-bits .ensures)) (c .before .before .before .check-fall .ensures) (c .if2 .taken)
-    ∙ ap (λ (s : Carried ℕ). carryOn judge (compareWords (o .result)) s (terms (a .words .now) (a .coefs .now))) (good-is (carriedBy (a .from)) (h .before .before .before .if1 .left)))
+    (← o .ensures, ← v .ensures)
+    (look-stop judge (compareWords (o .result)) _ _ (h .loop .i) (h .loop .late) (h .loop .seen) (h .loop .last) (h .loop .inv) (omega (arith, length-terms (a .words .now) (a .coefs .now) (k .pre .1))) _ (lead-at (a .words .now) (a .coefs .now) (h .loop .i) (k .pre .1) (c .before .before .before .before .before .loop-test .taken)) _ _ (c .before .check-term .ensures (h .before .before .before .before .before .order-of .result) (a .t .n) (k .pre .0 .few) (h .before .before .before .beyond-bits .ensures)) (c .before .before .before .check-fall .ensures) (c .if2 .taken)
+    ∙ ap (λ (s : Carried ℕ). carryOn judge (compareWords (o .result)) s (terms (a .words .now) (a .coefs .now))) (good-is (carriedBy (a .from)) (h .before .before .before .before .before .before .if1 .left)))
 
 add-i : tie.Need-add-i Inv-loop μ-loop
 add-i c = omega arith
@@ -70,21 +78,22 @@ loop-less c = omega arith
 loop-again : tie.Need-loop-again Inv-loop μ-loop
 loop-again c =
     let h = c .before .before .before .before .before .before in
-    let k = h .before .before .before .before .before .before .before in
+    let k = h .before .before .before .before .before .before .before .before .before .before in
     let a = k .args in
-    look-next _ _ _ _ (h .loop .i) (h .loop .late) (h .loop .seen) (h .loop .last) (h .loop .inv) (omega (arith, length-terms (a .words .now) (a .coefs .now) (k .pre .1))) _ (lead-at (a .words .now) (a .coefs .now) (h .loop .i) (k .pre .1) (c .before .before .before .before .before .loop-test .taken)) _ _ (c .before .check-term .ensures (h .before .before .order-of .result) (a .t .n) (k .pre .0) (h .before .beyond-bits .ensures)) (c .before .before .before .check-fall .ensures) (c .if2 .left)
+    look-next _ _ _ _ (h .loop .i) (h .loop .late) (h .loop .seen) (h .loop .last) (h .loop .inv) (omega (arith, length-terms (a .words .now) (a .coefs .now) (k .pre .1))) _ (lead-at (a .words .now) (a .coefs .now) (h .loop .i) (k .pre .1) (c .before .before .before .before .before .loop-test .taken)) _ _ (c .before .check-term .ensures (h .before .before .before .before .before .order-of .result) (a .t .n) (k .pre .0 .few) (h .before .before .before .beyond-bits .ensures)) (c .before .before .before .check-fall .ensures) (c .if2 .left)
 
 returns-3 : tie.Need-returns-3 Inv-loop μ-loop
 returns-3 c =
     let h = c .before in
-    let o = h .before .before .order-of in
-    let k = h .before .before .before .before .before .before .before in
+    let o = h .before .before .before .before .before .order-of in
+    let k = h .before .before .before .before .before .before .before .before .before .before in
     let a = k .args in
-    let judge = termRefusal (o .result) (a .t .n) (a .t .p) in
+    let v = h .before .weight-word in
+    let judge = termRefusal (o .result) (a .t .n) (fields (o .result) (v .result)) (a .t .p) in
     rw
-    (← o .ensures)
+    (← o .ensures, ← v .ensures)
     (look-ends judge (compareWords (o .result)) _ _ (h .loop .i) (h .loop .late) (h .loop .seen) (h .loop .last) (h .loop .inv) (omega (arith, length-terms (a .words .now) (a .coefs .now) (k .pre .1)))
-    ∙ ap (λ (s : Carried ℕ). carryOn judge (compareWords (o .result)) s (terms (a .words .now) (a .coefs .now))) (good-is (carriedBy (a .from)) (h .before .before .before .if1 .left)))
+    ∙ ap (λ (s : Carried ℕ). carryOn judge (compareWords (o .result)) s (terms (a .words .now) (a .coefs .now))) (good-is (carriedBy (a .from)) (h .before .before .before .before .before .before .if1 .left)))
 
 pub check-on-spec : {M : Type 1} → statement M
 check-on-spec =
@@ -95,6 +104,8 @@ check-on-spec =
     returns
     order-of-requires
     beyond-bits-requires
+    slice-aggregate-weight-word
+    weight-word-requires
     loop-holds
     mul-word
     shared-slice-read-word

@@ -49,12 +49,12 @@ put-pair-requires : tie.Need-put-pair-requires
 put-pair-requires c κs = search needs
 
 -- src/line.rt:109:22
-add-t19 : tie.Need-add-t19
-add-t19 c = search needs
-
--- src/line.rt:110:21
 add-t20 : tie.Need-add-t20
 add-t20 c = search needs
+
+-- src/line.rt:110:21
+add-t21 : tie.Need-add-t21
+add-t21 c = search needs
 
 -- src/line.rt:85:1
 same-length-3 : tie.Need-same-length-3
@@ -90,8 +90,8 @@ read-add-spec =
     mul-starts
     slice-write-starts
     put-pair-requires
-    add-t19
     add-t20
+    add-t21
     same-length-3
     same-length-4
     same-length-5

@@ -1,5 +1,6 @@
 use mathlib.Core.Option.{some}
 use lib.ListN.{take}
+use Rattle.monomial.specs.Layout.{fields}
 use Rattle.grammar.specs.Grammar.{Entry}
 use Rattle.grammar.specs.Reading.{entryOf}
 use Rattle.grammar.specs.Parts.{entryWord, entryCoef}
@@ -18,14 +19,14 @@ use Rattle.grammar.proofs.entry.read_entry.Reads as read-entry-reads
 use Rattle.text.proofs.bytes.find.Reads as find-reads
 
 abbrev Inv-loop : tie.InvT-loop
-Inv-loop s order n words₀ coefs₀ at to₀ i₀ words coefs to i = ((i ≤ length s) × (4 * to + length s ≤ 4 * length words₀ + i)) × Adding order n s at words₀ coefs₀ words coefs to i
+Inv-loop s order weights n words₀ coefs₀ at to₀ i₀ words coefs to i = ((i ≤ length s) × (4 * to + length s ≤ 4 * length words₀ + i)) × Adding order (fields order weights) n s at words₀ coefs₀ words coefs to i
 
 abbrev μ-loop : tie.MeasureT-loop
-μ-loop s order n words₀ coefs₀ at to₀ i₀ words coefs to i = length s - i
+μ-loop s order weights n words₀ coefs₀ at to₀ i₀ words coefs to i = length s - i
 
 -- src/line.rt:43:5
 loop-holds : tie.Need-loop-holds Inv-loop μ-loop
-loop-holds c = ((omega arith, omega (arith, c .before .before .before .pre .fits)), adding-start _ _ _ _ _ _)
+loop-holds c = ((omega arith, omega (arith, c .before .before .before .pre .fits)), adding-start _ _ _ _ _ _ _)
 
 -- src/line.rt:44:12
 shared-slice-read-if1 : tie.Need-shared-slice-read-if1 Inv-loop μ-loop
@@ -85,7 +86,7 @@ same-length-4 c = adding-coefs (c .before .before .before .before .before .befor
 
 -- src/line.rt:52:13
 returns-2 : tie.Need-returns-2 Inv-loop μ-loop
-returns-2 c = adding-bad (c .before .before .before .before .before .before .before .before .loop .inv .1) (c .before .before .before .before .before .before .before .loop-test .taken) (c .before .before .before .before .before .if1 .left) _ (c .before .before .before .before .find .ensures .0) (parsed-bad _ _ _ (c .before .before .read-entry .ensures) (c .enum-told .given .1))
+returns-2 c = adding-bad (c .before .before .before .before .before .before .before .before .loop .inv .1) (c .before .before .before .before .before .before .before .loop-test .taken) (c .before .before .before .before .before .if1 .left) _ (c .before .before .before .before .find .ensures .0) (parsed-bad _ _ _ _ (c .before .before .read-entry .ensures) (c .enum-told .given .1))
 
 -- src/line.rt:54:9
 mul-words : tie.Need-mul-words Inv-loop μ-loop
@@ -95,8 +96,8 @@ mul-words c = search needs
 abbrev Turn : Type 0
 Turn = tie.After-known-told Inv-loop μ-loop
 
-term : (c : Turn) → (t : Entry) × (entryOf (c .before .before .before .before .before .before .before .before .before .before .before .before .before .args .n) (take (c .before .before .before .before .before .find .result - (c .before .before .before .before .before .before .before .before .before .loop .i + 1)) (drop (c .before .before .before .before .before .before .before .before .before .loop .i + 1) (c .before .before .before .before .before .before .before .before .before .before .before .before .before .args .s .now))) ≡ some t) × (c .before .entry .given .0 .0 ≡ entryWord (c .before .before .before .before .before .before .before .before .before .before .before .before .before .args .order) t) × (c .before .entry .given .0 .1 .0 ≡ entryCoef t)
-term c = parsed-term (c .before .before .before .before .before .before .before .before .before .before .before .before .before .args .order) (entryOf (c .before .before .before .before .before .before .before .before .before .before .before .before .before .args .n) (take (c .before .before .before .before .before .find .result - (c .before .before .before .before .before .before .before .before .before .loop .i + 1)) (drop (c .before .before .before .before .before .before .before .before .before .loop .i + 1) (c .before .before .before .before .before .before .before .before .before .before .before .before .before .args .s .now)))) _ _ _ (c .before .before .before .read-entry .ensures) (c .before .entry .given .1)
+term : (c : Turn) → (t : Entry) × (entryOf (c .before .before .before .before .before .before .before .before .before .before .before .before .before .args .n) (take (c .before .before .before .before .before .find .result - (c .before .before .before .before .before .before .before .before .before .loop .i + 1)) (drop (c .before .before .before .before .before .before .before .before .before .loop .i + 1) (c .before .before .before .before .before .before .before .before .before .before .before .before .before .args .s .now))) ≡ some t) × (c .before .entry .given .0 .0 ≡ entryWord (c .before .before .before .before .before .before .before .before .before .before .before .before .before .args .order) (fields (c .before .before .before .before .before .before .before .before .before .before .before .before .before .args .order) (c .before .before .before .before .before .before .before .before .before .before .before .before .before .args .weights)) t) × (c .before .entry .given .0 .1 .0 ≡ entryCoef t)
+term c = parsed-term (c .before .before .before .before .before .before .before .before .before .before .before .before .before .args .order) _ (entryOf (c .before .before .before .before .before .before .before .before .before .before .before .before .before .args .n) (take (c .before .before .before .before .before .find .result - (c .before .before .before .before .before .before .before .before .before .loop .i + 1)) (drop (c .before .before .before .before .before .before .before .before .before .loop .i + 1) (c .before .before .before .before .before .before .before .before .before .before .before .before .before .args .s .now)))) _ _ _ (c .before .before .before .read-entry .ensures) (c .before .entry .given .1)
 
 four : (c : Turn) → c .before .before .before .before .before .before .before .before .before .loop .i + 4 ≤ c .before .before .before .before .before .find .result
 four c = adding-four (c .before .before .before .before .before .before .before .before .before .loop .inv .1) (c .before .before .before .before .before .before .before .before .loop-test .taken) (c .before .before .before .before .before .before .if1 .left) _ (c .before .before .before .before .before .find .ensures .0) (term c .0) (term c .1)

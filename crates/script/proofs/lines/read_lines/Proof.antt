@@ -3,6 +3,7 @@ use Prim.Native.Nat.{ℕ, _+_, _-_, _*_, _≤_}
 use mathlib.Core.Path.{_≡_, refl, sym, ap, _∙_}
 use native.Mathlib.Omega.{arith}
 use lib.ListN.{length, drop}
+use Rattle.monomial.specs.Layout.{fields}
 use Rattle.script.proofs.LinesLaws.{Left, left-start, left-more, Reading, reading-start, reading-end, reading-cut, reading-bad, reading-more, line-room, line-none, line-some, long-words, long-coefs, long-starts, long-ops}
 use borrow.Author.Needs.{needs}
 use Rattle.script.proofs.lines.read_lines.Statement.{statement}
@@ -13,14 +14,14 @@ use Rattle.script.proofs.line.read_line.Reads as read-line-reads
 use Rattle.text.proofs.bytes.find.Reads as find-reads
 
 abbrev Inv-loop : tie.InvT-loop
-Inv-loop s from order n words₀ coefs₀ starts₀ ops₀ c₀ at₀ words coefs starts ops c at = Left (length s) c at (length words₀) (length coefs₀) (length starts₀) (length ops₀) × Reading order n from s words₀ coefs₀ starts₀ ops₀ words coefs starts ops c at
+Inv-loop s from order weights n words₀ coefs₀ starts₀ ops₀ c₀ at₀ words coefs starts ops c at = Left (fields order weights) (length s) c at (length words₀) (length coefs₀) (length starts₀) (length ops₀) × Reading order (fields order weights) n from s words₀ coefs₀ starts₀ ops₀ words coefs starts ops c at
 
 abbrev μ-loop : tie.MeasureT-loop
-μ-loop s from order n words₀ coefs₀ starts₀ ops₀ c₀ at₀ words coefs starts ops c at = length s - at
+μ-loop s from order weights n words₀ coefs₀ starts₀ ops₀ c₀ at₀ words coefs starts ops c at = length s - at
 
 -- src/lines.rt:32:5
 loop-holds : tie.Need-loop-holds Inv-loop μ-loop
-loop-holds c = (left-start (c .before .before .before .before .before .pre), reading-start _ _ _ _ _ _ _ _ (c .before .before .before .before .before .pre .within))
+loop-holds c = (left-start (c .before .before .before .before .before .pre), reading-start _ _ _ _ _ _ _ _ _ (c .before .before .before .before .before .pre .within))
 
 -- src/lines.rt:33:13
 find-requires : tie.Need-find-requires Inv-loop μ-loop
@@ -72,19 +73,19 @@ enum-told c = search needs
 
 -- src/lines.rt:40:13
 same-length-5 : tie.Need-same-length-5 Inv-loop μ-loop
-same-length-5 c = c .before .before .before .before .before .before .before .before .before .before .read-line .kept .1 .1 .1 .0 ∙ long-words (c .before .before .before .before .before .before .before .before .before .before .before .before .before .before .before .before .before .before .before .loop .inv .1)
+same-length-5 c = c .before .before .before .before .before .before .before .before .before .before .read-line .kept .1 .1 .1 .1 .0 ∙ long-words (c .before .before .before .before .before .before .before .before .before .before .before .before .before .before .before .before .before .before .before .loop .inv .1)
 
 -- src/lines.rt:40:13
 same-length-6 : tie.Need-same-length-6 Inv-loop μ-loop
-same-length-6 c = c .before .before .before .before .before .before .before .before .before .before .read-line .kept .1 .1 .1 .1 .0 ∙ long-coefs (c .before .before .before .before .before .before .before .before .before .before .before .before .before .before .before .before .before .before .before .loop .inv .1)
+same-length-6 c = c .before .before .before .before .before .before .before .before .before .before .read-line .kept .1 .1 .1 .1 .1 .0 ∙ long-coefs (c .before .before .before .before .before .before .before .before .before .before .before .before .before .before .before .before .before .before .before .loop .inv .1)
 
 -- src/lines.rt:40:13
 same-length-7 : tie.Need-same-length-7 Inv-loop μ-loop
-same-length-7 c = c .before .before .before .before .before .before .before .before .before .before .read-line .kept .1 .1 .1 .1 .1 .0 ∙ long-starts (c .before .before .before .before .before .before .before .before .before .before .before .before .before .before .before .before .before .before .before .loop .inv .1)
+same-length-7 c = c .before .before .before .before .before .before .before .before .before .before .read-line .kept .1 .1 .1 .1 .1 .1 .0 ∙ long-starts (c .before .before .before .before .before .before .before .before .before .before .before .before .before .before .before .before .before .before .before .loop .inv .1)
 
 -- src/lines.rt:40:13
 same-length-8 : tie.Need-same-length-8 Inv-loop μ-loop
-same-length-8 c = c .before .before .before .before .before .before .before .before .before .before .read-line .kept .1 .1 .1 .1 .1 .1 .0 ∙ long-ops (c .before .before .before .before .before .before .before .before .before .before .before .before .before .before .before .before .before .before .before .loop .inv .1)
+same-length-8 c = c .before .before .before .before .before .before .before .before .before .before .read-line .kept .1 .1 .1 .1 .1 .1 .1 .0 ∙ long-ops (c .before .before .before .before .before .before .before .before .before .before .before .before .before .before .before .before .before .before .before .loop .inv .1)
 
 -- src/lines.rt:40:13
 returns-2 : tie.Need-returns-2 Inv-loop μ-loop
