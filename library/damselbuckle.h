@@ -20,10 +20,14 @@
  *
  * Terms. A polynomial is an array of words (monomials) and an array of coefficients of the same length,
  * 1 to p - 1 each; its terms fall strictly in the order; no terms are the polynomial zero. A word has
- * the degree, the sum of the exponents, in bits 48 to 63, and six fields of eight bits below it, each
- * with an exponent from 0 to 127. Orders 1 and 2 have x1 in bits 40 to 47, x2 in bits 32 to 39, and so
- * on down; order 3 has x1 in bits 0 to 7, x2 in bits 8 to 15, and so on up. Fields of variables past the
- * n-th are 0.
+ * the degree, the sum of the exponents times their weights, in bits 48 to 63, and six fields of eight
+ * bits below it, each with an exponent from 0 to 127. Orders 1 and 2 have x1 in bits 40 to 47, x2 in bits
+ * 32 to 39, and so on down; order 3 has x1 in bits 0 to 7, x2 in bits 8 to 15, and so on up. Fields of
+ * variables past the n-th are 0.
+ *
+ * Weights. Each variable has a weight, 1 to 16; those of variables past the n-th are 1. Always six are
+ * lent, that of x1 first; DAMSELBUCKLE_ONES has six times 1. Order 1 compares without the degree, which
+ * stands in its words as well.
  */
 #ifndef DAMSELBUCKLE_H
 #define DAMSELBUCKLE_H
@@ -40,6 +44,10 @@ extern "C" {
 /* The largest prime, and the most variables. */
 #define DAMSELBUCKLE_LARGEST_PRIME 2147483647
 #define DAMSELBUCKLE_MOST_VARIABLES 6
+
+/* The weights that a call is lent, and the largest weight. */
+#define DAMSELBUCKLE_WEIGHTS 6
+#define DAMSELBUCKLE_LARGEST_WEIGHT 16
 
 /* Places of the bucket space and of the work space, for words and for coefficients. */
 #define DAMSELBUCKLE_BUCKET_PLACES 5460
@@ -63,8 +71,12 @@ extern "C" {
 /* ---- Orders */
 
 #define DAMSELBUCKLE_LP 1 /* lexicographic */
-#define DAMSELBUCKLE_DP_LEX 2 /* Dp: by degree, then lexicographic */
-#define DAMSELBUCKLE_DP_REV 3 /* dp: by degree, then reverse lexicographic */
+#define DAMSELBUCKLE_DP_LEX 2 /* Dp: by weighted degree, then lexicographic */
+#define DAMSELBUCKLE_DP_REV 3 /* dp: by weighted degree, then reverse lexicographic */
+
+/* ---- Weights of 1 */
+
+static const uint32_t DAMSELBUCKLE_ONES[DAMSELBUCKLE_WEIGHTS] = {1, 1, 1, 1, 1, 1};
 
 /* ---- Operations of a run, each the first number of a pair */
 
@@ -87,12 +99,16 @@ extern "C" {
  * first; a reduction goes on by reducing it by the same divisors, and the remainders follow one another.
  * example.c does so.
  *
- * The opening checks go in the order 1, 2, 3, 8, 9, then for each polynomial in turn the first place with
- * 4 or 5, then 6, and at last 7.
+ * The opening checks go in the order 1, 2, 3, 24, 8, 9, then for each polynomial in turn the first place
+ * with 4 or 5, then 6, and at last 7.
  *
- * The shape (8): words and coefficients, of the input and of the output, have equal lengths; the spaces
- * have the sizes above; the starts begin with 0, do not fall and end with the number of words; operations
- * are whole pairs, and not too many; the step limit is not too large; a reduction has a polynomial 0.
+ * 24 is judged over the weights that are lent, whatever their number; where none is wrong and there are not
+ * six, 8 is given.
+ *
+ * The shape (8): there are six weights; words and coefficients, of the input and of the output, have equal
+ * lengths; the spaces have the sizes above; the starts begin with 0, do not fall and end with the number
+ * of words; operations are whole pairs, and not too many; the step limit is not too large; a reduction has
+ * a polynomial 0.
  *
  * Room (10): a lead or a term of the remainder needs one free output place, a full sum one more than the
  * terms held, the block store all of its places, a listing DAMSELBUCKLE_LISTING_BYTES bytes.
@@ -107,11 +123,11 @@ extern "C" {
 
 /* made from refusals.txt by make_refusals: begin */
 /* What each call gives
- * run: 1, 2, 3, 4, 5, 6, 8, 9, 10, 11
- * reduce: 1, 2, 3, 4, 5, 6, 7, 8, 10, 11, 12, 13
- * write: 1, 2, 3, 4, 5, 6, 8, 10, 11
- * read: 1, 2, 3, 4, 5, 6, 8, 10, 14, 15, 16
- * print: 1, 3, 4, 5, 6, 17
+ * run: 1, 2, 3, 4, 5, 6, 8, 9, 10, 11, 24
+ * reduce: 1, 2, 3, 4, 5, 6, 7, 8, 10, 11, 12, 13, 24
+ * write: 1, 2, 3, 4, 5, 6, 8, 10, 11, 24
+ * read: 1, 2, 3, 4, 5, 6, 8, 10, 14, 15, 16, 24
+ * print: 1, 3, 4, 5, 6, 17, 24
  * listing: 10 */
 /* p is not a prime from 2 to 2,147,483,647. After it: all as it came. */
 #define DAMSELBUCKLE_NOT_PRIME 1
@@ -128,8 +144,8 @@ extern "C" {
 #define DAMSELBUCKLE_NOT_FALLING 6
 /* a divisor is zero. After it: all as it came. */
 #define DAMSELBUCKLE_ZERO_DIVISOR 7
-/* lengths, sizes, starts, number of operations or step limit are wrong, or a reduction has no
- * polynomial 0. After it: all as it came. */
+/* lengths, sizes, starts, number of weights or operations, or step limit are wrong, or a reduction
+ * has no polynomial 0. After it: all as it came. */
 #define DAMSELBUCKLE_BAD_SHAPE 8
 /* an operation is unknown, names a polynomial that is not there, or has a second number that is not
  * 0. After it: all as it came. */
@@ -151,6 +167,9 @@ extern "C" {
 #define DAMSELBUCKLE_BAD_BLOCK 16
 /* the script is not of the form. After it: the listing `refused 17 at 0`. */
 #define DAMSELBUCKLE_BAD_SCRIPT 17
+/* a weight is not 1 to 16, or is that of a variable past the n-th and not 1. After it: all as it
+ * came. */
+#define DAMSELBUCKLE_BAD_WEIGHT 24
 /* The text of a refusal, as above; that of 0 is `none`, and that of a number that no call gives `unknown`. */
 static inline const char *damselbuckle_refusal_text(uint64_t refusal)
 {
@@ -172,7 +191,7 @@ static inline const char *damselbuckle_refusal_text(uint64_t refusal)
     case DAMSELBUCKLE_ZERO_DIVISOR:
         return "a divisor is zero";
     case DAMSELBUCKLE_BAD_SHAPE:
-        return "lengths, sizes, starts, number of operations or step limit are wrong, or a reduction has no polynomial 0";
+        return "lengths, sizes, starts, number of weights or operations, or step limit are wrong, or a reduction has no polynomial 0";
     case DAMSELBUCKLE_BAD_OPERATION:
         return "an operation is unknown, names a polynomial that is not there, or has a second number that is not 0";
     case DAMSELBUCKLE_NO_OUTPUT:
@@ -191,6 +210,8 @@ static inline const char *damselbuckle_refusal_text(uint64_t refusal)
         return "a block's numbers or filler are not what writing would put there";
     case DAMSELBUCKLE_BAD_SCRIPT:
         return "the script is not of the form";
+    case DAMSELBUCKLE_BAD_WEIGHT:
+        return "a weight is not 1 to 16, or is that of a variable past the n-th and not 1";
     default:
         return "unknown";
     }
@@ -231,6 +252,7 @@ typedef struct damselbuckle_read_answer {
     uint64_t p; /* the prime */
     uint64_t order; /* the order's number */
     uint64_t n; /* the number of variables */
+    uint64_t weights; /* the weights less 1: of x1 in bits 0 to 3, of x2 in bits 4 to 7, and so on up */
     uint64_t terms; /* terms read */
 } damselbuckle_read_answer;
 
@@ -255,6 +277,7 @@ damselbuckle_run_answer damselbuckle_run(
     uint32_t p, /* a prime, at most DAMSELBUCKLE_LARGEST_PRIME */
     uint32_t order, /* 1, 2 or 3 */
     uint32_t n, /* the number of variables, 1 to DAMSELBUCKLE_MOST_VARIABLES */
+    const uint32_t *weights, size_t weights_len, /* the weights, x1's first: DAMSELBUCKLE_WEIGHTS */
     const uint64_t *words, size_t words_len, /* the words of all polynomials, one after the other */
     const uint32_t *coefs, size_t coefs_len, /* their coefficients; as many */
     const size_t *starts, size_t starts_len, /* polynomial k runs from start k to before start k + 1 */
@@ -280,6 +303,7 @@ damselbuckle_reduction_answer damselbuckle_reduce(
     uint32_t p, /* a prime, at most DAMSELBUCKLE_LARGEST_PRIME */
     uint32_t order, /* 1, 2 or 3 */
     uint32_t n, /* the number of variables, 1 to DAMSELBUCKLE_MOST_VARIABLES */
+    const uint32_t *weights, size_t weights_len, /* the weights, x1's first: DAMSELBUCKLE_WEIGHTS */
     const uint64_t *words, size_t words_len, /* the words of all polynomials, one after the other */
     const uint32_t *coefs, size_t coefs_len, /* their coefficients; as many */
     const size_t *starts, size_t starts_len, /* polynomial k runs from start k to before start k + 1 */
@@ -293,12 +317,13 @@ damselbuckle_reduction_answer damselbuckle_reduce(
 
 /*
  * Writes a polynomial to blocks, 41 terms to a block; zero is one block. Bytes past the
- * blocks are as they were. Refusals are judged in the order 1 to 3, 8, 4 to 6, 11, 10.
+ * blocks are as they were. Refusals are judged in the order 1 to 3, 24, 8, 4 to 6, 11, 10.
  */
 damselbuckle_write_answer damselbuckle_write_blocks(
     uint32_t p, /* a prime, at most DAMSELBUCKLE_LARGEST_PRIME */
     uint32_t order, /* 1, 2 or 3 */
     uint32_t n, /* the number of variables, 1 to DAMSELBUCKLE_MOST_VARIABLES */
+    const uint32_t *weights, size_t weights_len, /* the weights, x1's first: DAMSELBUCKLE_WEIGHTS */
     const uint64_t *words, size_t words_len, /* the polynomial's words, at most DAMSELBUCKLE_MOST_TERMS */
     const uint32_t *coefs, size_t coefs_len, /* its coefficients; as many */
     uint8_t *bytes, size_t bytes_len); /* where the blocks go; room for DAMSELBUCKLE_MOST_BLOCKS is always enough */
@@ -306,7 +331,7 @@ damselbuckle_write_answer damselbuckle_write_blocks(
 /*
  * Reads the polynomial that blocks hold. Accepted are exactly the bytes that writing a polynomial makes.
  * Places past its terms are as they were. Refusals are judged in the order 8, 14, 15 for all blocks, 16,
- * 1 to 6, 10.
+ * 1 to 3, 24, 4 to 6, 10.
  */
 damselbuckle_read_answer damselbuckle_read_blocks(
     const uint8_t *bytes, size_t bytes_len, /* the blocks, and nothing after them */

@@ -1,6 +1,6 @@
 /*
  * The library called from C: two reductions, one that is stopped and goes on, a run, blocks written and
- * read back, and a listing. `library/example` builds and runs it.
+ * read back, with weights of 1 and with others, and a listing. `library/example` builds and runs it.
  */
 #include "damselbuckle.h"
 
@@ -65,7 +65,8 @@ static damselbuckle_reduction_answer by_joint(
     starts[1] = count;
     starts[2] = count + 3;
     return damselbuckle_reduce(
-        &tally, P, DAMSELBUCKLE_DP_REV, 2, words, count + 3, coefs, count + 3, starts, 3, limit,
+        &tally, P, DAMSELBUCKLE_DP_REV, 2, DAMSELBUCKLE_ONES, DAMSELBUCKLE_WEIGHTS,
+        words, count + 3, coefs, count + 3, starts, 3, limit,
         bucket_words, DAMSELBUCKLE_BUCKET_PLACES, bucket_coefs, DAMSELBUCKLE_BUCKET_PLACES,
         work_words, DAMSELBUCKLE_WORK_PLACES, work_coefs, DAMSELBUCKLE_WORK_PLACES,
         out_words, PLACES, out_coefs, PLACES);
@@ -124,7 +125,8 @@ static size_t add_held(void)
 
     read_held(words, coefs, starts);
     answer = damselbuckle_run(
-        &tally, P, DAMSELBUCKLE_DP_REV, 2, words, starts[BUCKETS], coefs, starts[BUCKETS], starts, BUCKETS + 1,
+        &tally, P, DAMSELBUCKLE_DP_REV, 2, DAMSELBUCKLE_ONES, DAMSELBUCKLE_WEIGHTS,
+        words, starts[BUCKETS], coefs, starts[BUCKETS], starts, BUCKETS + 1,
         operations, sizeof operations / sizeof *operations,
         bucket_words, DAMSELBUCKLE_BUCKET_PLACES, bucket_coefs, DAMSELBUCKLE_BUCKET_PLACES,
         work_words, DAMSELBUCKLE_WORK_PLACES, work_coefs, DAMSELBUCKLE_WORK_PLACES,
@@ -176,7 +178,8 @@ static void run(void)
     words[0] = word(1, 0);
     words[1] = word(0, 1);
     answer = damselbuckle_run(
-        &tally, P, DAMSELBUCKLE_DP_REV, 2, words, 2, coefs, 2, starts, 2, operations, 8,
+        &tally, P, DAMSELBUCKLE_DP_REV, 2, DAMSELBUCKLE_ONES, DAMSELBUCKLE_WEIGHTS,
+        words, 2, coefs, 2, starts, 2, operations, 8,
         bucket_words, DAMSELBUCKLE_BUCKET_PLACES, bucket_coefs, DAMSELBUCKLE_BUCKET_PLACES,
         work_words, DAMSELBUCKLE_WORK_PLACES, work_coefs, DAMSELBUCKLE_WORK_PLACES,
         out_words, PLACES, out_coefs, PLACES);
@@ -184,7 +187,8 @@ static void run(void)
     print("  lead", out_words, out_coefs, 1);
     print("  sum", out_words + 1, out_coefs + 1, answer.places - 2); /* without its zero place */
     answer = damselbuckle_run(
-        &tally, P, DAMSELBUCKLE_DP_REV, 2, words, 2, coefs, 2, starts, 2, wrong, 2,
+        &tally, P, DAMSELBUCKLE_DP_REV, 2, DAMSELBUCKLE_ONES, DAMSELBUCKLE_WEIGHTS,
+        words, 2, coefs, 2, starts, 2, wrong, 2,
         bucket_words, DAMSELBUCKLE_BUCKET_PLACES, bucket_coefs, DAMSELBUCKLE_BUCKET_PLACES,
         work_words, DAMSELBUCKLE_WORK_PLACES, work_coefs, DAMSELBUCKLE_WORK_PLACES,
         out_words, PLACES, out_coefs, PLACES);
@@ -203,7 +207,8 @@ static void blocks(void)
 
     words[0] = word(1, 0);
     words[1] = word(0, 1);
-    written = damselbuckle_write_blocks(P, DAMSELBUCKLE_DP_REV, 2, words, 2, coefs, 2, bytes, sizeof bytes);
+    written = damselbuckle_write_blocks(
+        P, DAMSELBUCKLE_DP_REV, 2, DAMSELBUCKLE_ONES, DAMSELBUCKLE_WEIGHTS, words, 2, coefs, 2, bytes, sizeof bytes);
     printf("written: refusal %d, %d block\n", (int)written.refusal, (int)written.blocks);
     read = damselbuckle_read_blocks(bytes, sizeof bytes, out_words, PLACES, out_coefs, PLACES);
     printf("read: refusal %d, p %d, order %d, n %d\n", (int)read.refusal, (int)read.p, (int)read.order, (int)read.n);
@@ -211,6 +216,30 @@ static void blocks(void)
     bytes[20] ^= 1;
     read = damselbuckle_read_blocks(bytes, sizeof bytes, out_words, PLACES, out_coefs, PLACES);
     refused("read with a byte changed", read.refusal, read.finished);
+}
+
+/*
+ * With a weight of 2 for x2 the degree of x2 is 2, and x2 is larger than x1. Writes x2 + x1 to a block and
+ * reads it back; with weights of 1 its first word has a wrong degree.
+ */
+static void slide(void)
+{
+    static uint8_t bytes[DAMSELBUCKLE_BLOCK_BYTES];
+    const uint32_t weights[DAMSELBUCKLE_WEIGHTS] = {1, 2, 1, 1, 1, 1};
+    const uint64_t words[2] = {UINT64_C(2) << 48 | 1 << 8, UINT64_C(1) << 48 | 1};
+    const uint32_t coefs[2] = {1, 1};
+    damselbuckle_write_answer written;
+    damselbuckle_read_answer read;
+
+    written = damselbuckle_write_blocks(
+        P, DAMSELBUCKLE_DP_REV, 2, weights, DAMSELBUCKLE_WEIGHTS, words, 2, coefs, 2, bytes, sizeof bytes);
+    printf("weighted: refusal %d, %d block\n", (int)written.refusal, (int)written.blocks);
+    read = damselbuckle_read_blocks(bytes, sizeof bytes, out_words, PLACES, out_coefs, PLACES);
+    printf("  weights %d and %d\n", (int)(read.weights & 15) + 1, (int)(read.weights >> 4 & 15) + 1);
+    print("  polynomial", out_words, out_coefs, read.terms);
+    written = damselbuckle_write_blocks(
+        P, DAMSELBUCKLE_DP_REV, 2, DAMSELBUCKLE_ONES, DAMSELBUCKLE_WEIGHTS, words, 2, coefs, 2, bytes, sizeof bytes);
+    refused("  with weights of 1", written.refusal, written.finished);
 }
 
 static void listing(void)
@@ -234,6 +263,7 @@ int main(void)
     go_on();
     run();
     blocks();
+    slide();
     listing();
     return 0;
 }

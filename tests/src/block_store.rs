@@ -1,58 +1,35 @@
-//! The block store (document 01, "Blocks" and "Refusals by cause"; document 02, "Larger primes"): the
-//! blocks of a polynomial, and what writing and reading give. A refusal is its number.
-use crate::limits::{
-    BLOCK_BYTES, BLOCK_TERMS, LARGEST_PRIME, MOST_BLOCKS, MOST_TERMS, MOST_VARIABLES,
-};
+//! The block store (document 01, "Blocks" and "Refusals by cause"; document 02, "Larger primes" and "Weighted
+//! degrees"): the blocks of a polynomial, and what writing and reading give. A refusal is its number.
+use crate::call::Numbers;
+use crate::limits::{BLOCK_BYTES, BLOCK_TERMS, MOST_BLOCKS, MOST_TERMS};
 use crate::monomial::Order;
 use crate::polynomial;
-use crate::residue;
 
 const HEADER: usize = 16;
-const ZEROS: usize = 12;
+const WEIGHTS: usize = 12;
+const ZERO: usize = 15;
 const PLACE: usize = 12;
 const CHECK: usize = BLOCK_BYTES - 4;
-
-#[derive(Clone, Copy, Debug, Default, PartialEq, Eq)]
-pub struct Setting {
-    pub p: u32,
-    pub order: u32,
-    pub n: u32,
-}
 
 /// A polynomial as it is lent, or as it is read.
 #[derive(Clone, Debug, Default, PartialEq, Eq)]
 pub struct Polynomial {
-    pub setting: Setting,
+    pub numbers: Numbers,
     pub words: Vec<u64>,
     pub coefs: Vec<u32>,
-}
-
-impl Setting {
-    /// The order, where there is none of the refusals 1 to 3.
-    fn opened(self) -> Result<Order, u64> {
-        if self.p > LARGEST_PRIME || !residue::is_prime(self.p) {
-            return Err(1);
-        }
-        let with_number = |order: &Order| order.number() == self.order;
-        let order = Order::ALL.into_iter().find(with_number).ok_or(2u64)?;
-        match (1..=MOST_VARIABLES).contains(&(self.n as usize)) {
-            true => Ok(order),
-            false => Err(3),
-        }
-    }
 }
 
 impl Polynomial {
     /// The refusal 4, 5 or 6.
     fn judged(&self, order: Order) -> Result<(), u64> {
-        let Setting { p, n, .. } = self.setting;
+        let Numbers { p, n, .. } = self.numbers;
         match polynomial::refusal(order, n as usize, p, &self.words, &self.coefs) {
             0 => Ok(()),
             number => Err(number.into()),
         }
     }
 
-    /// The blocks.
+    /// The blocks, where there are six weights from 1 to 16: two of them in a byte, the first in its low half.
     pub fn blocks(&self) -> Vec<u8> {
         let terms: Vec<(u64, u32)> = self.words.iter().copied().zip(self.coefs.clone()).collect();
         let mut parts: Vec<&[(u64, u32)]> = terms.chunks(BLOCK_TERMS).collect();
@@ -61,12 +38,15 @@ impl Polynomial {
         }
         let mut bytes = Vec::new();
         for (number, part) in parts.iter().enumerate() {
-            let Setting { p, order, n } = self.setting;
+            let Numbers { p, order, n, .. } = self.numbers;
             let [low, lower, upper, high] = p.to_le_bytes();
             let numbers = [number, parts.len(), part.len()];
             let mut block: Vec<u8> = Vec::new();
             block.extend(numbers.iter().flat_map(|&x| (x as u16).to_le_bytes()));
-            block.extend([low, lower, order as u8, n as u8, upper, high, 0, 0, 0, 0]);
+            block.extend([low, lower, order as u8, n as u8, upper, high]);
+            let halves = self.numbers.weights.chunks(2);
+            block.extend(halves.map(|two| (two[0] - 1 + 16 * (two[1] - 1)) as u8));
+            block.push(0);
             for (word, coef) in part.iter() {
                 block.extend(word.to_le_bytes());
                 block.extend(coef.to_le_bytes());
@@ -80,7 +60,7 @@ impl Polynomial {
 
     /// The blocks, with room for so many bytes.
     pub fn write(&self, room: usize) -> Result<Vec<u8>, u64> {
-        let order = self.setting.opened()?;
+        let (order, _) = self.numbers.opened()?;
         if self.words.len() != self.coefs.len() {
             return Err(8);
         }
@@ -116,14 +96,16 @@ fn number(bytes: &[u8], k: usize) -> u64 {
 }
 
 /// What a block's header says: number, count, terms here, and the setting.
-fn header(block: &[u8]) -> (u64, u64, usize, Setting) {
+fn header(block: &[u8]) -> (u64, u64, usize, Numbers) {
     let two = |at: usize| number(&block[at..], 2);
-    let setting = Setting {
+    let weights = block[WEIGHTS..ZERO].iter().flat_map(|b| [b % 16, b / 16]);
+    let numbers = Numbers {
         p: (two(6) + (two(10) << 16)) as u32,
         order: block[8].into(),
         n: block[9].into(),
+        weights: weights.map(|half| 1 + u32::from(half)).collect(),
     };
-    (two(0), two(2), two(4) as usize, setting)
+    (two(0), two(2), two(4) as usize, numbers)
 }
 
 /// The polynomial that the bytes hold, with so many places for words and for coefficients.
@@ -142,7 +124,7 @@ pub fn read(bytes: &[u8], words: usize, coefs: usize) -> Result<Polynomial, u64>
         return Err(15);
     }
     let polynomial = formed(&blocks)?;
-    let order = polynomial.setting.opened()?;
+    let (order, _) = polynomial.numbers.opened()?;
     polynomial.judged(order)?;
     match polynomial.words.len() <= words {
         true => Ok(polynomial),
@@ -153,11 +135,11 @@ pub fn read(bytes: &[u8], words: usize, coefs: usize) -> Result<Polynomial, u64>
 /// The polynomial of blocks whose checks are right, or refusal 16.
 fn formed(blocks: &[&[u8]]) -> Result<Polynomial, u64> {
     let mut polynomial = Polynomial {
-        setting: header(blocks[0]).3,
+        numbers: header(blocks[0]).3,
         ..Polynomial::default()
     };
     for (k, block) in blocks.iter().enumerate() {
-        let (number_here, count, here, setting) = header(block);
+        let (number_here, count, here, numbers) = header(block);
         let last = k + 1 == blocks.len();
         let allowed = match (last, k) {
             (true, 0) => 0..=BLOCK_TERMS,
@@ -166,9 +148,9 @@ fn formed(blocks: &[&[u8]]) -> Result<Polynomial, u64> {
         };
         let said = number_here == k as u64
             && count == blocks.len() as u64
-            && setting == polynomial.setting
+            && numbers == polynomial.numbers
             && allowed.contains(&here)
-            && block[ZEROS..HEADER].iter().all(|&byte| byte == 0);
+            && block[ZERO] == 0;
         if !said {
             return Err(16);
         }

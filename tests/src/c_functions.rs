@@ -25,6 +25,8 @@ extern "C" {
     fn probe_check(
         order: u32,
         n: u32,
+        weights: *const u32,
+        weights_len: usize,
         p: u32,
         words: *const u64,
         words_len: usize,
@@ -34,6 +36,8 @@ extern "C" {
     fn probe_check_on(
         order: u32,
         n: u32,
+        weights: *const u32,
+        weights_len: usize,
         p: u32,
         words: *const u64,
         words_len: usize,
@@ -129,21 +133,26 @@ pub fn is_prime(p: u32) -> bool {
     unsafe { probe_is_prime(p) }
 }
 
-/// The refusal of a polynomial, 0 for none, by order, number of variables and modulus.
+/// Order, number of variables, weights and modulus.
+pub type Numbers<'a> = (u32, u32, &'a [u32], u32);
+
+/// The refusal of a polynomial, 0 for none.
 #[inline(always)]
-pub fn check((order, n, p): (u32, u32, u32), (words, coefs): (&[u64], &[u32])) -> u32 {
+pub fn check((order, n, weights, p): Numbers, (words, coefs): (&[u64], &[u32])) -> u32 {
+    let (v, v_len) = (weights.as_ptr(), weights.len());
     let ((w, w_len), (c, c_len)) = lent(words, coefs);
     // SAFETY: it takes any numbers, stays within the slices and keeps no reference.
-    unsafe { probe_check(order, n, p, w, w_len, c, c_len) }
+    unsafe { probe_check(order, n, v, v_len, p, w, w_len, c, c_len) }
 }
 
 /// Carries the check of a polynomial on over a further piece of it.
 #[inline(always)]
 pub fn check_on(
-    (order, n, p): (u32, u32, u32),
+    (order, n, weights, p): Numbers,
     (words, coefs): (&[u64], &[u32]),
     from: Checking,
 ) -> Checking {
+    let (v, v_len) = (weights.as_ptr(), weights.len());
     let ((w, w_len), (c, c_len)) = lent(words, coefs);
     let Checking {
         stop,
@@ -152,7 +161,11 @@ pub fn check_on(
         last,
     } = from;
     // SAFETY: as above.
-    unsafe { probe_check_on(order, n, p, w, w_len, c, c_len, stop, late, seen, last) }
+    unsafe {
+        probe_check_on(
+            order, n, v, v_len, p, w, w_len, c, c_len, stop, late, seen, last,
+        )
+    }
 }
 
 /// Two slices as C takes them.

@@ -1,7 +1,7 @@
 //! What runs and reductions share: the polynomials that they read, what they are lent, what they
-//! answer, and the opening checks of these (document 01, "Terms" and "Refusals by cause").
-use crate::limits::{BUCKET_PLACES, LARGEST_PRIME, MOST_VARIABLES, WORK_PLACES};
-use crate::monomial::Order;
+//! answer, and the opening checks of these (document 01, "Terms" and "Refusals by cause"; document 02, 24).
+use crate::limits::{BUCKET_PLACES, LARGEST_PRIME, LARGEST_WEIGHT, MOST_VARIABLES, WORK_PLACES};
+use crate::monomial::{Order, FIELDS};
 use crate::polynomial::{lent, part, refusal, starts_good, Term};
 use crate::residue;
 
@@ -11,12 +11,52 @@ pub type Space = (Vec<u64>, Vec<u32>);
 /// An order, a number of variables and a prime.
 pub type Setting = (Order, usize, u32);
 
-/// Polynomials as they are lent, with their setting: any numbers and any lists.
+/// A prime, an order, a number of variables and weights as they are lent: any numbers, and any number of
+/// weights.
 #[derive(Clone, Debug, Default, PartialEq, Eq)]
-pub struct Given {
+pub struct Numbers {
     pub p: u32,
     pub order: u32,
     pub n: u32,
+    pub weights: Vec<u32>,
+}
+
+impl Numbers {
+    pub fn new((order, n, p): Setting) -> Self {
+        Numbers {
+            p,
+            order: order.number(),
+            n: n as u32,
+            weights: order.weights.to_vec(),
+        }
+    }
+
+    /// The order and the number of variables; or the refusal 1, 2, 3 or 24, or 8 for another number of
+    /// weights than six.
+    pub fn opened(&self) -> Result<(Order, usize), u64> {
+        if self.p > LARGEST_PRIME || !residue::is_prime(self.p) {
+            return Err(1);
+        }
+        let order = Order::ALL.into_iter().find(|o| o.number() == self.order);
+        let order = order.ok_or(2_u64)?;
+        let n = self.n as usize;
+        if !(1..=MOST_VARIABLES).contains(&n) {
+            return Err(3);
+        }
+        let (own, beyond) = self.weights.split_at(n.min(self.weights.len()));
+        let good = own.iter().all(|w| (1..=LARGEST_WEIGHT).contains(w));
+        if !good || beyond.iter().any(|&w| w != 1) {
+            return Err(24);
+        }
+        let six = <[u32; FIELDS]>::try_from(&self.weights[..]);
+        Ok((order.weighted(six.map_err(|_| 8_u64)?), n))
+    }
+}
+
+/// Polynomials as they are lent, with their numbers: any lists.
+#[derive(Clone, Debug, Default, PartialEq, Eq)]
+pub struct Given {
+    pub numbers: Numbers,
     pub words: Vec<u64>,
     pub coefs: Vec<u32>,
     pub starts: Vec<usize>,
@@ -60,11 +100,10 @@ impl Answer {
 
 impl Given {
     /// These polynomials, each behind the one before.
-    pub fn new((order, n, p): Setting, polynomials: &[Vec<Term>]) -> Self {
+    pub fn new(setting: Setting, polynomials: &[Vec<Term>]) -> Self {
+        let order = setting.0;
         let mut given = Given {
-            p,
-            order: order.number(),
-            n: n as u32,
+            numbers: Numbers::new(setting),
             starts: vec![0],
             ..Given::default()
         };
@@ -75,19 +114,6 @@ impl Given {
             given.starts.push(given.words.len());
         }
         given
-    }
-
-    /// The order and the number of variables, or the refusal 1, 2 or 3.
-    pub fn setting(&self) -> Result<(Order, usize), u64> {
-        if self.p > LARGEST_PRIME || !residue::is_prime(self.p) {
-            return Err(1);
-        }
-        let order = Order::ALL.into_iter().find(|o| o.number() == self.order);
-        let order = order.ok_or(2_u64)?;
-        match self.n as usize {
-            n @ 1..=MOST_VARIABLES => Ok((order, n)),
-            _ => Err(3),
-        }
     }
 
     /// Whether the lists and the spaces have the right lengths, and the starts are good.
@@ -110,7 +136,7 @@ impl Given {
     fn polynomial(&self, order: Order, n: usize, k: usize) -> Result<Vec<Term>, u64> {
         let places = part(&self.starts, k, self.words.len()).expect("the starts are good");
         let (words, coefs) = (&self.words[places.clone()], &self.coefs[places]);
-        match refusal(order, n, self.p, words, coefs) {
+        match refusal(order, n, self.numbers.p, words, coefs) {
             0 => Ok(terms(order, n, words, coefs)),
             number => Err(u64::from(number)),
         }

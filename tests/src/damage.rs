@@ -1,8 +1,8 @@
 //! Damage to the polynomials and loans of a run or a reduction, so that an opening check refuses it.
-use crate::call::{Given, Loan};
+use crate::call::{Given, Loan, Numbers};
 use crate::generate::up_to;
-use crate::limits::MOST_TERMS;
-use crate::monomial::{Order, FIELDS};
+use crate::limits::{LARGEST_WEIGHT, MOST_TERMS};
+use crate::monomial::{first_six, Order, FIELDS};
 use crate::random::Random;
 
 /// What is damaged.
@@ -11,6 +11,8 @@ pub enum Damage {
     Prime,
     Order,
     Variables,
+    Weight,
+    WeightNumber,
     InputLengths,
     OutputLengths,
     BucketSpace,
@@ -25,10 +27,12 @@ pub enum Damage {
 const FAR: [usize; 5] = [usize::MAX, usize::MAX - 1, 1 << 63, 1 << 32, (1 << 32) + 1];
 
 impl Damage {
-    pub const ALL: [Damage; 11] = [
+    pub const ALL: [Damage; 13] = [
         Damage::Prime,
         Damage::Order,
         Damage::Variables,
+        Damage::Weight,
+        Damage::WeightNumber,
         Damage::InputLengths,
         Damage::OutputLengths,
         Damage::BucketSpace,
@@ -48,7 +52,9 @@ impl Damage {
             Damage::Prime => 1,
             Damage::Order => 2,
             Damage::Variables => 3,
-            Damage::InputLengths
+            Damage::Weight => 24,
+            Damage::WeightNumber
+            | Damage::InputLengths
             | Damage::OutputLengths
             | Damage::BucketSpace
             | Damage::WorkSpace
@@ -62,9 +68,11 @@ impl Damage {
     /// Does the damage. Terms are damaged only where there are any.
     pub fn on(self, random: &mut Random, given: &mut Given, loan: &mut Loan) {
         match self {
-            Damage::Prime => given.p = no_prime(random),
-            Damage::Order => given.order = random.pick(&[0, 4, 5, 257, 1 << 31, u32::MAX]),
-            Damage::Variables => given.n = random.pick(&[0, 7, 8, 255, 258, 1 << 16, u32::MAX]),
+            Damage::Prime => given.numbers.p = no_prime(random),
+            Damage::Order => given.numbers.order = no_order(random),
+            Damage::Variables => given.numbers.n = no_variables(random),
+            Damage::Weight => weight(random, &mut given.numbers),
+            Damage::WeightNumber => weight_number(random, &mut given.numbers),
             Damage::InputLengths => unequal(random, &mut given.words, &mut given.coefs),
             Damage::OutputLengths => unequal(random, &mut loan.output.0, &mut loan.output.1),
             Damage::BucketSpace => resize(random, &mut loan.space.0, &mut loan.space.1),
@@ -74,6 +82,54 @@ impl Damage {
             Damage::Word => word(random, given),
             Damage::Fall => fall(random, given),
         }
+    }
+}
+
+fn no_order(random: &mut Random) -> u32 {
+    random.pick(&[0, 4, 5, 257, 1 << 31, u32::MAX])
+}
+
+fn no_variables(random: &mut Random) -> u32 {
+    random.pick(&[0, 7, 8, 255, 258, 1 << 16, u32::MAX])
+}
+
+/// Whether the weight at a place, from 0, is outside its range.
+fn is_bad(n: u32, place: usize, weight: u32) -> bool {
+    match place < n as usize {
+        true => !(1..=LARGEST_WEIGHT).contains(&weight),
+        false => weight != 1,
+    }
+}
+
+/// Puts a weight outside its range in the place of one, often at an end or just beyond n. Where there are no
+/// weights it is put there alone.
+pub fn weight(random: &mut Random, numbers: &mut Numbers) {
+    let n = numbers.n;
+    if numbers.weights.is_empty() {
+        numbers.weights.push(0);
+        return;
+    }
+    let last = numbers.weights.len() - 1;
+    let place = match random.below(3) {
+        0 => random.pick(&[0, last]),
+        1 => last.min(n as usize),
+        _ => up_to(random, last),
+    };
+    let any = random.word() as u32;
+    let weight = random.pick(&[0, 17, u32::MAX, 2, 16, 257, 1 << 16, any]);
+    let weight = if is_bad(n, place, weight) { weight } else { 0 };
+    numbers.weights[place] = weight;
+}
+
+/// Has some weights too many, each 1, or too few. One that is outside its range stays.
+pub fn weight_number(random: &mut Random, numbers: &mut Numbers) {
+    let (n, weights) = (numbers.n, &mut numbers.weights);
+    let less = weights.len() - up_to(random, weights.len());
+    let good_end = weights.iter().enumerate().rev();
+    let good_end = good_end.take_while(|&(k, &w)| !is_bad(n, k, w)).count();
+    match (less.min(good_end), random.below(2)) {
+        (0, _) | (_, 0) => weights.extend(vec![1; 7 - weights.len().min(6)]),
+        (less, _) => weights.truncate(weights.len() - less),
     }
 }
 
@@ -171,8 +227,9 @@ fn coefficient(random: &mut Random, given: &mut Given) {
         return;
     }
     let k = place(random, given.coefs.len());
-    let over = given.p.saturating_add(random.below(1 << 16) as u32);
-    given.coefs[k] = random.pick(&[0, 0, given.p, given.p, over, u32::MAX]);
+    let p = given.numbers.p;
+    let over = p.saturating_add(random.below(1 << 16) as u32);
+    given.coefs[k] = random.pick(&[0, 0, p, p, over, u32::MAX]);
 }
 
 /// A place below the length, often the first or the last.
@@ -190,11 +247,14 @@ fn word(random: &mut Random, given: &mut Given) {
         return;
     }
     let k = place(random, given.words.len());
-    let own = Order::ALL.into_iter().find(|o| o.number() == given.order);
-    let order = own.unwrap_or(Order::Lex);
+    let Numbers { n, ref weights, .. } = given.numbers;
+    let with_number = |o: &Order| o.number() == given.numbers.order;
+    let own = Order::ALL.into_iter().find(with_number);
+    let unweighted = own.unwrap_or(Order::LEX);
+    let order = unweighted.weighted(first_six(weights));
     let mut fields = order.fields(given.words[k]);
-    let beyond = (given.n as usize).min(FIELDS);
-    given.words[k] = match random.below(6) {
+    let beyond = (n as usize).min(FIELDS);
+    given.words[k] = match random.below(8) {
         // A field over 127, and the degree with it.
         0 => {
             fields[up_to(random, FIELDS - 1)] |= 128;
@@ -209,6 +269,8 @@ fn word(random: &mut Random, given: &mut Given) {
         2 => given.words[k].wrapping_add(1 << 48),
         3 => given.words[k].wrapping_sub(1 << 48),
         4 => u64::MAX - random.below(2),
+        // The sum of the exponents without weights.
+        5..=6 if unweighted.degree(&fields) != order.degree(&fields) => unweighted.word(&fields),
         _ => given.words[k] ^ 1 << random.below(64),
     };
 }

@@ -1,6 +1,6 @@
 //! Generated settings, terms and contents, for the tests that need any.
-use crate::limits::LARGEST_PRIME;
-use crate::monomial::{Order, FIELDS, LIMIT};
+use crate::limits::{LARGEST_PRIME, LARGEST_WEIGHT};
+use crate::monomial::{Order, FIELDS, LIMIT, ONES};
 use crate::polynomial::Term;
 use crate::random::Random;
 use crate::residue;
@@ -34,12 +34,31 @@ pub fn prime(random: &mut Random) -> u32 {
     (2..=most).rev().find(prime).expect("2 is prime")
 }
 
-/// An order, a number of variables and a prime: all 162 in turn.
+/// Weights in n variables: often all unlike, since like ones hide a weight at another's place; or the largest
+/// alone, or any, or 1 alone.
+pub fn weights(random: &mut Random, n: usize) -> [u32; FIELDS] {
+    let mut weights = match random.below(8) {
+        0..=3 => unlike(random),
+        4 => [LARGEST_WEIGHT; FIELDS],
+        5 => ONES.map(|_| 1 + random.below(LARGEST_WEIGHT.into()) as u32),
+        _ => ONES,
+    };
+    weights[n..].fill(1);
+    weights
+}
+
+/// Six weights that are all unlike.
+fn unlike(random: &mut Random) -> [u32; FIELDS] {
+    let mut all: Vec<u32> = (1..=LARGEST_WEIGHT).collect();
+    ONES.map(|_| all.swap_remove(random.below(all.len() as u64) as usize))
+}
+
+/// An order, a number of variables and a prime: all 162 in turn, with any weights.
 pub fn setting(case: u64) -> (Order, usize, u32) {
     let order = Order::ALL[(case % 3) as usize];
     let n = 1 + (case / 3 % FIELDS as u64) as usize;
     let p = PRIMES[(case / 18 % PRIMES.len() as u64) as usize];
-    (order, n, p)
+    (order.weighted(weights(&mut Random::new(case), n)), n, p)
 }
 
 /// A number below p, often one at an end, in the middle or near 2^16.

@@ -1,6 +1,6 @@
 //! The proved entries, through the library `damselbuckle`. They take any numbers and lists.
-use crate::block_store::{Polynomial, Setting};
-use crate::call::{Answer, Given, Loan, Space, Tally};
+use crate::block_store::Polynomial;
+use crate::call::{Answer, Given, Loan, Numbers, Space, Tally};
 use damselbuckle::raw;
 
 /// Does a run.
@@ -24,8 +24,12 @@ pub fn reduce(given: &Given, limit: u64, loan: &mut Loan) -> Answer {
 }
 
 fn polynomials(given: &Given) -> raw::Given<'_> {
-    let numbers = raw::Numbers::new(given.p, given.order, given.n);
+    let numbers = numbers(&given.numbers);
     raw::Given::new(numbers, &given.words, &given.coefs, &given.starts)
+}
+
+fn numbers(numbers: &Numbers) -> raw::Numbers<'_> {
+    raw::Numbers::new(numbers.p, numbers.order, numbers.n).weighted(&numbers.weights)
 }
 
 /// Lends all of a loan to a call.
@@ -57,9 +61,8 @@ fn places((words, coefs): &mut Space) -> raw::Places<'_> {
 /// Writes to the first bytes of the slice: the number of blocks, or the refusal. A refusal must carry
 /// count 0.
 pub fn write(polynomial: &Polynomial, bytes: &mut [u8]) -> Result<u64, u64> {
-    let Setting { p, order, n } = polynomial.setting;
     let (words, coefs) = (&polynomial.words, &polynomial.coefs);
-    let answer = raw::write_blocks(raw::Numbers::new(p, order, n), words, coefs, bytes);
+    let answer = raw::write_blocks(numbers(&polynomial.numbers), words, coefs, bytes);
     assert_eq!(answer.finished, 0);
     match answer.refusal {
         0 => Ok(answer.blocks),
@@ -68,17 +71,24 @@ pub fn write(polynomial: &Polynomial, bytes: &mut [u8]) -> Result<u64, u64> {
 }
 
 /// Reads to the first words and coefficients: the setting and the number of terms, or the refusal. A
-/// refusal must carry count 0.
-pub fn read(bytes: &[u8], words: &mut [u64], coefs: &mut [u32]) -> Result<(Setting, u64), u64> {
+/// refusal must carry 0 alone.
+pub fn read(bytes: &[u8], words: &mut [u64], coefs: &mut [u32]) -> Result<(Numbers, u64), u64> {
     let answer = raw::read_blocks(bytes, words, coefs);
-    assert_eq!(answer.finished, 0);
-    let setting = Setting {
+    if answer.refusal != 0 {
+        let nothing = raw::ReadAnswer {
+            refusal: answer.refusal,
+            ..raw::ReadAnswer::default()
+        };
+        assert_eq!(answer, nothing);
+        return Err(answer.refusal);
+    }
+    assert!(answer.finished == 0 && answer.weights >> 24 == 0);
+    let weight = |k: u32| 1 + (answer.weights >> (4 * k) & 15) as u32;
+    let numbers = Numbers {
         p: answer.p as u32,
         order: answer.order as u32,
         n: answer.n as u32,
+        weights: (0..6).map(weight).collect(),
     };
-    match answer.refusal {
-        0 => Ok((setting, answer.terms)),
-        refusal => Err(refusal),
-    }
+    Ok((numbers, answer.terms))
 }

@@ -7,6 +7,9 @@ pub const LARGEST_PRIME: u32 = 2_147_483_647;
 /// "n from 1 to 6"
 pub const MOST_VARIABLES: usize = 6;
 
+/// "Each variable gets a weight from 1 to 16"
+pub const LARGEST_WEIGHT: u32 = 16;
+
 /// "The bucket space has 5,460 places for words and for coefficients"
 pub const BUCKET_PLACES: usize = 5_460;
 

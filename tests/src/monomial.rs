@@ -1,5 +1,5 @@
-//! Monomials as exponent vectors, that of x1 first: the three orders, and the packed word
-//! (document 01, "Terms").
+//! Monomials as exponent vectors, that of x1 first: the three kinds of order, the weights, and the packed
+//! word (document 01, "Terms"; document 02, "Weighted degrees").
 use std::cmp::Ordering;
 
 /// The most variables that a word holds.
@@ -8,52 +8,88 @@ pub const FIELDS: usize = 6;
 /// The largest exponent.
 pub const LIMIT: u8 = 127;
 
+/// Six weights of 1.
+pub const ONES: [u32; FIELDS] = [1; FIELDS];
+
+/// The first six of any weights, with 1 for what is missing.
+pub fn first_six(weights: &[u32]) -> [u32; FIELDS] {
+    std::array::from_fn(|k| weights.get(k).copied().unwrap_or(1))
+}
+
 #[derive(Clone, Copy, Debug, PartialEq, Eq)]
-pub enum Order {
+pub enum Kind {
     Lex,
     DegLex,
     DegRevLex,
 }
 
+/// An order of monomials: its kind, and the weights of all six variables, that of x1 first.
+#[derive(Clone, Copy, Debug, PartialEq, Eq)]
+pub struct Order {
+    pub kind: Kind,
+    pub weights: [u32; FIELDS],
+}
+
 impl Order {
-    pub const ALL: [Order; 3] = [Order::Lex, Order::DegLex, Order::DegRevLex];
+    /// The orders with weights of 1.
+    pub const LEX: Order = Order::unweighted(Kind::Lex);
+    pub const DEG_LEX: Order = Order::unweighted(Kind::DegLex);
+    pub const DEG_REV_LEX: Order = Order::unweighted(Kind::DegRevLex);
+    pub const ALL: [Order; 3] = [Order::LEX, Order::DEG_LEX, Order::DEG_REV_LEX];
+
+    const fn unweighted(kind: Kind) -> Order {
+        let weights = ONES;
+        Order { kind, weights }
+    }
+
+    /// The order of the same kind with these weights.
+    pub const fn weighted(self, weights: [u32; FIELDS]) -> Order {
+        Order { weights, ..self }
+    }
 
     pub fn name(self) -> &'static str {
-        match self {
-            Order::Lex => "lp",
-            Order::DegLex => "Dp",
-            Order::DegRevLex => "dp",
+        match self.kind {
+            Kind::Lex => "lp",
+            Kind::DegLex => "Dp",
+            Kind::DegRevLex => "dp",
         }
     }
 
     pub fn number(self) -> u32 {
-        match self {
-            Order::Lex => 1,
-            Order::DegLex => 2,
-            Order::DegRevLex => 3,
+        match self.kind {
+            Kind::Lex => 1,
+            Kind::DegLex => 2,
+            Kind::DegRevLex => 3,
         }
+    }
+
+    /// The weighted degree: the sum of the exponents times their weights.
+    pub fn degree(self, a: &[u8]) -> u64 {
+        let weighted = a.iter().zip(self.weights);
+        weighted.map(|(&e, w)| u64::from(e) * u64::from(w)).sum()
     }
 
     /// How the monomial a stands to b, both in the same number of variables.
     pub fn compare(self, a: &[u8], b: &[u8]) -> Ordering {
-        match self {
-            Order::Lex => lex(a, b),
-            Order::DegLex => degree(a).cmp(&degree(b)).then(lex(a, b)),
-            Order::DegRevLex => degree(a).cmp(&degree(b)).then(rev_lex(a, b)),
+        let degrees = || self.degree(a).cmp(&self.degree(b));
+        match self.kind {
+            Kind::Lex => lex(a, b),
+            Kind::DegLex => degrees().then(lex(a, b)),
+            Kind::DegRevLex => degrees().then(rev_lex(a, b)),
         }
     }
 
     /// The lowest bit of the field of variable k, from 0.
     fn shift(self, k: usize) -> usize {
-        match self {
-            Order::Lex | Order::DegLex => 40 - 8 * k,
-            Order::DegRevLex => 8 * k,
+        match self.kind {
+            Kind::Lex | Kind::DegLex => 40 - 8 * k,
+            Kind::DegRevLex => 8 * k,
         }
     }
 
-    /// The word of these exponents.
+    /// The word of these exponents. Where the degree is over 16 bits, its lowest ones are there.
     pub fn word(self, exponents: &[u8]) -> u64 {
-        let mut word = degree(exponents) << 48;
+        let mut word = self.degree(exponents) << 48;
         for (k, &e) in exponents.iter().enumerate() {
             word |= u64::from(e) << self.shift(k);
         }
@@ -70,10 +106,10 @@ impl Order {
     pub fn compare_words(self, x: u64, y: u64) -> Ordering {
         let degree = (x >> 48).cmp(&(y >> 48));
         let (a, b) = (self.fields(x), self.fields(y));
-        match self {
-            Order::Lex => lex(&a, &b).then(degree),
-            Order::DegLex => degree.then(lex(&a, &b)),
-            Order::DegRevLex => degree.then(rev_lex(&a, &b)),
+        match self.kind {
+            Kind::Lex => lex(&a, &b).then(degree),
+            Kind::DegLex => degree.then(lex(&a, &b)),
+            Kind::DegRevLex => degree.then(rev_lex(&a, &b)),
         }
     }
 
@@ -82,13 +118,8 @@ impl Order {
         let fields = self.fields(word);
         fields.iter().all(|&e| e <= LIMIT)
             && fields[n..].iter().all(|&e| e == 0)
-            && word >> 48 == degree(&fields)
+            && word >> 48 == self.degree(&fields)
     }
-}
-
-/// The sum of the exponents.
-pub fn degree(a: &[u8]) -> u64 {
-    a.iter().map(|&e| u64::from(e)).sum()
 }
 
 /// The first variable with unlike exponents decides: the larger exponent makes the larger monomial.

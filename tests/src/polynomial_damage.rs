@@ -1,7 +1,7 @@
 //! Damage of one lent polynomial, for the tests of its opening check.
 use crate::call::Setting;
 use crate::generate::{polynomial, up_to};
-use crate::monomial::{Order, FIELDS};
+use crate::monomial::{Order, FIELDS, ONES};
 use crate::polynomial::lent;
 use crate::random::Random;
 
@@ -37,12 +37,15 @@ enum Fault {
     TopBit,
     Degree,
     Beyond,
+    /// The degree is the sum of the exponents without weights, or with the weights from the last to the first.
+    Unweighted,
+    Reversed,
     AnyBit,
     Any,
 }
 
 /// Their number and that of the settings have no common divisor, so that all come together.
-const DAMAGES: [Damage; 19] = [
+const DAMAGES: [Damage; 23] = [
     Damage::None,
     Damage::Coef(Number::Zero),
     Damage::Coef(Number::Prime),
@@ -51,6 +54,8 @@ const DAMAGES: [Damage; 19] = [
     Damage::Word(Fault::TopBit),
     Damage::Word(Fault::Degree),
     Damage::Word(Fault::Beyond),
+    Damage::Word(Fault::Unweighted),
+    Damage::Word(Fault::Reversed),
     Damage::Word(Fault::AnyBit),
     Damage::Word(Fault::Any),
     Damage::Equal,
@@ -61,6 +66,8 @@ const DAMAGES: [Damage; 19] = [
     Damage::CoefAndWord,
     Damage::EqualThenCoef,
     Damage::SwappedThenWord,
+    Damage::None,
+    Damage::None,
     Damage::None,
 ];
 
@@ -82,6 +89,12 @@ fn bad_word(random: &mut Random, order: Order, n: usize, word: u64, fault: Fault
             let mut fields = order.fields(word);
             fields[n.min(FIELDS - 1)] |= 1;
             order.word(&fields)
+        }
+        Fault::Unweighted => order.weighted(ONES).word(&order.fields(word)),
+        Fault::Reversed => {
+            let mut weights = order.weights;
+            weights.reverse();
+            order.weighted(weights).word(&order.fields(word))
         }
         Fault::AnyBit => word ^ 1 << random.below(64),
         Fault::Any => random.word(),
@@ -115,7 +128,7 @@ fn damage(
     let next = (at + 1).min(last);
     let later = at + up_to(random, last - at);
     let out_of_range = random.pick(&[Number::Zero, Number::Prime, Number::Max]);
-    let fault = random.pick(&[Fault::TopBit, Fault::Degree, Fault::Any]);
+    let fault = random.pick(&[Fault::TopBit, Fault::Degree, Fault::Unweighted, Fault::Any]);
     match kind {
         Damage::None => {}
         Damage::Coef(c) => coefs[at] = number(p, c),

@@ -16,7 +16,8 @@ pub const NO_EXPONENT: u32 = 256;
 /// The answer of `divides` on words that are not packed.
 pub const NOT_PACKED: u32 = 2;
 
-/// The answers of `check` and of `check_on` for over 6 variables or unequal lengths.
+/// The answers of `check` and of `check_on` for over 6 variables, unequal lengths, another number of weights
+/// than six or a weight over 16.
 pub const NOT_CHECKED: u32 = u32::MAX;
 pub const NOT_CHECKED_ON: Checking = Checking {
     stop: NOT_CHECKED,
@@ -32,10 +33,17 @@ pub const NO_COEF: u32 = u32::MAX;
 extern "C" {
     fn probe_key(order: u32, w: u64) -> u64;
     fn probe_compare(order: u32, x: u64, y: u64) -> u32;
-    fn probe_in_layout(order: u32, n: u32, w: u64) -> bool;
+    fn probe_in_layout(order: u32, n: u32, weights: *const u32, weights_len: usize, w: u64)
+        -> bool;
     fn probe_divides(y: u64, x: u64) -> u32;
     fn probe_quotient(x: u64, y: u64) -> u64;
-    fn probe_word_of(order: u32, exponents: *const u8, len: usize) -> u64;
+    fn probe_word_of(
+        order: u32,
+        weights: *const u32,
+        weights_len: usize,
+        exponents: *const u8,
+        len: usize,
+    ) -> u64;
     fn probe_exponent(order: u32, w: u64, i: u32) -> u32;
     fn probe_add(a: u32, b: u32, p: u32) -> u32;
     fn probe_negate(a: u32, p: u32) -> u32;
@@ -108,7 +116,12 @@ pub fn compare(order: Order, x: u64, y: u64) -> Ordering {
 }
 
 pub fn in_layout(order: Order, n: u32, w: u64) -> bool {
-    unsafe { probe_in_layout(order.number(), n, w) }
+    in_layout_by(order, n, &order.weights, w)
+}
+
+/// The same by any weights, in place of the order's own.
+pub fn in_layout_by(order: Order, n: u32, weights: &[u32], w: u64) -> bool {
+    unsafe { probe_in_layout(order.number(), n, weights.as_ptr(), weights.len(), w) }
 }
 
 pub fn divides(y: u64, x: u64) -> u32 {
@@ -120,7 +133,21 @@ pub fn quotient(x: u64, y: u64) -> u64 {
 }
 
 pub fn word_of(order: Order, exponents: &[u8]) -> u64 {
-    unsafe { probe_word_of(order.number(), exponents.as_ptr(), exponents.len()) }
+    word_by(order, &order.weights, exponents)
+}
+
+/// The same by any weights, in place of the order's own.
+pub fn word_by(order: Order, weights: &[u32], exponents: &[u8]) -> u64 {
+    let (v, v_len) = (weights.as_ptr(), weights.len());
+    unsafe {
+        probe_word_of(
+            order.number(),
+            v,
+            v_len,
+            exponents.as_ptr(),
+            exponents.len(),
+        )
+    }
 }
 
 pub fn exponent(order: Order, w: u64, i: u32) -> u32 {
@@ -171,17 +198,17 @@ fn ask_room(from: usize, len: usize, size: usize) {
 
 /// What word arithmetic asks: no field's top bit is set, and bit 63 is not.
 fn ask_packed(w: u64) {
-    let fields = Order::DegRevLex.fields(w);
+    let fields = Order::DEG_REV_LEX.fields(w);
     assert!(w >> 63 == 0 && fields.iter().all(|&e| e <= LIMIT));
 }
 
 pub fn check(order: Order, n: u32, p: u32, terms: Lent) -> u32 {
-    c_functions::check((order.number(), n, p), terms)
+    c_functions::check((order.number(), n, &order.weights, p), terms)
 }
 
 /// Carries the check of a polynomial on over a further piece of it.
 pub fn check_on(order: Order, n: u32, p: u32, terms: Lent, from: Checking) -> Checking {
-    c_functions::check_on((order.number(), n, p), terms, from)
+    c_functions::check_on((order.number(), n, &order.weights, p), terms, from)
 }
 
 pub fn starts_good(starts: &[usize], len: usize) -> bool {

@@ -15,8 +15,8 @@ pub fn reduce(given: &Given, limit: u64, loan: &mut Loan) -> Answer {
         Err(refusal) => return Answer::at_opening(refusal),
     };
     let mut reduction = Reduction {
-        p: given.p,
-        course: Course::new(order, given.p, &mut loan.output),
+        p: given.numbers.p,
+        course: Course::new(order, given.numbers.p, &mut loan.output),
         divisors: &polynomials[1..],
         leads: 0,
     };
@@ -32,7 +32,7 @@ pub fn reduce(given: &Given, limit: u64, loan: &mut Loan) -> Answer {
 
 /// The opening checks in their order: the order and the polynomials, or the refusal.
 fn opened(given: &Given, limit: u64, loan: &Loan) -> Result<(Order, Vec<Vec<Term>>), u64> {
-    let setting = given.setting()?;
+    let setting = given.numbers.opened()?;
     if !given.sizes_good(loan) || limit > MOST_STEPS || given.starts.len() < 2 {
         return Err(8);
     }

@@ -1,6 +1,6 @@
 //! Generated reductions that pass the opening checks, of many shapes. Each is tried with the model
 //! first, so that step limits and outputs can be aimed at where it ends.
-use crate::call::{Given, Setting};
+use crate::call::{Given, Numbers, Setting};
 use crate::generate::{coef, falling, monomial, monomials, up_to, with_coefs};
 use crate::lender;
 use crate::limits::{LARGEST_PRIME, MOST_STEPS, MOST_TERMS};
@@ -101,7 +101,7 @@ impl Reductions {
     /// A reduction in some setting.
     pub fn made(&self, random: &mut Random, case: u64, setting: Setting) -> Made {
         let (f, divisors) = match case % LARGE_EVERY {
-            0 => large(random, setting, self.pools.of(setting)),
+            0 => large(random, setting, &self.pools.of(setting)),
             _ => short(random, setting),
         };
         let limit = match case % LONG_EVERY {
@@ -288,10 +288,15 @@ pub fn anything(random: &mut Random) -> Given {
         (0..count).map(|_| any(random)).collect()
     };
     let (starts, coefs, words) = (words(4), words(5), words(5));
-    Given {
+    let six = (0..6).map(|_| number(random, &[1, 1, 1, 1, 1, 16]));
+    let numbers = Numbers {
+        weights: six.collect(),
         p: number(random, &[2, 7, 65_537, LARGEST_PRIME]),
         order: number(random, &[1, 2, 3]),
         n: number(random, &[1, 2, 6]),
+    };
+    Given {
+        numbers,
         words,
         coefs: coefs.into_iter().map(|c| c as u32).collect(),
         starts: starts.into_iter().map(|s| s as usize).collect(),

@@ -17,7 +17,7 @@ pub fn run(given: &Given, operations: &[usize], loan: &mut Loan) -> Answer {
         Ok(opened) => opened,
         Err(refusal) => return Answer::at_opening(refusal),
     };
-    let course = Course::new(order, given.p, &mut loan.output);
+    let course = Course::new(order, given.numbers.p, &mut loan.output);
     let mut run = Run {
         course,
         polynomials,
@@ -38,7 +38,7 @@ fn opened(
     operations: &[usize],
     loan: &Loan,
 ) -> Result<(Order, Vec<Vec<Term>>), u64> {
-    let (order, n) = given.setting()?;
+    let (order, n) = given.numbers.opened()?;
     let whole = operations.len() % 2 == 0 && operations.len() / 2 <= MOST_OPERATIONS;
     if !given.sizes_good(loan) || !whole {
         return Err(8);

@@ -1,10 +1,10 @@
 //! Generated runs that pass the opening checks. Each operation is made from what the buckets hold
 //! when it comes, as if there were output for all.
-use crate::call::{Given, Setting};
+use crate::call::{Given, Numbers, Setting};
 use crate::generate::{falling, monomial, negative, up_to, with_coefs};
 use crate::geobucket::Geobucket;
 use crate::limits::{LARGEST_PRIME, MOST_TERMS};
-use crate::monomial::{Order, LIMIT};
+use crate::monomial::{first_six, Order, LIMIT};
 use crate::operations::{Operation, Operations};
 use crate::polynomial::Term;
 use crate::pools::Pools;
@@ -65,7 +65,7 @@ impl Runs {
         let fills = case % FILL_EVERY == 2;
         let long = fills || case % LARGE_EVERY == 1;
         if case % LARGE_EVERY == 0 {
-            list.large(random, self.pools.of(setting));
+            list.large(random, &self.pools.of(setting));
         } else {
             // Operations of case 0 fill the buckets.
             let mut operations = Operations::new(random, u64::from(!fills), setting);
@@ -242,7 +242,9 @@ pub fn hostile_polynomials(random: &mut Random) -> Given {
     let len = up_to(random, 6);
     let coefs = (0..len).map(|_| random.below(u64::from(p) + 1) as u32);
     let coefs = coefs.map(|c| c.max(1)).collect();
-    let mut words: Vec<u64> = (0..len).map(|_| small_word(random, order)).collect();
+    let weights = hostile_weights(random);
+    let word = |random: &mut Random| small_word(random, order, &weights);
+    let mut words: Vec<u64> = (0..len).map(|_| word(random)).collect();
     if random.below(2) == 0 {
         words.sort_unstable_by(|x, y| y.cmp(x));
     }
@@ -251,22 +253,40 @@ pub fn hostile_polynomials(random: &mut Random) -> Given {
     if random.below(8) > 0 {
         starts.sort_unstable();
     }
-    Given {
+    let numbers = Numbers {
         p,
         order,
         n,
+        weights,
+    };
+    Given {
+        numbers,
         words,
         coefs,
         starts,
     }
 }
 
-/// A word of small exponents of x1 and x2, mostly of x1 alone.
-fn small_word(random: &mut Random, order: u32) -> u64 {
+/// Small weights, good or not: often one that is not 1, and sometimes another number of them than six.
+pub fn hostile_weights(random: &mut Random) -> Vec<u32> {
+    let len = random.pick(&[6, 6, 6, 6, 6, 6, 6, 5, 7, 0]);
+    let mut weights = vec![1; len];
+    for place in [0, 0, 1, 6] {
+        let weight = random.pick(&[1, 1, 1, 2, 2, 3, 16, 0, 17]);
+        if place < len && random.below(4) == 0 {
+            weights[place] = weight;
+        }
+    }
+    weights
+}
+
+/// A word of small exponents of x1 and x2, mostly of x1 alone, under the degree by these weights.
+fn small_word(random: &mut Random, order: u32, weights: &[u32]) -> u64 {
     let order = match order {
-        3 => Order::DegRevLex,
-        _ => Order::Lex,
+        3 => Order::DEG_REV_LEX,
+        _ => Order::LEX,
     };
+    let order = order.weighted(first_six(weights));
     let exponents = [
         random.below(9) as u8,
         random.below(9).saturating_sub(7) as u8,

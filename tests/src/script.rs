@@ -1,9 +1,9 @@
-//! Scripts and their listings (document 01, "Script"): a plain reader, the run of the second program,
-//! and the lines that it gives.
-use crate::call::{Given, Loan, Tally};
+//! Scripts and their listings (document 01, "Script"; document 02, "Weighted degrees"): a plain reader, the
+//! run of the second program, and the lines that it gives.
+use crate::call::{Given, Loan, Numbers, Tally};
 use crate::geobucket::most_comparisons;
 use crate::limits::{BUCKET_PLACES, MOST_TERMS, SCRIPT_BYTES, WORK_PLACES};
-use crate::monomial::{Order, FIELDS};
+use crate::monomial::{first_six, Order, FIELDS};
 use crate::run::{run, ADD, LEAD, SUM};
 
 /// The polynomials and the operations of a script, as a run takes them; nothing where it is not of the
@@ -13,14 +13,23 @@ pub fn read(script: &[u8]) -> Option<(Given, Vec<usize>)> {
         return None;
     }
     let body = script.strip_suffix(b"\n")?;
-    let mut lines = body.split(|&b| b == b'\n');
+    let mut lines = body.split(|&b| b == b'\n').peekable();
     let p = number(lines.next()?.strip_prefix(b"prime ")?)?;
     let order = order_named(lines.next()?.strip_prefix(b"order ")?)?;
     let n = number(lines.next()?.strip_prefix(b"vars ")?)?;
-    let mut given = Given {
+    let weights = match lines.next_if(|line| line.starts_with(b"weights")) {
+        Some(line) => read_weights(line, n)?,
+        None => Vec::new(),
+    };
+    let order = order.weighted(first_six(&weights));
+    let numbers = Numbers {
         p,
         order: order.number(),
         n,
+        weights: order.weights.to_vec(),
+    };
+    let mut given = Given {
+        numbers,
         starts: vec![0],
         ..Given::default()
     };
@@ -31,13 +40,23 @@ pub fn read(script: &[u8]) -> Option<(Given, Vec<usize>)> {
     Some((given, operations))
 }
 
+/// The n weights of a line.
+fn read_weights(line: &[u8], n: u32) -> Option<Vec<u32>> {
+    let mut fields = line.split(|&b| b == b' ');
+    if fields.next()? != b"weights" {
+        return None;
+    }
+    let weights: Vec<u32> = fields.map(number).collect::<Option<_>>()?;
+    (weights.len() == n as usize).then_some(weights)
+}
+
 /// The operation of a line, whose polynomial is put behind the others.
 fn read_line(line: &[u8], order: Order, given: &mut Given) -> Option<[usize; 2]> {
     let mut fields = line.split(|&b| b == b' ');
     Some(match fields.next()? {
         b"add" => {
             for field in fields {
-                let (word, coef) = read_term(field, order, given.n)?;
+                let (word, coef) = read_term(field, order, given.numbers.n)?;
                 given.words.push(word);
                 given.coefs.push(coef);
             }
@@ -131,11 +150,9 @@ fn shown(given: &Given, loan: &Loan, place: usize) -> String {
     if coef == 0 {
         return " zero".to_string();
     }
-    let order = Order::ALL[given.order as usize - 1];
+    let Numbers { order, n, .. } = given.numbers;
+    let order = Order::ALL[order as usize - 1];
     let fields = order.fields(loan.output.0[place]);
-    let exponents: Vec<String> = fields[..given.n as usize]
-        .iter()
-        .map(u8::to_string)
-        .collect();
+    let exponents: Vec<String> = fields[..n as usize].iter().map(u8::to_string).collect();
     format!(" {coef}:{}", exponents.join("."))
 }

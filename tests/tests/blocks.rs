@@ -1,12 +1,13 @@
 //! The proved block store against the second program: polynomials of many sizes written and read,
 //! blocks damaged in every byte, and every refusal.
-use second::block_store::{check, read as model_read, repair, Polynomial, Setting};
+use second::block_store::{check, read as model_read, repair, Polynomial};
+use second::call::Numbers;
 use second::cases;
-use second::damage::no_prime;
+use second::damage::{no_prime, weight, weight_number};
 use second::generate::{self, places, up_to};
 use second::library;
 use second::limits::{BLOCK_BYTES, BLOCK_TERMS, LARGEST_PRIME, MOST_BLOCKS, MOST_TERMS};
-use second::monomial::Order;
+use second::monomial::{Order, ONES};
 use second::polynomial::lent;
 use second::random::Random;
 use second::refusals::Refusals;
@@ -35,6 +36,7 @@ fn polynomial(random: &mut Random, terms: usize) -> Polynomial {
         true => 1 + random.below(6) as usize,
         false => 2 + random.below(5) as usize,
     };
+    let order = order.weighted(generate::weights(random, n));
     let p = generate::prime(random);
     let mut monomials = BTreeSet::new();
     while monomials.len() < terms {
@@ -42,13 +44,8 @@ fn polynomial(random: &mut Random, terms: usize) -> Polynomial {
     }
     let falling = generate::falling(order, monomials.into_iter().collect());
     let (words, coefs) = lent(order, &generate::with_coefs(random, p, falling));
-    let setting = Setting {
-        p,
-        order: order.number(),
-        n: n as u32,
-    };
     Polynomial {
-        setting,
+        numbers: Numbers::new((order, n, p)),
         words,
         coefs,
     }
@@ -84,7 +81,7 @@ fn read(random: &mut Random, bytes: &[u8], room: (usize, usize)) -> Result<Polyn
     let (mut words, mut coefs) = before.clone();
     let answer = library::read(bytes, &mut words, &mut coefs);
     let expected = model_read(bytes, room.0, room.1);
-    let numbers = |f: &Polynomial| (f.setting, f.words.len() as u64);
+    let numbers = |f: &Polynomial| (f.numbers.clone(), f.words.len() as u64);
     assert_eq!(answer, expected.as_ref().map(numbers).map_err(|&r| r));
     let none = Polynomial::default();
     let f = expected.as_ref().unwrap_or(&none);
@@ -123,11 +120,7 @@ fn written_and_read_back() {
 #[test]
 fn zero_is_one_block() {
     let zero = Polynomial {
-        setting: Setting {
-            p: 7,
-            order: 3,
-            n: 2,
-        },
+        numbers: Numbers::new((Order::DEG_REV_LEX, 2, 7)),
         ..Polynomial::default()
     };
     let blocks = write(&mut Random::new(1), &zero, BLOCK_BYTES).expect("zero is written");
@@ -141,9 +134,8 @@ fn zero_is_one_block() {
 #[test]
 fn larger_primes_in_a_header() {
     let header = |p| {
-        let setting = Setting { p, order: 1, n: 6 };
         let zero = Polynomial {
-            setting,
+            numbers: Numbers::new((Order::LEX, 6, p)),
             ..Polynomial::default()
         };
         let blocks = write(&mut Random::new(1), &zero, BLOCK_BYTES).expect("zero is written");
@@ -200,7 +192,7 @@ fn damaged_in_every_byte() {
     for terms in [MOST_TERMS - 1, MOST_TERMS] {
         answers.extend(damage_each_byte(random, terms, 29));
     }
-    let expected: BTreeSet<u64> = [0, 1, 2, 3, 4, 5, 6, 16].into();
+    let expected: BTreeSet<u64> = [0, 1, 2, 3, 4, 5, 6, 16, 24].into();
     assert_eq!(answers, expected);
 }
 
@@ -271,7 +263,7 @@ fn faults_of_the_order() {
         let four = at + 1 < terms && case % 3 == 0;
         if four {
             let later = at + 1 + random.below((terms - at - 1) as u64) as usize;
-            f.coefs[later] = random.pick(&[0, f.setting.p, u32::MAX]);
+            f.coefs[later] = random.pick(&[0, f.numbers.p, u32::MAX]);
         }
         let refusal = read(random, &f.blocks(), (terms, terms)).err();
         assert_eq!(refusal, Some(if four { 4 } else { 6 }), "place {at}");
@@ -288,6 +280,16 @@ fn changed(blocks: &[u8], number: usize, change: impl Fn(&mut [u8])) -> Vec<u8> 
     let block = &mut bytes[BLOCK_BYTES * number..BLOCK_BYTES * (number + 1)];
     change(block);
     repair(block);
+    bytes
+}
+
+/// These bytes, from a place on, in all blocks, with the checks put right.
+fn in_all(blocks: &[u8], at: usize, put: &[u8]) -> Vec<u8> {
+    let mut bytes = blocks.to_vec();
+    for block in bytes.chunks_mut(BLOCK_BYTES) {
+        block[at..at + put.len()].copy_from_slice(put);
+        repair(block);
+    }
     bytes
 }
 
@@ -314,7 +316,7 @@ fn sixteen() {
     assert!(read(random, &full, room).is_ok());
     let over = changed(&full, 99, |block| block[4] = 38);
     assert_eq!(read(random, &over, room), Err(16));
-    // A block in the place of another, and in the second block each byte of p and of filler.
+    // A block in the place of another, and in the second block each byte of p, of the weights and of filler.
     let mut swapped = two.clone();
     swapped.rotate_left(BLOCK_BYTES);
     assert_eq!(read(random, &swapped, room), Err(16));
@@ -333,14 +335,8 @@ fn sixteen() {
 
 /// Puts p into all blocks, with their checks put right.
 fn with_prime(blocks: &[u8], p: u32) -> Vec<u8> {
-    let [low, lower, upper, high] = p.to_le_bytes();
-    let mut bytes = blocks.to_vec();
-    for block in bytes.chunks_mut(BLOCK_BYTES) {
-        (block[6], block[7]) = (low, lower);
-        (block[10], block[11]) = (upper, high);
-        repair(block);
-    }
-    bytes
+    let (lower, upper) = (&p.to_le_bytes()[..2], &p.to_le_bytes()[2..]);
+    in_all(&in_all(blocks, 6, lower), 10, upper)
 }
 
 /// Another number for p in all blocks: a prime, a number that is none or is too large, or p with some bits
@@ -353,7 +349,7 @@ fn other_prime(random: &mut Random, p: u32) -> u32 {
     }
 }
 
-/// Changes a byte of the upper half of p in a later block, or a zero byte behind it in any.
+/// Changes a byte of the upper half of p in a later block, or a byte of the weights or the zero byte in any.
 fn upper_damaged(random: &mut Random, blocks: &[u8]) -> Vec<u8> {
     let later = 1 + up_to(random, blocks.len() / BLOCK_BYTES - 2);
     let bit = 1 << random.below(8);
@@ -365,7 +361,7 @@ fn upper_damaged(random: &mut Random, blocks: &[u8]) -> Vec<u8> {
 }
 
 /// The same p in all blocks: 1 where it is no prime up to the limit, and else what its coefficients ask.
-/// With a byte of the upper half changed in a later block, or a zero byte of any, 16 comes before 1.
+/// With a byte of the upper half changed in a later block, or a byte behind it in any, 16 comes before 1.
 #[test]
 fn another_prime_in_all_blocks() {
     let random = &mut Random::new(131);
@@ -373,7 +369,7 @@ fn another_prime_in_all_blocks() {
     for _ in 0..cases() / CASES_PER_CALL {
         let terms = BLOCK_TERMS + 1 + up_to(random, 60);
         let f = polynomial(random, terms);
-        let p = other_prime(random, f.setting.p);
+        let p = other_prime(random, f.numbers.p);
         let bytes = with_prime(&f.blocks(), p);
         let allowed = p <= LARGEST_PRIME && is_prime(p);
         let expected = match allowed {
@@ -395,6 +391,181 @@ fn another_prime_in_all_blocks() {
     assert!(over > least);
 }
 
+/// The weights by their bytes: x1 in the low half of byte 12, x2 in its high half, and so on.
+#[test]
+fn weights_in_a_header() {
+    for (n, weights, bytes) in [
+        (6, [1, 2, 3, 4, 5, 6], [0x10, 0x32, 0x54]),
+        (6, [6, 5, 4, 3, 2, 1], [0x45, 0x23, 0x01]),
+        (6, [16; 6], [0xff, 0xff, 0xff]),
+        (5, [16, 1, 2, 1, 9, 1], [0x0f, 0x01, 0x08]),
+        (2, [16, 9, 1, 1, 1, 1], [0x8f, 0, 0]),
+        (1, [2, 1, 1, 1, 1, 1], [0x01, 0, 0]),
+        (6, ONES, [0, 0, 0]),
+    ] {
+        let zero = Polynomial {
+            numbers: Numbers::new((Order::DEG_LEX.weighted(weights), n, 7)),
+            ..Polynomial::default()
+        };
+        let block = write(&mut Random::new(1), &zero, BLOCK_BYTES).expect("zero is written");
+        let header = [0, 0, 1, 0, 0, 0, 7, 0, 2, n as u8, 0, 0];
+        assert_eq!(block[..12], header);
+        assert_eq!((&block[12..15], block[15]), (&bytes[..], 0), "{weights:?}");
+        assert_eq!(read(&mut Random::new(2), &block, (0, 0)), Ok(zero));
+    }
+}
+
+/// x1 + x2 under dp with weights of 5 and 2, by its bytes: with the halves of byte 12 exchanged it has weights
+/// of 2 and 5, and its words are not of that layout; the polynomial zero is read with them.
+#[test]
+fn halves_of_a_byte() {
+    let random = &mut Random::new(1);
+    let setting = (Order::DEG_REV_LEX.weighted([5, 2, 1, 1, 1, 1]), 2, 7);
+    let f = Polynomial {
+        numbers: Numbers::new(setting),
+        words: vec![0x0005_0000_0000_0001, 0x0002_0000_0000_0100],
+        coefs: vec![1, 1],
+    };
+    let block = write(random, &f, BLOCK_BYTES).expect("it is written");
+    assert_eq!(block[12..16], [0x14, 0, 0, 0]);
+    assert_eq!(block[16..28], [1, 0, 0, 0, 0, 0, 5, 0, 1, 0, 0, 0]);
+    assert_eq!(read(random, &block, (2, 2)), Ok(f.clone()));
+    let exchanged = |block: &[u8]| changed(block, 0, |block| block[12] = 0x41);
+    assert_eq!(read(random, &exchanged(&block), (2, 2)), Err(5));
+    let zero = |weights| Polynomial {
+        numbers: Numbers::new((Order::DEG_REV_LEX.weighted(weights), 2, 7)),
+        ..Polynomial::default()
+    };
+    let block = zero([5, 2, 1, 1, 1, 1]).blocks();
+    let other = zero([2, 5, 1, 1, 1, 1]);
+    assert_eq!(read(random, &exchanged(&block), (0, 0)), Ok(other));
+}
+
+/// The weights that three bytes hold, written out.
+fn weights_of([a, b, c]: [u8; 3]) -> [u32; 6] {
+    [a & 15, a >> 4, b & 15, b >> 4, c & 15, c >> 4].map(|half| 1 + u32::from(half))
+}
+
+/// The bytes of other weights, mostly like these, or any.
+fn other_weights(random: &mut Random, own: [u8; 3]) -> [u8; 3] {
+    let mut bytes = own;
+    match random.below(3) {
+        0 => bytes = bytes.map(|_| random.word() as u8),
+        1 => bytes[up_to(random, 2)] ^= 1 << random.below(8),
+        _ => {
+            let byte = up_to(random, 2);
+            bytes[byte] = bytes[byte].rotate_left(4);
+        }
+    }
+    bytes
+}
+
+/// What other weights, the same in all blocks, may give: 24 where one beyond n is not 1; else 5 where a word
+/// has another degree by them, and 6 or nothing where none has.
+fn expected_of(f: &Polynomial, others: [u32; 6]) -> &'static [u64] {
+    let (order, n) = f.numbers.opened().expect("a setting");
+    let other = order.weighted(others);
+    let fits = |&w: &u64| other.degree(&order.fields(w)) == w >> 48;
+    match f.words.iter().all(fits) {
+        _ if others[n..].iter().any(|&w| w != 1) => &[24],
+        true => &[0, 6],
+        false => &[5],
+    }
+}
+
+/// Other weights in all blocks. In one block alone they give 16, and so does byte 15 where it is not 0 in all.
+#[test]
+fn other_weights_in_all_blocks() {
+    let random = &mut Random::new(137);
+    let mut met = Refusals::default();
+    for _ in 0..cases() / CASES_PER_CALL {
+        let terms = up_to(random, BLOCK_TERMS + 20);
+        let f = polynomial(random, terms);
+        let blocks = f.blocks();
+        let bytes = other_weights(random, blocks[12..15].try_into().expect("three"));
+        let others = weights_of(bytes);
+        let (room, all) = ((terms, terms), in_all(&blocks, 12, &bytes));
+        let refusal = read(random, &all, room).err().unwrap_or(0);
+        let expected = expected_of(&f, others);
+        assert!(expected.contains(&refusal), "{refusal} of {others:?}");
+        met.meet(refusal);
+        let form = in_all(&all, 15, &[1 << random.below(8)]);
+        assert_eq!(read(random, &form, room), Err(16));
+        if blocks.len() > BLOCK_BYTES && all != blocks {
+            let at = up_to(random, 1) * BLOCK_BYTES;
+            let mut mixed = blocks.clone();
+            mixed[at..at + BLOCK_BYTES].copy_from_slice(&all[at..at + BLOCK_BYTES]);
+            assert_eq!(read(random, &mixed, room), Err(16), "{others:?}");
+            met.meet(16);
+        }
+    }
+    println!("{met:?}");
+    let least = cases() / CASES_PER_REFUSAL;
+    assert!([0, 5, 16, 24].iter().all(|&number| met.of(number) > least));
+}
+
+/// Two blocks in two variables whose third weight is 2. In reading 24 comes after 8, 14, 15, 16, 1, 2 and 3, and
+/// before 4, 5, 6 and 10. With three variables that weight is good, and no word has x3.
+#[test]
+fn weights_beyond_n_in_their_turn() {
+    let random = &mut Random::new(139);
+    let terms = BLOCK_TERMS + 1;
+    let mut f = Polynomial::default();
+    while f.numbers.n != 2 || f.numbers.weights != ONES {
+        f = polynomial(random, terms);
+    }
+    let (all, room) = (in_all(&f.blocks(), 12, &[0, 1, 0]), (terms, terms));
+    for (room, refusal) in [(room, 24), ((0, 0), 24), ((0, 1), 8)] {
+        assert_eq!(read(random, &all, room).err(), Some(refusal));
+    }
+    let mut equal = all.clone();
+    equal.copy_within(16..24, 28); // the second word is the first
+    repair(&mut equal[..BLOCK_BYTES]);
+    let cut = &all[..all.len() - 1];
+    let mut unlike = all.clone();
+    unlike[BLOCK_BYTES + 12] ^= 1; // and the check is as it was
+    for (bytes, refusal) in [(cut, 14), (&unlike[..], 15), (&equal[..], 24)] {
+        assert_eq!(read(random, bytes, room).err(), Some(refusal));
+    }
+    for (at, put, refusal) in [
+        (6, &[254, 255][..], Some(1)),
+        (8, &[4], Some(2)),
+        (9, &[7], Some(3)),
+        (9, &[0], Some(3)),
+        (15, &[1], Some(16)),
+        (16, &[0; 8], Some(24)),
+        (24, &[0; 4], Some(24)),
+        (9, &[3], None),
+    ] {
+        let found = read(random, &in_all(&all, at, put), room).err();
+        assert_eq!(found, refusal, "byte {at}");
+    }
+}
+
+/// In writing 24, and then 8 for another number of weights, come before 4, 11 and 10.
+#[test]
+fn weights_before_terms_and_room() {
+    let random = &mut Random::new(140);
+    let mut f = polynomial(random, MOST_TERMS + 1);
+    f.coefs[0] = 0;
+    for (weights, refusal) in [
+        (vec![0; 6], 24),
+        (vec![0], 24),
+        (vec![1; 5], 8),
+        (vec![1; 7], 8),
+    ] {
+        f.numbers.weights = weights;
+        assert_eq!(
+            write(random, &f, 0).err(),
+            Some(refusal),
+            "{:?}",
+            f.numbers.weights
+        );
+    }
+    f.numbers.weights = vec![1; 6];
+    assert_eq!(write(random, &f, 0).err(), Some(4));
+}
+
 /// Every refusal of writing, alone and with later ones.
 #[test]
 fn refused_writing() {
@@ -408,14 +579,16 @@ fn refused_writing() {
         let mut f = polynomial(random, terms);
         for _ in 0..random.below(4) {
             let at = random.below(1 + terms as u64) as usize;
-            match random.below(8) {
-                0 => f.setting.p = no_prime(random),
-                1 => f.setting.order = random.pick(&[0, 4, u32::MAX]),
-                2 => f.setting.n = random.pick(&[0, 7, u32::MAX]),
+            match random.below(10) {
+                0 => f.numbers.p = no_prime(random),
+                1 => f.numbers.order = random.pick(&[0, 4, u32::MAX]),
+                2 => f.numbers.n = random.pick(&[0, 7, u32::MAX]),
                 3 => f.words.push(0),
-                4 if at < f.coefs.len() => f.coefs[at] = random.pick(&[0, f.setting.p, u32::MAX]),
+                4 if at < f.coefs.len() => f.coefs[at] = random.pick(&[0, f.numbers.p, u32::MAX]),
                 5 if at < terms => f.words[at] = random.word(),
                 6 if 1 < at && at < terms => f.words.swap(at, at - 1),
+                7 => weight(random, &mut f.numbers),
+                8 => weight_number(random, &mut f.numbers),
                 _ => f.coefs.truncate(at),
             }
         }

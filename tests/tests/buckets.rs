@@ -250,7 +250,7 @@ fn listing() {
         Operation::Take,
         Operation::Sum,
     ];
-    let mut both = Both::new(&mut Random::new(44), Order::DegRevLex, 7);
+    let mut both = Both::new(&mut Random::new(44), Order::DEG_REV_LEX, 7);
     let mut met = Met::default();
     for operation in operations {
         both.operate(&operation, &mut met, "listing");

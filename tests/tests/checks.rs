@@ -1,12 +1,12 @@
 //! The opening check of generated polynomials, good and damaged, against the model: of whole ones, and
 //! in pieces, cut at every place. The variable SECOND_CASES sets the size, as for the other generated
 //! tests.
-use second::c_functions::Checking;
+use second::c_functions::{self, Checking};
 use second::call::Setting;
 use second::cases;
 use second::checking::{carried, checked, verdict, START};
 use second::generate::{monomial, polynomial, setting, up_to};
-use second::monomial::{Order, FIELDS, LIMIT};
+use second::monomial::{Order, FIELDS, LIMIT, ONES};
 use second::polynomial::{lent, refusal};
 use second::polynomial_damage::damaged;
 use second::probe::{self, Lent};
@@ -195,7 +195,47 @@ fn checks() {
     }
 }
 
-/// Over 6 variables and unequal lengths are not checked; modulo 0 and 1 no coefficient is good.
+/// Weights that are not taken: of another number than six, and with one over 16.
+fn weights_not_taken(random: &mut Random, order: Order) -> [Vec<u32>; 3] {
+    let weights = order.weights.to_vec();
+    let longer = [&weights[..], &[1]].concat();
+    let shorter = weights[..up_to(random, FIELDS - 1)].to_vec();
+    let mut over = weights;
+    over[up_to(random, FIELDS - 1)] = random.pick(&[17, 257, 1 << 16, u32::MAX]);
+    [shorter, longer, over]
+}
+
+/// A word under the sum of its exponents without weights is not of the layout, but where that is its degree
+/// as well; nor is one under the sum with the weights from the last to the first.
+#[test]
+fn degrees_by_other_weights() {
+    let random = &mut Random::new(32);
+    let (mut unlike, mut like) = (0, 0);
+    for case in 0..cases() / 5 {
+        let (order, n, p) = setting(case);
+        let mut terms = lent(order, &polynomial(random, order, n, p, 10));
+        let Some(last) = terms.0.len().checked_sub(1) else {
+            continue;
+        };
+        let at = up_to(random, last);
+        let mut reversed = order.weights;
+        reversed.reverse();
+        let other = order.weighted(random.pick(&[ONES, reversed]));
+        let fields = order.fields(terms.0[at]);
+        terms.0[at] = other.word(&fields);
+        let differ = other.degree(&fields) != order.degree(&fields);
+        let expected = if differ { 5 } else { 0 };
+        let found = probe::check(order, n as u32, p, as_lent(&terms));
+        assert_eq!(found, expected, "case {case} {order:?} {terms:x?}");
+        unlike += u64::from(differ);
+        like += u64::from(!differ);
+    }
+    println!("degrees that differ: {unlike}, that are the same: {like}");
+    assert!(unlike > cases() / 20 && like > cases() / 50);
+}
+
+/// Over 6 variables, unequal lengths and weights that are not taken are not checked; modulo 0 and 1 no
+/// coefficient is good.
 #[test]
 fn checks_outside() {
     let random = &mut Random::new(25);
@@ -211,6 +251,10 @@ fn checks_outside() {
             assert_eq!(probe::check(order, n as u32, p, short), probe::NOT_CHECKED);
             let short = (&words[1..], &coefs[..]);
             assert_eq!(probe::check(order, n as u32, p, short), probe::NOT_CHECKED);
+        }
+        for weights in weights_not_taken(random, order) {
+            let numbers = (order.number(), n as u32, &weights[..], p);
+            assert_eq!(c_functions::check(numbers, poly), probe::NOT_CHECKED);
         }
         for p in [0, 1] {
             let expected = refusal(order, n, p, &words, &coefs);
@@ -267,8 +311,9 @@ fn cuts_by_hand() {
         seen,
         last,
     };
-    let of =
-        |words: &[u64], coefs: &[u32], from| carry((Order::DegRevLex, 2, 7), (words, coefs), from);
+    let of = |words: &[u64], coefs: &[u32], from| {
+        carry((Order::DEG_REV_LEX, 2, 7), (words, coefs), from)
+    };
     let x = of(&[W], &[3], START);
     assert_eq!(x, checking(0, 0, true, W));
     // After x1: nothing, 1, and x1 again.
@@ -387,7 +432,7 @@ fn any_numbers_carried_on() {
     met.whole();
 }
 
-/// Over 6 variables and unequal lengths are not checked, whatever comes in.
+/// Over 6 variables, unequal lengths and weights that are not taken are not checked, whatever comes in.
 #[test]
 fn pieces_outside() {
     let random = &mut Random::new(31);
@@ -398,6 +443,11 @@ fn pieces_outside() {
         let many = random.pick(&TOO_MANY);
         let found = probe::check_on(order, many, p, (&words, &coefs), from);
         assert_eq!(found, probe::NOT_CHECKED_ON);
+        for weights in weights_not_taken(random, order) {
+            let numbers = (order.number(), n as u32, &weights[..], p);
+            let found = c_functions::check_on(numbers, (&words, &coefs), from);
+            assert_eq!(found, probe::NOT_CHECKED_ON);
+        }
         if let Some((_, fewer)) = coefs.split_last() {
             for short in [(&words[..], fewer), (&words[1..], &coefs[..])] {
                 let found = carry((order, n, p), short, from);

@@ -2,9 +2,9 @@
 //! cases each group has.
 use second::cases;
 use second::damage::no_prime;
-use second::generate::{number_below, prime};
-use second::limits::LARGEST_PRIME;
-use second::monomial::{divides, product, quotient, Order, FIELDS, LIMIT};
+use second::generate::{number_below, prime, weights};
+use second::limits::{LARGEST_PRIME, LARGEST_WEIGHT};
+use second::monomial::{divides, product, quotient, Order, FIELDS, LIMIT, ONES};
 use second::probe;
 use second::random::Random;
 use second::residue;
@@ -39,10 +39,17 @@ fn variables(random: &mut Random) -> usize {
     1 + random.below(FIELDS as u64) as usize
 }
 
-/// A word of the layout, one with some bits flipped, any fields under their sum, or any word.
-fn word(random: &mut Random) -> u64 {
+/// An order with weights in n variables.
+fn order(random: &mut Random, n: usize) -> Order {
+    random.pick(&Order::ALL).weighted(weights(random, n))
+}
+
+/// A word of the layout by some weights, one with some bits flipped, any fields under their sum, or any
+/// word.
+fn word(random: &mut Random, weights: [u32; FIELDS]) -> u64 {
     let n = variables(random);
-    let order = random.pick(&Order::ALL);
+    let weights = random.pick(&[weights, weights, ONES]);
+    let order = random.pick(&Order::ALL).weighted(weights);
     let mut word = order.word(&monomial(random, n));
     match random.below(5) {
         0 => {}
@@ -62,7 +69,7 @@ fn words_of_exponents_and_back() {
     let random = &mut Random::new(1);
     for _ in 0..cases() {
         let n = variables(random);
-        let order = random.pick(&Order::ALL);
+        let order = order(random, n);
         let m = monomial(random, n);
         let w = order.word(&m);
         assert_eq!(probe::word_of(order, &m), w, "{order:?} {m:?}");
@@ -79,7 +86,7 @@ fn exponents_outside_the_layout() {
     let random = &mut Random::new(2);
     for _ in 0..cases() {
         let n = variables(random);
-        let order = random.pick(&Order::ALL);
+        let order = order(random, n);
         let mut m = monomial(random, n);
         let k = random.below(n as u64) as usize;
         m[k] = 128 + random.below(128) as u8;
@@ -88,6 +95,9 @@ fn exponents_outside_the_layout() {
         assert!(!probe::in_layout(order, n as u32, w), "{order:?} {m:?}");
         let long = vec![1; FIELDS + 1 + random.below(4) as usize];
         assert_eq!(probe::word_of(order, &long), probe::REFUSED);
+        // Weights up to 17 make words.
+        let order = order.weighted(ONES.map(|_| random.below(18) as u32));
+        assert_eq!(probe::word_of(order, &m), order.word(&m), "{order:?} {m:?}");
         assert_eq!(probe::exponent(order, w, 6), probe::NO_EXPONENT);
     }
 }
@@ -96,8 +106,12 @@ fn exponents_outside_the_layout() {
 fn layout_of_any_word() {
     let random = &mut Random::new(3);
     for _ in 0..cases() {
-        let w = word(random);
-        for order in Order::ALL {
+        // Any weights up to 16, beyond n as well, and 0 too.
+        let any = ONES.map(|_| random.below(1 + u64::from(LARGEST_WEIGHT)) as u32);
+        let good = weights(random, FIELDS);
+        let weights = random.pick(&[any, good, good]);
+        let w = word(random, weights);
+        for order in Order::ALL.map(|order| order.weighted(weights)) {
             for n in 0..=FIELDS {
                 let found = probe::in_layout(order, n as u32, w);
                 assert_eq!(found, order.in_layout(n, w), "{order:?} {n} {w:016x}");
@@ -110,6 +124,90 @@ fn layout_of_any_word() {
     }
 }
 
+/// Another number of weights than six makes no word and is no layout, nor does a weight over 17, or over 16.
+#[test]
+fn weights_that_are_not_taken() {
+    let random = &mut Random::new(12);
+    for _ in 0..cases() / 10 {
+        let n = variables(random);
+        let order = order(random, n);
+        let m = monomial(random, n);
+        let w = order.word(&m);
+        for len in (0..9).filter(|&len| len != FIELDS) {
+            let mut weights = order.weights.to_vec();
+            weights.resize(len, 1);
+            assert_eq!(probe::word_by(order, &weights, &m), probe::REFUSED);
+            assert!(!probe::in_layout_by(order, n as u32, &weights, w));
+        }
+        let mut weights = order.weights;
+        let over = random.pick(&[17, 18, 256, 257, 1 << 16, u32::MAX]);
+        weights[random.below(6) as usize] = over;
+        let (taken, order) = (over == 17, order.weighted(weights));
+        let word = order.word(&m);
+        assert!(!probe::in_layout(order, n as u32, w));
+        assert!(!probe::in_layout(order, n as u32, word));
+        let expected = if taken { word } else { probe::REFUSED };
+        assert_eq!(probe::word_of(order, &m), expected, "{weights:?} {m:?}");
+    }
+}
+
+/// Words with weights by hand, in six variables and in two; the largest degree is 6·16·127 = 12,192.
+#[test]
+fn known_words_with_weights() {
+    let orders = |weights| Order::ALL.map(|order: Order| order.weighted(weights));
+    let m = [1, 2, 0, 3, 0, 127];
+    let words = [
+        // 1·1 + 2·2 + 4·3 + 6·127 = 779
+        (
+            [1, 2, 3, 4, 5, 6],
+            [0x030b_0102_0003_007f, 0x030b_7f00_0300_0201],
+        ),
+        // 6·1 + 5·2 + 3·3 + 1·127 = 152
+        (
+            [6, 5, 4, 3, 2, 1],
+            [0x0098_0102_0003_007f, 0x0098_7f00_0300_0201],
+        ),
+        ([1; 6], [0x0085_0102_0003_007f, 0x0085_7f00_0300_0201]),
+    ];
+    for (weights, [down, up]) in words {
+        for (order, word) in orders(weights).into_iter().zip([down, down, up]) {
+            assert_eq!((order.word(&m), probe::word_of(order, &m)), (word, word));
+            assert!(probe::in_layout(order, 6, word));
+            let others = words.map(|other| other.0).into_iter();
+            for other in others.filter(|&other| other != weights) {
+                assert!(!probe::in_layout(order.weighted(other), 6, word));
+            }
+        }
+    }
+    for order in orders([16; 6]) {
+        let largest = 0x2fa0_7f7f_7f7f_7f7f;
+        assert_eq!(probe::word_of(order, &[127; 6]), largest);
+        assert!(probe::in_layout(order, 6, largest));
+        assert!(!probe::in_layout(order, 6, largest - (1 << 48)));
+    }
+}
+
+/// x2, of weight 2, is larger than x1 and like x1² in degree, but for lp; x1 is larger than x2^5 there.
+#[test]
+fn known_comparisons_with_weights() {
+    let weights = [1, 2, 1, 1, 1, 1];
+    let compare = |order: Order, a: [u8; 3], b: [u8; 3]| {
+        let order = order.weighted(weights);
+        let found = probe::compare(order, order.word(&a), order.word(&b));
+        assert_eq!(order.compare(&a, &b), found);
+        found
+    };
+    for order in [Order::DEG_LEX, Order::DEG_REV_LEX] {
+        assert!(compare(order, [0, 1, 0], [1, 0, 0]).is_gt());
+        assert!(compare(order, [2, 0, 0], [0, 1, 0]).is_gt());
+        assert!(compare(order, [0, 2, 0], [3, 0, 0]).is_gt());
+    }
+    // Of degree 2 in both: x1·x3 and x2.
+    assert!(compare(Order::DEG_LEX, [1, 0, 1], [0, 1, 0]).is_gt());
+    assert!(compare(Order::DEG_REV_LEX, [1, 0, 1], [0, 1, 0]).is_lt());
+    assert!(compare(Order::LEX, [1, 0, 0], [0, 5, 0]).is_gt());
+}
+
 #[test]
 fn comparisons_of_monomials() {
     let random = &mut Random::new(4);
@@ -117,7 +215,8 @@ fn comparisons_of_monomials() {
         let n = variables(random);
         let a = monomial(random, n);
         let b = near(random, &a);
-        for order in Order::ALL {
+        let weights = weights(random, n);
+        for order in Order::ALL.map(|order| order.weighted(weights)) {
             let (x, y) = (order.word(&a), order.word(&b));
             let expected = order.compare(&a, &b);
             assert_eq!(
@@ -136,13 +235,14 @@ fn comparisons_of_monomials() {
 fn orders_are_total() {
     let random = &mut Random::new(5);
     for _ in 0..cases() {
-        let x = word(random);
+        let weights = weights(random, FIELDS);
+        let x = word(random, weights);
         let y = if random.below(8) == 0 {
             x
         } else {
-            word(random)
+            word(random, weights)
         };
-        let z = word(random);
+        let z = word(random, weights);
         for order in Order::ALL {
             let compare = |a, b| probe::compare(order, a, b);
             assert_eq!(compare(x, x), Ordering::Equal);
@@ -168,7 +268,7 @@ fn quotients_and_products_of_monomials() {
     let random = &mut Random::new(6);
     for _ in 0..cases() {
         let n = variables(random);
-        let order = random.pick(&Order::ALL);
+        let order = order(random, n);
         let a = monomial(random, n);
         let b = near(random, &a);
         let (x, y) = (order.word(&a), order.word(&b));
@@ -195,9 +295,9 @@ fn quotients_and_products_of_monomials() {
 fn arithmetic_of_any_words() {
     let random = &mut Random::new(7);
     for _ in 0..cases() {
-        let x = word(random);
-        let y = word(random);
-        let (a, b) = (Order::DegRevLex.fields(x), Order::DegRevLex.fields(y));
+        let weights = weights(random, FIELDS);
+        let (x, y) = (word(random, weights), word(random, weights));
+        let (a, b) = (Order::DEG_REV_LEX.fields(x), Order::DEG_REV_LEX.fields(y));
         let packed = |w: u64, m: [u8; FIELDS]| w >> 63 == 0 && m.iter().all(|&e| e <= LIMIT);
         if packed(x, a) && packed(y, b) {
             assert_eq!(

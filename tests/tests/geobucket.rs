@@ -16,7 +16,7 @@ use std::collections::BTreeMap;
 
 /// The prime and the order of the examples, which have two variables.
 const P: u32 = 7;
-const DP: Order = Order::DegRevLex;
+const DP: Order = Order::DEG_REV_LEX;
 
 /// One of so many cases is a list of operations.
 const CASES_PER_LIST: u64 = 50;

@@ -4,7 +4,7 @@
 use second::call::{terms, Answer, Given, Loan, Setting, Space, Tally};
 use second::cases;
 use second::damage::Damage;
-use second::generate::up_to;
+use second::generate::{up_to, weights};
 use second::geobucket::most_comparisons;
 use second::lender::{assert_same, Lender};
 use second::library;
@@ -27,7 +27,7 @@ const CASES_PER_REDUCTION: u64 = 2;
 const CASES_PER_KIND: u64 = 500;
 
 /// The opening refusals in their order, but 4, 5 and 6, which come by polynomial and place.
-const BEFORE_TERMS: [u64; 4] = [1, 2, 3, 8];
+const BEFORE_TERMS: [u64; 5] = [1, 2, 3, 24, 8];
 const TERMS: [u64; 3] = [4, 5, 6];
 
 /// How often each pair of kinds of damage is done.
@@ -40,7 +40,7 @@ const MOST_FOUND: u64 = 300;
 const ENOUGH: usize = 10;
 
 /// The setting of the known results.
-const KNOWN: Setting = (Order::DegRevLex, 2, 7);
+const KNOWN: Setting = (Order::DEG_REV_LEX, 2, 7);
 
 /// What the reductions met.
 #[derive(Debug, Default)]
@@ -397,7 +397,9 @@ fn damage_in_pairs() {
         for second in ReductionDamage::all() {
             for time in 0..EACH_PAIR {
                 let about = format!("{first:?} and {second:?}, time {time}");
-                let (mut given, mut limit) = (good(Order::ALL[time % 3], 2 + time % 5), 3);
+                let n = 2 + time % 5;
+                let order = Order::ALL[time % 3].weighted(weights(random, n));
+                let (mut given, mut limit) = (good(order, n), 3);
                 let mut loan = lender.lend(random, ENOUGH);
                 first.on(random, &mut given, &mut limit, &mut loan);
                 // The same kind twice may undo itself.
@@ -501,13 +503,7 @@ fn expect_known(
     remainder: Numbers,
     tally: [u64; 4],
 ) -> Vec<(u64, u32)> {
-    let mut given = Given {
-        p: 7,
-        order: 3,
-        n: 2,
-        starts: vec![0],
-        ..Given::default()
-    };
+    let mut given = Given::new(KNOWN, &[]);
     for &(word, coef) in polynomials.concat().iter() {
         given.words.push(word);
         given.coefs.push(coef);

@@ -3,7 +3,7 @@
 use second::call::{Answer, Given, Loan, Setting, Tally};
 use second::cases;
 use second::damage::Damage;
-use second::generate::up_to;
+use second::generate::{up_to, weights};
 use second::geobucket::most_comparisons;
 use second::lender::{assert_same, Lender};
 use second::library;
@@ -24,7 +24,7 @@ const CASES_PER_RUN: u64 = 2;
 const CASES_PER_REFUSAL: u64 = 1_000;
 
 /// The opening refusals in their order. The last three come by polynomial and place.
-const OPENING: [u64; 5] = [1, 2, 3, 8, 9];
+const OPENING: [u64; 6] = [1, 2, 3, 24, 8, 9];
 
 /// How often each pair of kinds of damage is done.
 const EACH_PAIR: usize = 30;
@@ -165,8 +165,9 @@ fn damage_in_pairs() {
         for second in RunDamage::all() {
             for time in 0..EACH_PAIR {
                 let about = format!("{first:?} and {second:?}, time {time}");
-                let order = Order::ALL[time % 3];
-                let (mut given, mut operations) = listing_in(order, 2 + time % 5);
+                let n = 2 + time % 5;
+                let order = Order::ALL[time % 3].weighted(weights(random, n));
+                let (mut given, mut operations) = listing_in(order, n);
                 let mut loan = lender.lend(random, ENOUGH);
                 first.on(random, &mut given, &mut operations, &mut loan);
                 // The same kind twice may undo itself.
@@ -228,7 +229,7 @@ fn listing() {
     let random = &mut Random::new(63);
     let loan = Lender::new(random).lend(random, ENOUGH);
     let before = loan.output.clone();
-    let run = listing_in(Order::DegRevLex, 2);
+    let run = listing_in(Order::DEG_REV_LEX, 2);
     let (answer, left) = both(&run, loan, "listing");
     let expected = Answer {
         refusal: 0,
@@ -236,7 +237,7 @@ fn listing() {
         places: 5,
     };
     assert_eq!(answer, expected);
-    let output = [[1, 1], [0, 2], [1, 0], [0, 1]].map(|m| Order::DegRevLex.word(&m));
+    let output = [[1, 1], [0, 2], [1, 0], [0, 1]].map(|m| Order::DEG_REV_LEX.word(&m));
     assert_eq!(left.output.0[..4], output);
     assert_eq!(left.output.1[..5], [1, 1, 1, 1, 0]);
     assert_eq!(left.output.0[4..], [&[0], &before.0[5..]].concat());
@@ -257,9 +258,9 @@ fn listing() {
 fn places_of_a_sum() {
     let random = &mut Random::new(64);
     let mut lender = Lender::new(random);
-    let polynomials = listing_polynomials(Order::DegRevLex, 2);
+    let polynomials = listing_polynomials(Order::DEG_REV_LEX, 2);
     let pairs = [[ADD, 0], [ADD, 1], [SUM, 0]];
-    let run = run_of((Order::DegRevLex, 2, 7), &polynomials, &pairs);
+    let run = run_of((Order::DEG_REV_LEX, 2, 7), &polynomials, &pairs);
     for output in 0..9 {
         let loan = lender.lend(random, output);
         let (answer, left) = both(&run, loan, &format!("{output} places"));
@@ -282,7 +283,7 @@ fn no_polynomials() {
     let random = &mut Random::new(65);
     let mut lender = Lender::new(random);
     let ask = |pairs: &[Pair], starts: &[usize]| {
-        let mut run = run_of((Order::Lex, 1, 2), &[], pairs);
+        let mut run = run_of((Order::LEX, 1, 2), &[], pairs);
         run.0.starts = starts.to_vec();
         run
     };
@@ -355,7 +356,7 @@ fn order_in_terms() {
     let mut lender = Lender::new(random);
     // Two polynomials of two terms each, the same ones.
     let f = vec![(vec![2, 0], 1), (vec![0, 1], 1)];
-    let good = Given::new((Order::DegRevLex, 2, 7), &[f.clone(), f]);
+    let good = Given::new((Order::DEG_REV_LEX, 2, 7), &[f.clone(), f]);
     let rise = (good.words[1], good.words[0]);
     for (coefs, words, falls, expected) in [
         (&[][..], &[][..], [true, true], 0),
@@ -394,7 +395,7 @@ fn order_in_terms() {
 fn most_operations() {
     let random = &mut Random::new(68);
     let mut lender = Lender::new(random);
-    let mut run = run_of((Order::DegLex, 3, 101), &[Vec::new()], &[]);
+    let mut run = run_of((Order::DEG_LEX, 3, 101), &[Vec::new()], &[]);
     // The code 0 is unknown, which comes after the length.
     for (len, expected) in [
         (2 * MOST_OPERATIONS, 9),

@@ -180,10 +180,10 @@ fn stored_output_is_the_models() {
 #[test]
 fn model_has_the_known_results() {
     let (x2_squared, x1_x3): ([u8; 3], [u8; 3]) = ([0, 2, 0], [1, 0, 1]);
-    assert!(Order::DegRevLex.compare(&x2_squared, &x1_x3).is_gt());
-    assert!(Order::DegLex.compare(&x1_x3, &x2_squared).is_gt());
-    assert!(Order::Lex.compare(&[1, 0, 0], &[0, 5, 0]).is_gt());
-    assert_eq!(Order::DegRevLex.word(&[2, 1]), 0x0003_0000_0000_0102);
-    assert_eq!(Order::Lex.word(&[2, 1]), 0x0003_0201_0000_0000);
+    assert!(Order::DEG_REV_LEX.compare(&x2_squared, &x1_x3).is_gt());
+    assert!(Order::DEG_LEX.compare(&x1_x3, &x2_squared).is_gt());
+    assert!(Order::LEX.compare(&[1, 0, 0], &[0, 5, 0]).is_gt());
+    assert_eq!(Order::DEG_REV_LEX.word(&[2, 1]), 0x0003_0000_0000_0102);
+    assert_eq!(Order::LEX.word(&[2, 1]), 0x0003_0201_0000_0000);
     assert!(divides(&[1, 1], &[2, 1]));
 }

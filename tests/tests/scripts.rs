@@ -3,9 +3,9 @@
 use damselbuckle::raw;
 use second::cases;
 use second::damage::no_prime;
-use second::generate::{coef, padded, prime};
+use second::generate::{coef, padded, prime, weights};
 use second::limits::{LARGEST_PRIME, LISTING_BYTES, SCRIPT_BYTES};
-use second::monomial::Order;
+use second::monomial::{Order, FIELDS};
 use second::random::Random;
 use second::refusals::Refusals;
 use second::script::listing;
@@ -60,12 +60,31 @@ fn polynomial(random: &mut Random, order: Order, n: usize, p: u32) -> String {
     text
 }
 
+/// A line of the order's weights, sometimes with one that is outside its range, or with one more or less.
+fn weights_line(random: &mut Random, order: Order, n: usize) -> String {
+    let mut weights = order.weights.to_vec();
+    weights.resize(n, 1);
+    match random.below(20) {
+        0 => weights[random.below(n as u64) as usize] = random.pick(&[0, 17, 18, 256, u32::MAX]),
+        1 => weights.push(1),
+        2 => drop(weights.pop()),
+        _ => {}
+    }
+    let numbers = weights.iter().map(|w| format!(" {w}"));
+    format!("weights{}\n", numbers.collect::<String>())
+}
+
 fn script(random: &mut Random) -> Vec<u8> {
     let order = random.pick(&Order::ALL);
     // Seven variables are one too many.
     let n = match random.below(40) {
         0 => 7,
         _ => 1 + random.below(6) as usize,
+    };
+    let weighted = random.below(2) == 0;
+    let order = match weighted {
+        true => order.weighted(weights(random, n.min(FIELDS))),
+        false => order,
     };
     let p = prime(random);
     // Sometimes another number, which is no prime or is too large.
@@ -74,6 +93,9 @@ fn script(random: &mut Random) -> Vec<u8> {
         _ => p,
     };
     let mut text = format!("prime {named}\norder {}\nvars {n}\n", order.name());
+    if weighted {
+        text += &weights_line(random, order, n);
+    }
     for _ in 0..random.below(30) {
         let line = match random.below(4) {
             0 => "lead".to_string(),
@@ -86,15 +108,29 @@ fn script(random: &mut Random) -> Vec<u8> {
     text.into_bytes()
 }
 
-/// One byte inserted, removed or changed.
+/// One byte inserted, removed or changed, or two lines of the head exchanged, or one of them twice.
 fn damage(random: &mut Random, script: &mut Vec<u8>) {
-    let byte = random.pick(b"0123456789:. \nadlesumpx\r");
+    if random.below(8) == 0 {
+        return damage_lines(random, script);
+    }
+    let byte = random.pick(b"0123456789:. \nadlesumpxwight\r");
     let at = random.below(script.len() as u64) as usize;
     match random.below(3) {
         0 => script.insert(at, byte),
         1 => drop(script.remove(at)),
         _ => script[at] = byte,
     }
+}
+
+/// Exchanges one of the first five lines with the next, or has it twice.
+fn damage_lines(random: &mut Random, script: &mut Vec<u8>) {
+    let mut lines: Vec<&[u8]> = script.split_inclusive(|&b| b == b'\n').collect();
+    let at = random.below(5.min(lines.len() as u64 - 1)) as usize;
+    match random.below(2) {
+        0 => lines.swap(at, at + 1),
+        _ => lines.insert(at, lines[at]),
+    }
+    *script = lines.concat();
 }
 
 /// The refusal that a listing ends with, or 0.
@@ -203,7 +239,7 @@ fn sums_modulo_the_largest_prime() {
 
 #[test]
 fn corners() {
-    let cases: [(&str, &str); 20] = [
+    let cases: [(&str, &str); 23] = [
         ("", "refused 17 at 0\n"),
         ("prime 7\norder dp\nvars 2\n", "cost 0 of 0\n"),
         ("prime 7\norder dp\nvars 2", "refused 17 at 0\n"),
@@ -218,6 +254,12 @@ fn corners() {
         ),
         ("prime 7\norder dp\nvars 0\n", "refused 3 at 0\n"),
         ("prime 7\norder dp\nvars 0\nadd 1:0\n", "refused 17 at 0\n"),
+        ("prime 7\norder dp\nvars 2\nweights 1 1\n", "cost 0 of 0\n"),
+        (
+            "prime 7\norder dp\nvars 2\nweights 1 1",
+            "refused 17 at 0\n",
+        ),
+        ("prime 7\norder dp\nvars 2\nweights", "refused 17 at 0\n"),
         (
             "prime 7\norder dp\nvars 7\nadd 1:0.0.0.0.0.0.0\n",
             "refused 3 at 0\n",
@@ -246,6 +288,143 @@ fn corners() {
     for (script, listing) in cases {
         assert_eq!(proved(script.as_bytes()), listing, "script:\n{script}");
         same(script.as_bytes());
+    }
+}
+
+/// The listing of a head with these lines at its end, in the order Dp modulo 7, and of the line `sum`.
+fn headed(lines: &str) -> String {
+    let script = format!("prime 7\norder Dp\n{lines}sum\n");
+    let listing = proved(script.as_bytes());
+    same(script.as_bytes());
+    listing
+}
+
+/// Heads with a line `weights` of the form, and without it.
+const OF_THE_FORM: [&str; 6] = [
+    "vars 2\n",
+    "vars 2\nweights 1 1\n",
+    "vars 2\nweights 16 2\n",
+    "vars 1\nweights 16\n",
+    "vars 6\nweights 1 2 3 4 5 6\n",
+    "vars 6\nweights 16 16 16 16 16 16\n",
+];
+
+/// Heads that are not of the form: another count than n; numbers that are written otherwise, or are over 32
+/// bits; another word; the line elsewhere, or twice.
+const OF_NO_FORM: [&str; 26] = [
+    "vars 2\nweights 1\n",
+    "vars 2\nweights 1 1 1\n",
+    "vars 2\nweights\n",
+    "vars 0\nweights 1\n",
+    "vars 7\nweights 1 1\n",
+    "vars 7\nweights 1 1 1 1 1 1\n",
+    "vars 2\nweights \n",
+    "vars 0\nweights \n",
+    "vars 2\nweights 01 1\n",
+    "vars 2\nweights 1 00\n",
+    "vars 2\nweights 1  1\n",
+    "vars 2\nweights  1 1\n",
+    "vars 2\nweights 1 1 \n",
+    "vars 2\n weights 1 1\n",
+    "vars 2\nweights 1 1\r\n",
+    "vars 2\nweights 1 4294967296\n",
+    "vars 2\nweights 1 99999999999999999999\n",
+    "vars 2\nweights 1 -1\n",
+    "vars 2\nweights 1.1\n",
+    "vars 2\nweights1 1\n",
+    "vars 2\nweight 1 1\n",
+    "vars 2\nWeights 1 1\n",
+    "weights 1 1\nvars 2\n",
+    "vars 2\nadd\nweights 1 1\n",
+    "vars 2\nlead\nweights 1 1\n",
+    "vars 2\nweights 1 1\nweights 1 1\n",
+];
+
+/// Heads with a weight outside its range, and with a number of variables outside it.
+const BAD_WEIGHT: [&str; 4] = [
+    "vars 2\nweights 0 1\n",
+    "vars 2\nweights 1 17\n",
+    "vars 1\nweights 4294967295\n",
+    "vars 6\nweights 1 1 1 1 1 256\n",
+];
+const BAD_VARIABLES: [&str; 4] = [
+    "vars 7\nweights 1 1 1 1 1 1 1\n",
+    "vars 7\nweights 0 1 1 1 1 1 17\n",
+    "vars 0\nweights\n",
+    "vars 0\n",
+];
+
+/// The line `weights`: where it stands, how its numbers are written and how many they are. A program that
+/// takes it twice differs on the last head of `OF_NO_FORM`.
+#[test]
+fn weights_of_a_script() {
+    for head in OF_THE_FORM {
+        assert_eq!(headed(head), "sum zero\ncost 0 of 0\n", "{head}");
+    }
+    for (heads, refusal) in [
+        (&OF_NO_FORM[..], 17),
+        (&BAD_WEIGHT, 24),
+        (&BAD_VARIABLES, 3),
+    ] {
+        for head in heads {
+            assert_eq!(headed(head), format!("refused {refusal} at 0\n"), "{head}");
+        }
+    }
+}
+
+/// 24 comes after 17 of any line and after 1, and before 4, 5 and 6 of the terms.
+#[test]
+fn bad_weights_in_their_turn() {
+    for (p, head, terms, refusal) in [
+        (7, "vars 1\nweights 0\n", "add 1:1\n", 24),
+        (7, "vars 1\nweights 17\n", "add 7:1\n", 24),
+        (7, "vars 1\nweights 17\n", "add 1:128\n", 24),
+        (7, "vars 1\nweights 17\n", "add 1:255 1:4294967295\n", 24),
+        (7, "vars 1\nweights 4294967295\n", "add 1:127 1:255\n", 24),
+        (7, "vars 1\nweights 0\n", "add 1:0 1:1\n", 24),
+        (7, "vars 1\nweights 0\n", "lead 1\n", 17),
+        (7, "vars 1\nweights 0\n", "add 1:0.0\n", 17),
+        (7, "vars 1\nweights 0\n", "weights 1\n", 17),
+        (6, "vars 1\nweights 0\n", "", 1),
+        (6, "vars 1\nweights 0 0\n", "", 17),
+        (7, "vars 1\nweights 16\n", "add 7:1\n", 4),
+        (7, "vars 1\nweights 16\n", "add 1:128\n", 5),
+        (7, "vars 1\nweights 16\n", "add 1:255\n", 5),
+        (7, "vars 1\nweights 16\n", "add 1:0 1:1\n", 6),
+    ] {
+        let script = format!("prime {p}\norder dp\n{head}{terms}");
+        let listing = format!("refused {refusal} at 0\n");
+        assert_eq!(proved(script.as_bytes()), listing, "script:\n{script}");
+        same(script.as_bytes());
+    }
+}
+
+/// The leads of x1² + 2·x2 + 3·x3² by order and weights. The text of a listing has no weights.
+#[test]
+fn weights_decide_leads() {
+    let leads = |order: &str, weights: &str| {
+        let head = format!("prime 7\norder {order}\nvars 3\n{weights}");
+        let script = head + "add 1:2.0.0\nadd 2:0.1.0\nadd 3:0.0.2\nlead\nlead\nlead\n";
+        same(script.as_bytes());
+        proved(script.as_bytes())
+    };
+    let in_turn = |[a, b, c]: [&str; 3]| format!("lead {a}\nlead {b}\nlead {c}\ncost ");
+    let (x, y, z) = ("1:2.0.0", "2:0.1.0", "3:0.0.2");
+    for (order, weights, expected) in [
+        ("Dp", "", [x, z, y]),
+        ("Dp", "weights 1 1 1\n", [x, z, y]),
+        ("Dp", "weights 1 3 2\n", [z, y, x]),
+        ("Dp", "weights 1 5 2\n", [y, z, x]),
+        ("Dp", "weights 2 4 2\n", [x, y, z]),
+        ("dp", "", [x, z, y]),
+        ("dp", "weights 1 5 2\n", [y, z, x]),
+        ("dp", "weights 1 16 8\n", [y, z, x]),
+        ("dp", "weights 8 16 8\n", [x, y, z]),
+        ("lp", "", [x, y, z]),
+        ("lp", "weights 1 5 16\n", [x, y, z]),
+    ] {
+        let (found, expected) = (leads(order, weights), in_turn(expected));
+        assert!(found.starts_with(&expected), "{order} {weights}: {found}");
     }
 }
 

@@ -2,7 +2,7 @@
 //! stack than is named for it. Where that is not enough, the test breaks off. A listing is also tried with
 //! less, in a process of its own, which must break off.
 use damselbuckle::raw;
-use second::block_store::{self, Polynomial};
+use second::block_store::Polynomial;
 use second::call::{Given, Setting};
 use second::generate::padded;
 use second::lender;
@@ -10,7 +10,7 @@ use second::library;
 use second::limits::{
     BLOCK_BYTES, LARGEST_PRIME, LISTING_BYTES, MOST_BLOCKS, MOST_STEPS, MOST_TERMS, SCRIPT_BYTES,
 };
-use second::monomial::Order;
+use second::monomial::{Order, ONES};
 use second::polynomial::Term;
 use second::reduction;
 use second::run;
@@ -45,10 +45,9 @@ fn falling_terms(order: Order, count: usize) -> Vec<Term> {
 }
 
 fn settings() -> impl Iterator<Item = Setting> {
-    let primes = [32_003, LARGEST_PRIME];
-    primes
-        .into_iter()
-        .flat_map(|p| Order::ALL.map(|order| (order, 3, p)))
+    let with = |p, weights| Order::ALL.map(|order| (order.weighted(weights), 3, p));
+    let largest = with(LARGEST_PRIME, [5, 16, 2, 1, 1, 1]);
+    with(32_003, ONES).into_iter().chain(largest)
 }
 
 /// All buckets are filled, up to the most terms; then the lead leaves the last, and one term more makes each
@@ -101,14 +100,9 @@ fn a_reduction_needs_little_stack() {
 #[test]
 fn blocks_need_little_stack() {
     for setting in settings() {
-        let (order, n, p) = setting;
-        let given = Given::new(setting, &[falling_terms(order, MOST_TERMS)]);
+        let given = Given::new(setting, &[falling_terms(setting.0, MOST_TERMS)]);
         let polynomial = Polynomial {
-            setting: block_store::Setting {
-                p,
-                order: order.number(),
-                n: n as u32,
-            },
+            numbers: given.numbers,
             words: given.words,
             coefs: given.coefs,
         };
@@ -117,7 +111,7 @@ fn blocks_need_little_stack() {
         assert_eq!(written, Ok(MOST_BLOCKS as u64), "{setting:?}");
         let (mut words, mut coefs) = (vec![0; MOST_TERMS], vec![0; MOST_TERMS]);
         let read = within(OF_A_CALL, || library::read(&bytes, &mut words, &mut coefs));
-        assert_eq!(read, Ok((polynomial.setting, MOST_TERMS as u64)));
+        assert_eq!(read, Ok((polynomial.numbers, MOST_TERMS as u64)));
         assert!(
             (words, coefs) == (polynomial.words, polynomial.coefs),
             "{setting:?}"
@@ -132,8 +126,9 @@ fn a_listing_needs_little_stack() {
         Ok(bytes) => bytes.parse().expect("a number"),
         Err(_) => OF_A_LISTING,
     };
-    for order in Order::ALL {
-        let mut text = format!("prime {LARGEST_PRIME}\norder {}\nvars 3\nadd", order.name());
+    for order in Order::ALL.map(|order| order.weighted([5, 16, 2, 1, 1, 1])) {
+        let head = format!("prime {LARGEST_PRIME}\norder {}\n", order.name());
+        let mut text = head + "vars 3\nweights 5 16 2\nadd";
         for (exponents, coef) in falling_terms(order, MOST_TERMS) {
             let term = format!(" {coef}:{}.{}.0", exponents[0], exponents[1]);
             if text.len() + term.len() < SCRIPT_BYTES - 40 {

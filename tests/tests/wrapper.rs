@@ -2,7 +2,7 @@
 //! that it makes of terms, what it makes of an answer, what a stopped call leaves and how it goes on, and the
 //! place of a fault.
 use damselbuckle::{Engine, Operation, Order, Output, Polynomials, Refused, Setting, Term};
-use second::call::{terms, Answer, Given, Loan};
+use second::call::{terms, Answer, Given, Loan, Numbers};
 use second::lender;
 use second::limits::{MOST_STEPS, MOST_TERMS};
 use second::polynomial::{self, part};
@@ -18,9 +18,16 @@ const CASES: u64 = 2_000;
 
 /// The same polynomials, by their terms; and the same words must come of them.
 fn polynomials(given: &Given) -> Polynomials {
-    let (order, n) = given.setting().expect("a setting");
-    let number = Order::from_number(given.order.into()).expect("an order");
-    let setting = Setting::new(given.p, number, given.n).expect("a setting");
+    let (order, n) = given.numbers.opened().expect("a setting");
+    let Numbers {
+        p,
+        order: number,
+        n: variables,
+        ..
+    } = given.numbers;
+    let number = Order::from_number(number.into()).expect("an order");
+    let setting = Setting::new(p, number, variables).expect("a setting");
+    let setting = setting.weighted(&order.weights[..n]).expect("weights");
     let mut polynomials = Polynomials::new(setting);
     for k in 0..given.starts.len() - 1 {
         let places = part(&given.starts, k, given.words.len()).expect("good starts");
@@ -45,7 +52,7 @@ fn same_tally(own: damselbuckle::Tally, loan: &Loan) {
 
 /// The output places of a call, with no term for zero.
 fn places(given: &Given, loan: &Loan, count: u64) -> Vec<Option<Term>> {
-    let (order, n) = given.setting().expect("a setting");
+    let (order, n) = given.numbers.opened().expect("a setting");
     let count = count as usize;
     let (words, coefs) = (&loan.output.0[..count], &loan.output.1[..count]);
     let terms = terms(order, n, words, coefs).into_iter();
@@ -65,9 +72,9 @@ fn flat(outputs: Vec<Output>) -> Vec<Option<Term>> {
 
 /// The terms that the second program still holds, added up.
 fn held(given: &Given, loan: &Loan) -> Vec<Term> {
-    let (order, n) = given.setting().expect("a setting");
+    let (order, n) = given.numbers.opened().expect("a setting");
     let space = terms(order, n, &loan.space.0, &loan.space.1);
-    let sum = polynomial::sum(order, given.p, &space, &[]);
+    let sum = polynomial::sum(order, given.numbers.p, &space, &[]);
     sum.into_iter().map(|(m, c)| Term::new(c, m)).collect()
 }
 
@@ -189,11 +196,12 @@ fn reductions() {
 /// The first polynomial with a fault, by the second program, and where its first terms begin to be refused
 /// like all of it.
 fn place(given: &Given) -> Option<(u32, usize, usize)> {
-    let (order, n) = given.setting().expect("a setting");
+    let (order, n) = given.numbers.opened().expect("a setting");
+    let p = given.numbers.p;
     for k in 0..given.starts.len() - 1 {
         let places = part(&given.starts, k, given.words.len()).expect("good starts");
         let (words, coefs) = (&given.words[places.clone()], &given.coefs[places]);
-        let refusal = |m: usize| polynomial::refusal(order, n, given.p, &words[..m], &coefs[..m]);
+        let refusal = |m: usize| polynomial::refusal(order, n, p, &words[..m], &coefs[..m]);
         let of_all = refusal(words.len());
         if of_all != 0 {
             let shortest = (0..=words.len()).find(|&m| refusal(m) == of_all);
@@ -212,7 +220,7 @@ fn places_of_faults() {
     for case in 0..CASES {
         let setting = setting(random, case);
         let mut made = reductions.made(random, case, setting).given;
-        let (order, n) = made.setting().expect("a setting");
+        let (order, n) = made.numbers.opened().expect("a setting");
         let mut own = Polynomials::new(polynomials(&made).setting());
         for _ in 0..random.below(4) {
             let Some(last) = made.words.len().checked_sub(1) else {
@@ -220,7 +228,7 @@ fn places_of_faults() {
             };
             let at = random.below(last as u64 + 1) as usize;
             match random.below(3) {
-                0 => made.coefs[at] = random.pick(&[0, made.p, u32::MAX]),
+                0 => made.coefs[at] = random.pick(&[0, made.numbers.p, u32::MAX]),
                 1 => made.words[at] = order.word(&vec![128; n]),
                 _ => made.words[at] = made.words[random.below(last as u64 + 1) as usize],
             }

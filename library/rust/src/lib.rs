@@ -55,8 +55,8 @@ pub fn write_blocks(polynomials: &Polynomials, k: usize) -> Result<Vec<u8>, Refu
     let absent = Refused::at_opening(Refusal::BadOperation);
     let (words, coefs) = polynomials.words_of(k).ok_or(absent)?;
     let mut bytes = vec![0; MOST_BLOCKS * BLOCK_BYTES];
-    let numbers = polynomials.setting().numbers();
-    let answer = raw::write_blocks(numbers, words, coefs, &mut bytes);
+    let setting = polynomials.setting();
+    let answer = raw::write_blocks(setting.numbers(), words, coefs, &mut bytes);
     Refused::unless_0(answer.refusal, answer.finished, 0)
         .map_err(|refused| refused.at(place::of_one(polynomials, k, refused.refusal)))?;
     bytes.truncate(answer.blocks as usize * BLOCK_BYTES);
@@ -73,7 +73,7 @@ pub fn read_blocks(bytes: &[u8]) -> Result<Polynomials, Refused> {
     words.truncate(answer.terms as usize);
     coefs.truncate(answer.terms as usize);
     let order = Order::from_number(answer.order).expect("a polynomial that is read has an order");
-    let setting = Setting::accepted(answer.p as u32, order, answer.n as u32);
+    let setting = Setting::accepted(answer.p as u32, order, answer.n as u32, answer.weights);
     let mut polynomials = Polynomials::new(setting);
     polynomials.push_words(&words, &coefs);
     Ok(polynomials)

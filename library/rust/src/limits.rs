@@ -6,6 +6,12 @@ pub const LARGEST_PRIME: u32 = 2_147_483_647;
 /// The most variables.
 pub const MOST_VARIABLES: u32 = 6;
 
+/// The weights that a call is lent.
+pub const WEIGHTS: usize = 6;
+
+/// The largest weight.
+pub const LARGEST_WEIGHT: u32 = 16;
+
 /// Places of the bucket space, for words and for coefficients.
 pub const BUCKET_PLACES: usize = 5_460;
 

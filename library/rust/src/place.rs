@@ -34,10 +34,10 @@ pub fn of(polynomials: &Polynomials, refusal: Refusal) -> Option<Place> {
 /// Where polynomial k alone has it.
 pub fn of_one(polynomials: &Polynomials, k: usize, refusal: Refusal) -> Option<Place> {
     let (words, coefs) = polynomials.words_of(k)?;
-    let numbers = polynomials.setting().numbers();
+    let setting = polynomials.setting();
     let refuses = |m: usize| {
         refuses(
-            Given::new(numbers, &words[..m], &coefs[..m], &[0, m]),
+            Given::new(setting.numbers(), &words[..m], &coefs[..m], &[0, m]),
             refusal,
         )
     };

@@ -1,7 +1,7 @@
 //! Orders, settings, terms and polynomials.
 use crate::raw::{Given, Numbers};
 use crate::refusal::Place;
-use crate::{place, Refusal, Refused};
+use crate::{place, Refusal, Refused, WEIGHTS};
 use std::fmt;
 
 /// The variables that a word has room for.
@@ -14,9 +14,9 @@ const FIELDS: usize = 6;
 pub enum Order {
     /// lp: lexicographic.
     Lex = 1,
-    /// Dp: by degree, then lexicographic.
+    /// Dp: by weighted degree, then lexicographic.
     DegLex = 2,
-    /// dp: by degree, then reverse lexicographic.
+    /// dp: by weighted degree, then reverse lexicographic.
     DegRevLex = 3,
 }
 
@@ -41,18 +41,20 @@ impl Order {
     }
 }
 
-/// A prime, an order and a number of variables.
+/// A prime, an order, a number of variables, and a weight for each variable.
 #[derive(Clone, Copy, Debug, PartialEq, Eq, Hash)]
 pub struct Setting {
     p: u32,
     order: Order,
     n: u32,
+    /// As the C functions take them: x1's first, and 1 for variables past the n-th.
+    weights: [u32; WEIGHTS],
 }
 
 impl Setting {
     /// A prime from 2 to [`LARGEST_PRIME`](crate::LARGEST_PRIME), an order, and 1 to
-    /// [`MOST_VARIABLES`](crate::MOST_VARIABLES) variables. The engine judges them: it refuses others with
-    /// [`Refusal::NotPrime`] or [`Refusal::BadVariables`].
+    /// [`MOST_VARIABLES`](crate::MOST_VARIABLES) variables, each of weight 1. The engine judges them: it
+    /// refuses others with [`Refusal::NotPrime`] or [`Refusal::BadVariables`].
     ///
     /// ```
     /// use damselbuckle::{Order, Refusal, Setting};
@@ -64,13 +66,55 @@ impl Setting {
     /// # Ok::<(), damselbuckle::Refused>(())
     /// ```
     pub fn new(p: u32, order: Order, n: u32) -> Result<Self, Refused> {
-        let setting = Setting::accepted(p, order, n);
-        place::judged(Polynomials::new(setting).given()).map(|()| setting)
+        Setting::unjudged(p, order, n).judged()
     }
 
-    /// A setting that the engine accepted.
-    pub(crate) fn accepted(p: u32, order: Order, n: u32) -> Self {
-        Setting { p, order, n }
+    /// The same with other weights, 1 to [`LARGEST_WEIGHT`](crate::LARGEST_WEIGHT), one for each of the n
+    /// variables. The degree of a monomial is then the sum of its exponents times their weights. The engine
+    /// judges them: it refuses others with [`Refusal::BadWeight`]. Another number of them than n is
+    /// [`Refusal::BadShape`].
+    ///
+    /// ```
+    /// use damselbuckle::{Order, Refusal, Setting};
+    ///
+    /// // x2 stands for a slide joint and counts double.
+    /// let setting = Setting::new(32003, Order::DegRevLex, 2)?.weighted(&[1, 2])?;
+    /// assert_eq!(setting.weights(), [1, 2]);
+    /// let refused = setting.weighted(&[1, 17]).unwrap_err();
+    /// assert_eq!(refused.refusal, Refusal::BadWeight);
+    /// # Ok::<(), damselbuckle::Refused>(())
+    /// ```
+    pub fn weighted(self, weights: &[u32]) -> Result<Self, Refused> {
+        if weights.len() != self.n as usize {
+            return Err(Refused::at_opening(Refusal::BadShape));
+        }
+        let mut setting = self;
+        setting.weights[..weights.len()].copy_from_slice(weights);
+        setting.judged()
+    }
+
+    /// Weights of 1, and nothing judged.
+    fn unjudged(p: u32, order: Order, n: u32) -> Self {
+        Setting {
+            p,
+            order,
+            n,
+            weights: [1; WEIGHTS],
+        }
+    }
+
+    fn judged(self) -> Result<Self, Refused> {
+        place::judged(Polynomials::new(self).given()).map(|()| self)
+    }
+
+    /// The setting of blocks that the engine accepted. `packed` has four bits for each weight less 1, those
+    /// of x1 lowest.
+    pub(crate) fn accepted(p: u32, order: Order, n: u32, packed: u64) -> Self {
+        let weight = |i: usize| 1 + (packed >> (4 * i) & 15) as u32;
+        Setting {
+            weights: std::array::from_fn(weight),
+            ..Setting::unjudged(p, order, n)
+        }
     }
 
     /// The prime.
@@ -87,9 +131,14 @@ impl Setting {
         self.n
     }
 
+    /// The weights of the n variables, x1's first.
+    pub fn weights(&self) -> &[u32] {
+        &self.weights[..WEIGHTS.min(self.n as usize)]
+    }
+
     /// As the C functions take it.
-    pub(crate) fn numbers(self) -> Numbers {
-        Numbers::new(self.p, self.order.number(), self.n)
+    pub(crate) fn numbers(&self) -> Numbers<'_> {
+        Numbers::new(self.p, self.order.number(), self.n).weighted(&self.weights)
     }
 
     /// The terms of words and coefficients, as [`Engine::output`](crate::Engine::output) and
@@ -111,7 +160,8 @@ impl Setting {
         if exponents.len() != self.n as usize || exponents.len() > FIELDS {
             return None;
         }
-        let degree: u64 = exponents.iter().map(|&e| u64::from(e)).sum();
+        let weighted = exponents.iter().zip(self.weights);
+        let degree: u64 = weighted.map(|(&e, w)| u64::from(e) * u64::from(w)).sum();
         let fields = exponents.iter().enumerate();
         let field = |(i, &e): (usize, &u8)| u64::from(e) << self.order.shift(i);
         Some(fields.map(field).fold(degree << 48, |word, f| word | f))

@@ -1,6 +1,7 @@
 //! The C functions as they are, and each of them on slices. They take any numbers and any slices, and
 //! answer with numbers; [`Engine`](crate::Engine) and the functions beside it are the same in types that say more.
 //! `library/damselbuckle.h` has what each parameter and each number means; this module changes with it.
+use crate::WEIGHTS;
 
 /// The counts that a run or a reduction sets.
 #[repr(C)]
@@ -67,6 +68,8 @@ pub struct ReadAnswer {
     pub order: u64,
     /// The number of variables.
     pub n: u64,
+    /// The weights less 1, of x1 in the lowest four bits, of x2 in the next four, and so on.
+    pub weights: u64,
     /// Terms read.
     pub terms: u64,
 }
@@ -89,6 +92,8 @@ extern "C" {
         p: u32,
         order: u32,
         n: u32,
+        weights: *const u32,
+        weights_len: usize,
         words: *const u64,
         words_len: usize,
         coefs: *const u32,
@@ -115,6 +120,8 @@ extern "C" {
         p: u32,
         order: u32,
         n: u32,
+        weights: *const u32,
+        weights_len: usize,
         words: *const u64,
         words_len: usize,
         coefs: *const u32,
@@ -139,6 +146,8 @@ extern "C" {
         p: u32,
         order: u32,
         n: u32,
+        weights: *const u32,
+        weights_len: usize,
         words: *const u64,
         words_len: usize,
         coefs: *const u32,
@@ -162,33 +171,54 @@ extern "C" {
     ) -> ListingAnswer;
 }
 
-/// A prime, an order and a number of variables, as the functions take them: any numbers.
+/// A prime, an order, a number of variables and the weights, x1's first, as the functions take them: any
+/// numbers.
 #[derive(Clone, Copy, Debug, PartialEq, Eq)]
 #[non_exhaustive]
-pub struct Numbers {
+pub struct Numbers<'a> {
     pub p: u32,
     pub order: u32,
     pub n: u32,
+    pub weights: &'a [u32],
 }
 
-impl Numbers {
+impl<'a> Numbers<'a> {
+    /// All weights are 1.
     pub fn new(p: u32, order: u32, n: u32) -> Self {
-        Numbers { p, order, n }
+        Numbers {
+            p,
+            order,
+            n,
+            weights: ONES,
+        }
+    }
+
+    /// The same with these weights.
+    pub fn weighted(self, weights: &'a [u32]) -> Self {
+        Numbers { weights, ..self }
     }
 }
+
+/// The weights of a call, each 1.
+pub const ONES: &[u32] = &[1; WEIGHTS];
 
 /// Polynomials with their numbers, as a run or a reduction is given them.
 #[derive(Clone, Copy, Debug)]
 #[non_exhaustive]
 pub struct Given<'a> {
-    pub numbers: Numbers,
+    pub numbers: Numbers<'a>,
     pub words: &'a [u64],
     pub coefs: &'a [u32],
     pub starts: &'a [usize],
 }
 
 impl<'a> Given<'a> {
-    pub fn new(numbers: Numbers, words: &'a [u64], coefs: &'a [u32], starts: &'a [usize]) -> Self {
+    pub fn new(
+        numbers: Numbers<'a>,
+        words: &'a [u64],
+        coefs: &'a [u32],
+        starts: &'a [usize],
+    ) -> Self {
         Given {
             numbers,
             words,
@@ -242,6 +272,8 @@ pub fn run(given: Given, ops: &[usize], loan: Loan) -> RunAnswer {
             given.numbers.p,
             given.numbers.order,
             given.numbers.n,
+            given.numbers.weights.as_ptr(),
+            given.numbers.weights.len(),
             given.words.as_ptr(),
             given.words.len(),
             given.coefs.as_ptr(),
@@ -277,6 +309,8 @@ pub fn reduce(given: Given, limit: u64, loan: Loan) -> ReductionAnswer {
             given.numbers.p,
             given.numbers.order,
             given.numbers.n,
+            given.numbers.weights.as_ptr(),
+            given.numbers.weights.len(),
             given.words.as_ptr(),
             given.words.len(),
             given.coefs.as_ptr(),
@@ -300,7 +334,7 @@ pub fn reduce(given: Given, limit: u64, loan: Loan) -> ReductionAnswer {
     }
 }
 
-/// Writes a polynomial, with its prime, order and number of variables, to blocks.
+/// Writes a polynomial, with its prime, order, number of variables and weights, to blocks.
 pub fn write_blocks(
     numbers: Numbers,
     words: &[u64],
@@ -312,6 +346,8 @@ pub fn write_blocks(
             numbers.p,
             numbers.order,
             numbers.n,
+            numbers.weights.as_ptr(),
+            numbers.weights.len(),
             words.as_ptr(),
             words.len(),
             coefs.as_ptr(),

@@ -21,7 +21,7 @@ pub enum Refusal {
     NotFalling = 6,
     /// a divisor is zero
     ZeroDivisor = 7,
-    /// lengths, sizes, starts, number of operations or step limit are wrong, or a reduction has no polynomial 0
+    /// lengths, sizes, starts, number of weights or operations, or step limit are wrong, or a reduction has no polynomial 0
     BadShape = 8,
     /// an operation is unknown, names a polynomial that is not there, or has a second number that is not 0
     BadOperation = 9,
@@ -41,6 +41,8 @@ pub enum Refusal {
     BadBlock = 16,
     /// the script is not of the form
     BadScript = 17,
+    /// a weight is not 1 to 16, or is that of a variable past the n-th and not 1
+    BadWeight = 24,
 }
 
 impl Refusal {
@@ -63,6 +65,7 @@ impl Refusal {
         Refusal::BadCheck,
         Refusal::BadBlock,
         Refusal::BadScript,
+        Refusal::BadWeight,
     ];
 
     /// Whether it stops a run or a reduction that has begun: what was given out and what is held stays.
@@ -82,7 +85,7 @@ impl Refusal {
             Refusal::BadLayout => "a word is not of the layout: an exponent over 127, a wrong degree, or a variable past the n-th",
             Refusal::NotFalling => "the terms of a polynomial do not fall strictly in the order",
             Refusal::ZeroDivisor => "a divisor is zero",
-            Refusal::BadShape => "lengths, sizes, starts, number of operations or step limit are wrong, or a reduction has no polynomial 0",
+            Refusal::BadShape => "lengths, sizes, starts, number of weights or operations, or step limit are wrong, or a reduction has no polynomial 0",
             Refusal::BadOperation => "an operation is unknown, names a polynomial that is not there, or has a second number that is not 0",
             Refusal::NoOutput => "there is too little room for the output",
             Refusal::TooManyTerms => "over 4,096 terms would be held, or are to be written",
@@ -92,6 +95,7 @@ impl Refusal {
             Refusal::BadCheck => "the check of a block is wrong",
             Refusal::BadBlock => "a block's numbers or filler are not what writing would put there",
             Refusal::BadScript => "the script is not of the form",
+            Refusal::BadWeight => "a weight is not 1 to 16, or is that of a variable past the n-th and not 1",
         }
     }
 }

@@ -112,6 +112,7 @@ fn layouts() -> String {
             p,
             order,
             n,
+            weights,
             terms
         }
     );
@@ -129,9 +130,9 @@ fn layouts() -> String {
 
 /// The calls of `layout.c`.
 fn calls() -> String {
-    let x = 1 << 48 | 1 << 40;
+    let x = 3 << 48 | 1 << 40;
     let (words, coefs) = (&[x, 0, x], &[1, 1, 1]);
-    let numbers = Numbers::new(5, 1, 1);
+    let numbers = Numbers::new(5, 1, 1).weighted(&[3, 1, 1, 1, 1, 1]);
     let given = Given::new(numbers, words, coefs, &[0, 2, 3]);
     let (mut ow, mut oc, mut bytes) = ([0; 9], [0; 9], [0; BLOCK_BYTES]);
     let (ran, t) = lending((&mut ow, &mut oc), |loan| {
@@ -150,7 +151,7 @@ fn calls() -> String {
     let r = raw::read_blocks(&bytes, &mut ow, &mut oc);
     lines += &line(
         "read_blocks",
-        &[r.refusal, r.finished, r.p, r.order, r.n, r.terms],
+        &[r.refusal, r.finished, r.p, r.order, r.n, r.weights, r.terms],
         &[],
     );
     let l = raw::listing(b"prime 5\n", &mut vec![0; LISTING_BYTES]);
@@ -189,6 +190,8 @@ fn layouts_and_answers_are_the_same_in_c() {
     let c = printed("library/rust/tests/layout.c", "layout");
     assert_eq!(c, layouts() + &calls() + &refusal_texts());
     assert!(c.contains("\nreduce 0 2 1 "), "x1 + 1 by x1 leaves 1");
+    let read = "\nread_blocks 0 0 5 1 1 2 2\n";
+    assert!(c.contains(read), "a weight of 3 is the number 2");
 }
 
 #[test]

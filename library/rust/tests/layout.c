@@ -42,6 +42,7 @@ static void layouts(void)
     FIELD(damselbuckle_read_answer, p);
     FIELD(damselbuckle_read_answer, order);
     FIELD(damselbuckle_read_answer, n);
+    FIELD(damselbuckle_read_answer, weights);
     FIELD(damselbuckle_read_answer, terms);
     SIZE(damselbuckle_listing_answer);
     FIELD(damselbuckle_listing_answer, refusal);
@@ -49,8 +50,9 @@ static void layouts(void)
     FIELD(damselbuckle_listing_answer, length);
 }
 
-/* x1 + 1 modulo 5 under lp, and x1 */
-static const uint64_t words[3] = {UINT64_C(1) << 48 | UINT64_C(1) << 40, 0, UINT64_C(1) << 48 | UINT64_C(1) << 40};
+/* x1 + 1 modulo 5 under lp, and x1, with a weight of 3 */
+static const uint32_t weights[6] = {3, 1, 1, 1, 1, 1};
+static const uint64_t words[3] = {UINT64_C(3) << 48 | UINT64_C(1) << 40, 0, UINT64_C(3) << 48 | UINT64_C(1) << 40};
 static const uint32_t coefs[3] = {1, 1, 1};
 static const size_t starts[3] = {0, 2, 3};
 static const size_t ops[6] = {1, 0, 1, 1, 3, 0};
@@ -59,7 +61,7 @@ static const uint8_t script[] = "prime 5\n";
 static void calls(void)
 {
     damselbuckle_tally tally = {0, 0, 0, 0};
-    damselbuckle_run_answer ran = damselbuckle_run(&tally, 5, 1, 1, words, 3, coefs, 3, starts, 3, ops, 6, bw, BUCKETS, bc, BUCKETS, ww, WORK, wc, WORK, ow, 9, oc, 9);
+    damselbuckle_run_answer ran = damselbuckle_run(&tally, 5, 1, 1, weights, 6, words, 3, coefs, 3, starts, 3, ops, 6, bw, BUCKETS, bc, BUCKETS, ww, WORK, wc, WORK, ow, 9, oc, 9);
     damselbuckle_reduction_answer reduced;
     damselbuckle_write_answer written;
     damselbuckle_read_answer read;
@@ -73,7 +75,7 @@ static void calls(void)
     VALUE(tally, brought);
     VALUE(tally, given);
     VALUE(tally, held);
-    reduced = damselbuckle_reduce(&tally, 5, 1, 1, words, 3, coefs, 3, starts, 3, 7, bw, BUCKETS, bc, BUCKETS, ww, WORK, wc, WORK, ow, 9, oc, 9);
+    reduced = damselbuckle_reduce(&tally, 5, 1, 1, weights, 6, words, 3, coefs, 3, starts, 3, 7, bw, BUCKETS, bc, BUCKETS, ww, WORK, wc, WORK, ow, 9, oc, 9);
     printf("\nreduce");
     VALUE(reduced, refusal);
     VALUE(reduced, leads);
@@ -82,7 +84,7 @@ static void calls(void)
     VALUE(tally, brought);
     VALUE(tally, given);
     VALUE(tally, held);
-    written = damselbuckle_write_blocks(5, 1, 1, words, 2, coefs, 2, bytes, sizeof bytes);
+    written = damselbuckle_write_blocks(5, 1, 1, weights, 6, words, 2, coefs, 2, bytes, sizeof bytes);
     printf("\nwrite_blocks");
     VALUE(written, refusal);
     VALUE(written, finished);
@@ -94,6 +96,7 @@ static void calls(void)
     VALUE(read, p);
     VALUE(read, order);
     VALUE(read, n);
+    VALUE(read, weights);
     VALUE(read, terms);
     listed = damselbuckle_listing(script, sizeof script - 1, out, sizeof out);
     printf("\nlisting");

@@ -113,6 +113,61 @@ fn settings_are_judged() {
     }
 }
 
+/// The refusal that comes of these weights in n variables.
+fn weights_refused(n: u32, weights: &[u32], refusal: Refusal) {
+    let setting = Setting::new(7, Order::Lex, n).expect("a setting");
+    refused(setting.weighted(weights), refusal);
+}
+
+#[test]
+fn weights_are_judged() {
+    for weight in [0, 17, u32::MAX] {
+        weights_refused(1, &[weight], Refusal::BadWeight);
+        weights_refused(3, &[16, 1, weight], Refusal::BadWeight);
+    }
+    weights_refused(2, &[1], Refusal::BadShape);
+    weights_refused(2, &[1, 1, 1], Refusal::BadShape);
+    weights_refused(6, &[0; 7], Refusal::BadShape);
+    let ones = Setting::new(7, Order::DegLex, 3).expect("a setting");
+    assert_eq!(ones.weights(), [1, 1, 1]);
+    let other = ones.weighted(&[16, 1, 9]).expect("weights");
+    assert_eq!(other.weights(), [16, 1, 9]);
+    assert_eq!((other.p(), other.order(), other.n()), (7, Order::DegLex, 3));
+    assert_eq!(other.weighted(&[1, 1, 1]), Ok(ones));
+}
+
+/// Of 3·x1 + x2² + x2·x3 each term is the lead with some weights under Dp; under lp the weights move
+/// nothing. The block of the sum has the weights, and is read back with them.
+#[test]
+fn weights_move_the_lead() {
+    let terms = [(3, [1, 0, 0]), (1, [0, 2, 0]), (1, [0, 1, 1])];
+    for (order, weights, lead, bytes) in [
+        (Order::DegLex, [3, 1, 1], 0, [0x02, 0, 0]),
+        (Order::DegLex, [1, 16, 15], 1, [0xf0, 0x0e, 0]),
+        (Order::DegLex, [1, 2, 4], 2, [0x10, 0x03, 0]),
+        (Order::Lex, [1, 2, 4], 0, [0x10, 0x03, 0]),
+    ] {
+        let setting = Setting::new(7, order, 3).expect("a setting");
+        let setting = setting.weighted(&weights).expect("weights");
+        let mut given = Polynomials::new(setting);
+        for term in &terms {
+            given.push(std::slice::from_ref(term)).expect("exponents");
+        }
+        let mut operations = [0, 1, 2].map(Operation::Add).to_vec();
+        operations.push(Operation::Sum);
+        let run = Engine::new(4).run(&given, &operations).expect("a sum");
+        let Output::Sum(sum) = &run.outputs[0] else {
+            panic!("a sum");
+        };
+        assert_eq!(sum[0], Term::new(terms[lead].0, terms[lead].1));
+        let mut whole = Polynomials::new(setting);
+        whole.push_terms(sum).expect("terms of the setting");
+        let block = write_blocks(&whole, 0).expect("it can be written");
+        assert_eq!((&block[12..15], block[15]), (&bytes[..], 0));
+        assert_eq!(read_blocks(&block), Ok(whole));
+    }
+}
+
 /// x1 by 2·x1 + 1 leaves -1/2, also modulo the largest prime; and the divisor comes back from its blocks.
 #[test]
 fn the_largest_prime() {
@@ -407,7 +462,9 @@ fn blocks_that_are_not_written_so() {
         (block[1..].to_vec(), Refusal::NotBlocks),
         (changed(&block, 20, 1), Refusal::BadCheck),
         (checked(changed(&block, 0, 1)), Refusal::BadBlock),
-        (checked(changed(&block, 12, 1)), Refusal::BadBlock),
+        (checked(changed(&block, 15, 1)), Refusal::BadBlock),
+        (checked(changed(&block, 13, 1)), Refusal::BadWeight),
+        (checked(changed(&block, 12, 1)), Refusal::BadLayout),
         (checked(changed(&block, 11, 0x80)), Refusal::NotPrime),
         (checked(changed(&block, 8, 4)), Refusal::BadOrder),
     ];
