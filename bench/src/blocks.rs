@@ -1,10 +1,13 @@
 //! Times the block store: the proved one beside the one in plain Rust. It fails only where results
 //! differ.
 use crate::buckets::{in_turn, Best, ROUNDS};
+use crate::checks::{weights_named, UNLIKE};
 use crate::library;
 use crate::lists::{list, words, List, Order};
+use crate::monomial::ONES;
 use crate::plain_blocks::{self, Setting, BLOCK_TERMS};
 use crate::random::Random;
+use crate::reductions::by_exponents;
 use damselbuckle::{BLOCK_BYTES, MOST_BLOCKS, MOST_TERMS};
 use std::hint::black_box;
 
@@ -14,6 +17,7 @@ const TIMES: usize = 20;
 /// One kind of polynomials, and the least times of writing and of reading for each term.
 struct Row {
     order: Order,
+    weights: [u32; 6],
     terms: usize,
     write: Best,
     read: Best,
@@ -23,12 +27,15 @@ impl Row {
     /// Makes a fresh polynomial modulo p, and times both over it, in turn.
     fn pass(&mut self, random: &mut Random, round: usize, p: u32) {
         let order = self.order;
-        let many = words(random, order, self.terms);
+        let weighted = by_exponents(order).weighted(self.weights);
+        let many = words(random, order, self.terms).into_iter();
+        let many = many.map(|w| weighted.word(&weighted.fields(w))).collect();
         let terms = &list(random, order, p, many);
         let setting = Setting {
             p,
             order: order.number(),
             n: 6,
+            weights: self.weights,
         };
         let len = terms.words.len() as u64;
         let most = MOST_BLOCKS * BLOCK_BYTES;
@@ -60,7 +67,8 @@ impl Row {
 
     fn print(&self) {
         let columns = [self.write.columns(), self.read.columns()].join(" ");
-        println!("| {} | {} | {columns}", self.order.name(), self.terms);
+        let (order, weights) = (self.order.name(), weights_named(self.weights));
+        println!("| {order} | {weights} | {} | {columns}", self.terms);
     }
 }
 
@@ -71,16 +79,18 @@ fn repeat(mut f: impl FnMut() -> u64) -> u64 {
 
 /// Writing and reading modulo p: nanoseconds for each term.
 pub fn blocks(p: u32) {
+    let row = |order, weights, terms| Row {
+        order,
+        weights,
+        terms,
+        write: Best::new(),
+        read: Best::new(),
+    };
     let mut rows = Vec::new();
     for order in [Order::DegRevLex, Order::Lex] {
-        for terms in [BLOCK_TERMS, MOST_TERMS] {
-            rows.push(Row {
-                order,
-                terms,
-                write: Best::new(),
-                read: Best::new(),
-            });
-        }
+        rows.push(row(order, ONES, BLOCK_TERMS));
+        rows.push(row(order, ONES, MOST_TERMS));
+        rows.push(row(order, UNLIKE, MOST_TERMS));
     }
     let random = &mut Random::new(71);
     for round in 0..ROUNDS {
@@ -88,7 +98,7 @@ pub fn blocks(p: u32) {
             row.pass(random, round, p);
         }
     }
-    println!("| Order | Terms | Proved, writing | Plain Rust | Proved / plain | Proved, reading | Plain Rust | Proved / plain |");
-    println!("|---|---|---|---|---|---|---|---|");
+    println!("| Order | Weights | Terms | Proved, writing | Plain Rust | Proved / plain | Proved, reading | Plain Rust | Proved / plain |");
+    println!("|---|---|---|---|---|---|---|---|---|");
     rows.iter().for_each(Row::print);
 }

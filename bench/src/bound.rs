@@ -94,7 +94,7 @@ impl Maker {
         places.truncate(terms as usize);
         places.sort_unstable_by(|a, b| b.cmp(a));
         let exponents = |at: u64| [(at / 128) as u8, (at % 128) as u8];
-        let word = |at: &u64| monomial::Order::Lex.word(&exponents(first + at));
+        let word = |at: &u64| monomial::Order::LEX.word(&exponents(first + at));
         List {
             words: places.iter().map(word).collect(),
             coefs: vec![1; places.len()],

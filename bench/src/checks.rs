@@ -3,7 +3,7 @@
 use crate::buckets::{in_turn, P};
 use crate::c_functions::{check, check_on, Checking};
 use crate::lists::{List, Terms};
-use crate::monomial::{Order, FIELDS};
+use crate::monomial::{Order, FIELDS, ONES};
 use crate::plain_opening::refusal_of_one;
 use crate::random::Random;
 use std::hint::black_box;
@@ -16,24 +16,28 @@ const ROUNDS: usize = 600;
 const PASS: usize = 60_000;
 const LENT: usize = 20_000;
 
+/// Weights that are all unlike.
+pub(crate) const UNLIKE: [u32; FIELDS] = [1, 2, 3, 4, 5, 6];
+
 /// Order, number of variables and modulus.
-type Setting = (u32, u32, u32);
+type Setting = (Order, u32, u32);
 
 /// The proved check of the whole.
 #[inline(always)]
-fn whole(setting: Setting, terms: Terms) -> u64 {
-    check(setting, terms).into()
+fn whole((order, n, p): Setting, terms: Terms) -> u64 {
+    check((order.number(), n, &order.weights, p), terms).into()
 }
 
 /// The check in plain Rust: a call, as the proved one is.
 #[inline(never)]
 fn plain((order, n, p): Setting, terms: Terms) -> u64 {
-    refusal_of_one(order, n, p, terms)
+    refusal_of_one(order.number(), n, order.weights, p, terms)
 }
 
 /// The proved check of the first half, carried on over the second.
 #[inline(always)]
-fn in_halves(setting: Setting, (words, coefs): Terms) -> u64 {
+fn in_halves((order, n, p): Setting, (words, coefs): Terms) -> u64 {
+    let setting = (order.number(), n, &order.weights[..], p);
     let middle = words.len() / 2;
     let (words, coefs) = (words.split_at(middle), coefs.split_at(middle));
     let first = check_on(setting, (words.0, coefs.0), Checking::default());
@@ -52,7 +56,7 @@ struct Row {
 impl Row {
     /// Makes a fresh polynomial, and times each check over it, in turn.
     fn pass(&mut self, random: &mut Random, round: usize) {
-        let setting = (self.order.number(), FIELDS as u32, P);
+        let setting = (self.order, FIELDS as u32, P);
         let f = polynomial(random, self.order, self.terms);
         let (terms, number) = (f.terms(), PASS / f.words.len());
         let (times, refusal) = in_turn(
@@ -73,12 +77,22 @@ impl Row {
     fn print(&self) {
         let [whole, plain, in_halves] = self.best;
         println!(
-            "| {} | {} | {whole:.2} | {plain:.2} | {:.2} | {in_halves:.2} | {:.2} |",
+            "| {} | {} | {} | {whole:.2} | {plain:.2} | {:.2} | {in_halves:.2} | {:.2} |",
             self.order.name(),
+            weights_named(self.order.weights),
             self.terms,
             whole / plain,
             in_halves / whole,
         );
+    }
+}
+
+/// The weights of a row, for its table.
+pub(crate) fn weights_named(weights: [u32; FIELDS]) -> &'static str {
+    match weights {
+        ONES => "1",
+        UNLIKE => "1 to 6",
+        _ => "others",
     }
 }
 
@@ -145,15 +159,15 @@ fn refuse(setting: Setting, f: &List, refusal: u64) {
 
 /// The opening check: nanoseconds for each term.
 pub fn checks() {
+    let row = |order, terms| Row {
+        order,
+        terms,
+        best: [f64::INFINITY; 3],
+    };
     let mut rows = Vec::new();
-    for order in [Order::DegRevLex, Order::DegLex, Order::Lex] {
-        for terms in [8, 64, 1_000] {
-            rows.push(Row {
-                order,
-                terms,
-                best: [f64::INFINITY; 3],
-            });
-        }
+    for order in [Order::DEG_REV_LEX, Order::DEG_LEX, Order::LEX] {
+        rows.extend([8, 64, 1_000].map(|terms| row(order, terms)));
+        rows.push(row(order.weighted(UNLIKE), 1_000));
     }
     let random = &mut Random::new(81);
     for round in 0..ROUNDS {
@@ -161,7 +175,7 @@ pub fn checks() {
             row.pass(random, round);
         }
     }
-    println!("| Order | Terms | Proved | Plain Rust | Proved / plain | Proved in parts | In parts / whole |");
-    println!("|---|---|---|---|---|---|---|");
+    println!("| Order | Weights | Terms | Proved | Plain Rust | Proved / plain | Proved in parts | In parts / whole |");
+    println!("|---|---|---|---|---|---|---|---|");
     rows.iter().for_each(Row::print);
 }

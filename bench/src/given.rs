@@ -1,20 +1,23 @@
 //! Polynomials as runs and reductions are given them.
 use crate::lists::{List, Terms};
+use crate::monomial::ONES;
 
-#[derive(Clone, Default)]
+#[derive(Clone)]
 pub struct Given {
     pub p: u32,
     pub n: u32,
+    pub weights: [u32; 6],
     pub terms: List,
     pub starts: Vec<usize>,
 }
 
 impl Given {
-    /// No polynomials so far.
+    /// No polynomials so far, and weights of 1.
     pub fn new(p: u32, n: u32) -> Self {
         Given {
             p,
             n,
+            weights: ONES,
             terms: List::default(),
             starts: vec![0],
         }

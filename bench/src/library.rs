@@ -51,7 +51,7 @@ pub fn reduce(
 }
 
 fn polynomials(order: u32, given: &Given) -> raw::Given<'_> {
-    let numbers = raw::Numbers::new(given.p, order, given.n);
+    let numbers = raw::Numbers::new(given.p, order, given.n).weighted(&given.weights);
     let terms = &given.terms;
     raw::Given::new(numbers, &terms.words, &terms.coefs, &given.starts)
 }
@@ -66,8 +66,13 @@ fn places(list: &mut List) -> raw::Places<'_> {
 }
 
 pub fn write(setting: Setting, terms: &List, bytes: &mut [u8]) -> WriteAnswer {
-    let Setting { p, order, n } = setting;
-    let numbers = raw::Numbers::new(p, order, n);
+    let Setting {
+        p,
+        order,
+        n,
+        ref weights,
+    } = setting;
+    let numbers = raw::Numbers::new(p, order, n).weighted(weights);
     raw::write_blocks(numbers, &terms.words, &terms.coefs, bytes)
 }
 

@@ -1,6 +1,7 @@
 //! The block store in plain Rust, with the order taken out of the loops.
 use crate::lists::{deg_rev_lex_key, lex_key, List};
-use crate::plain_opening::{exponents, in_layout, is_prime, refusal_of_one, DEGREE};
+use crate::monomial::ONES;
+use crate::plain_opening::{is_prime, refusal_of_one, weights_refusal, Layout};
 use damselbuckle::raw::{ReadAnswer, WriteAnswer};
 use damselbuckle::{BLOCK_BYTES, LARGEST_PRIME, MOST_BLOCKS, MOST_TERMS};
 
@@ -15,6 +16,7 @@ pub struct Setting {
     pub p: u32,
     pub order: u32,
     pub n: u32,
+    pub weights: [u32; 6],
 }
 
 impl Setting {
@@ -27,13 +29,18 @@ impl Setting {
         } else if self.n == 0 || self.n > 6 {
             3
         } else {
-            0
+            weights_refusal(self.n, self.weights)
         }
     }
 
-    /// The bits that a word may have.
-    fn allowed(self) -> u64 {
-        DEGREE | exponents(self.order == 3, self.n)
+    fn layout(self) -> Layout {
+        Layout::new(self.order == 3, self.n, self.weights)
+    }
+
+    /// The weights less 1, of x1 in the lowest four bits, of x2 in the next four, and so on.
+    fn packed_weights(self) -> u32 {
+        let weights = self.weights.into_iter().rev();
+        weights.fold(0, |packed, weight| packed << 4 | (weight - 1))
     }
 }
 
@@ -76,7 +83,13 @@ fn write_refusal(setting: Setting, terms: &List, room: usize) -> u64 {
     if terms.words.len() != terms.coefs.len() {
         return 8;
     }
-    let refusal = refusal_of_one(setting.order, setting.n, setting.p, terms.terms());
+    let Setting {
+        p,
+        order,
+        n,
+        weights,
+    } = setting;
+    let refusal = refusal_of_one(order, n, weights, p, terms.terms());
     if refusal != 0 {
         return refusal;
     }
@@ -105,6 +118,7 @@ pub fn read(bytes: &[u8], out: &mut List) -> ReadAnswer {
         p: setting.p.into(),
         order: setting.order.into(),
         n: setting.n.into(),
+        weights: setting.packed_weights().into(),
         terms: terms as u64,
         ..ReadAnswer::default()
     }
@@ -116,6 +130,7 @@ fn judged(bytes: &[u8], out: &List) -> (u64, Setting, usize) {
         p: 0,
         order: 0,
         n: 0,
+        weights: ONES,
     };
     if out.words.len() != out.coefs.len() {
         return (8, none, 0);
@@ -132,6 +147,7 @@ fn judged(bytes: &[u8], out: &List) -> (u64, Setting, usize) {
         p: two(&bytes[6..]) | two(&bytes[10..]) << 16,
         order: bytes[8].into(),
         n: bytes[9].into(),
+        weights: std::array::from_fn(|k| 1 + u32::from(bytes[12 + k / 2] >> (4 * (k % 2)) & 15)),
     };
     let last = count - 1;
     let terms = BLOCK_TERMS * last + two(&bytes[BLOCK_BYTES * last + 4..]) as usize;
@@ -167,14 +183,14 @@ fn judged(bytes: &[u8], out: &List) -> (u64, Setting, usize) {
 /// The refusal of the terms, or 0.
 #[inline(always)]
 fn terms_refusal(key: impl Fn(u64) -> u64, setting: Setting, bytes: &[u8], terms: usize) -> u64 {
-    let (p, allowed) = (setting.p, setting.allowed());
+    let (p, layout) = (setting.p, setting.layout());
     let mut last = None;
     let mut late = 0;
     for (word, coef) in terms_in(bytes, terms) {
         if coef == 0 || coef >= p {
             return 4;
         }
-        if !in_layout(allowed, word) {
+        if !layout.has(word) {
             return 5;
         }
         if last.is_some_and(|last| key(last) <= key(word)) {
@@ -210,6 +226,7 @@ fn header(number: usize, count: usize, here: usize, setting: Setting) -> [u8; HE
     let p = setting.p.to_le_bytes();
     header[6..8].copy_from_slice(&p[..2]);
     header[10..12].copy_from_slice(&p[2..]);
+    header[12..15].copy_from_slice(&setting.packed_weights().to_le_bytes()[..3]);
     (header[8], header[9]) = (setting.order as u8, setting.n as u8);
     header
 }

@@ -5,20 +5,64 @@ use crate::lists::{deg_rev_lex_key, lex_key, List, Terms};
 use damselbuckle::{BUCKET_PLACES, LARGEST_PRIME, WORK_PLACES};
 
 /// The degree of a word, and the exponents of all six fields.
-pub(crate) const DEGREE: u64 = 0xffff << 48;
+const DEGREE: u64 = 0xffff << 48;
 const EXPONENTS: u64 = 0x7f7f_7f7f_7f7f;
 
 /// Every other field.
 const EVEN: u64 = 0x00ff_00ff_00ff;
 
-/// The refusals of the prime and of the number of variables, or 0.
+/// What a word is judged by: the bits that it may have, and the weights of every other field, from the lowest
+/// and from the next on. The weight of the highest of three stands lowest.
+#[derive(Clone, Copy)]
+pub(crate) struct Layout {
+    allowed: u64,
+    even: u64,
+    odd: u64,
+}
+
+impl Layout {
+    pub(crate) fn new(first_below: bool, n: u32, weights: [u32; 6]) -> Self {
+        let mut by_field = weights.map(u64::from);
+        if !first_below {
+            by_field.reverse();
+        }
+        let [a, b, c, d, e, f] = by_field;
+        Layout {
+            allowed: DEGREE | exponents(first_below, n),
+            even: e | c << 16 | a << 32,
+            odd: f | d << 16 | b << 32,
+        }
+    }
+
+    /// Whether a word is of the layout: its degree is the sum of its fields times their weights. Each product
+    /// has that of three fields in its third part, and no part goes over to the next.
+    #[inline(always)]
+    pub(crate) fn has(self, word: u64) -> bool {
+        let even = (word & EVEN).wrapping_mul(self.even) >> 32;
+        let odd = (word >> 8 & EVEN).wrapping_mul(self.odd) >> 32;
+        word & !self.allowed == 0 && word >> 48 == (even + odd) & 0xffff
+    }
+}
+
+/// The refusals of the prime, of the number of variables and of the weights, or 0.
 pub fn setting_refusal(given: &Given) -> u64 {
     if given.p > LARGEST_PRIME || !is_prime(given.p) {
         return 1;
     }
     match given.n {
-        1..=6 => 0,
+        1..=6 => weights_refusal(given.n, given.weights),
         _ => 3,
+    }
+}
+
+/// The refusal of the weights in n variables, or 0.
+pub(crate) fn weights_refusal(n: u32, weights: [u32; 6]) -> u64 {
+    let (own, beyond) = weights.split_at(n as usize);
+    let good = own.iter().all(|w| (1..=16).contains(w)) && beyond.iter().all(|&w| w == 1);
+    if good {
+        0
+    } else {
+        24
     }
 }
 
@@ -30,11 +74,11 @@ pub fn polynomials_refusal(
     first_below: bool,
     given: &Given,
 ) -> u64 {
-    let allowed = DEGREE | exponents(first_below, given.n);
+    let layout = Layout::new(first_below, given.n, given.weights);
     for k in 0..given.count() {
         let terms = given.polynomial(k);
-        if !polynomial_good(key, given.p, allowed, terms) {
-            return polynomial_refusal(given.p, allowed, terms);
+        if !polynomial_good(key, given.p, layout, terms) {
+            return polynomial_refusal(given.p, layout, terms);
         }
     }
     0
@@ -57,7 +101,7 @@ pub(crate) fn is_prime(p: u32) -> bool {
 }
 
 /// The bits of the exponents of n variables.
-pub(crate) fn exponents(first_below: bool, n: u32) -> u64 {
+fn exponents(first_below: bool, n: u32) -> u64 {
     let unused = 8 * (6 - n);
     if first_below {
         EXPONENTS >> unused
@@ -80,38 +124,33 @@ pub fn sizes_good(given: &Given, memory: &Memory, output: &List) -> bool {
         && starts.windows(2).all(|pair| pair[0] <= pair[1])
 }
 
-/// Whether a word is of the layout with these bits: its degree is the sum of its fields, first by
-/// two and then by three.
-#[inline(always)]
-pub(crate) fn in_layout(allowed: u64, word: u64) -> bool {
-    let fields = word & !DEGREE;
-    let by_two = (fields & EVEN) + (fields >> 8 & EVEN);
-    let sum = by_two.wrapping_mul(0x1_0001_0001) >> 32 & 0xffff;
-    word & !allowed == 0 && word >> 48 == sum
-}
-
-/// The refusal of one polynomial, or 0, by the order's number, which is good, as n is.
-pub(crate) fn refusal_of_one(order: u32, n: u32, p: u32, terms: Terms) -> u64 {
-    let allowed = DEGREE | exponents(order == 3, n);
+/// The refusal of one polynomial, or 0, by the order's number, which is good, as n and the weights are.
+pub(crate) fn refusal_of_one(order: u32, n: u32, weights: [u32; 6], p: u32, terms: Terms) -> u64 {
+    let layout = Layout::new(order == 3, n, weights);
     let good = match order {
-        1 => polynomial_good(lex_key, p, allowed, terms),
-        2 => polynomial_good(|w| w, p, allowed, terms),
-        _ => polynomial_good(deg_rev_lex_key, p, allowed, terms),
+        1 => polynomial_good(lex_key, p, layout, terms),
+        2 => polynomial_good(|w| w, p, layout, terms),
+        _ => polynomial_good(deg_rev_lex_key, p, layout, terms),
     };
     if good {
         0
     } else {
-        polynomial_refusal(p, allowed, terms)
+        polynomial_refusal(p, layout, terms)
     }
 }
 
 /// Whether a polynomial is not refused. There is no branch on the terms.
 #[inline(always)]
-fn polynomial_good(key: impl Fn(u64) -> u64, p: u32, allowed: u64, (words, coefs): Terms) -> bool {
+fn polynomial_good(
+    key: impl Fn(u64) -> u64,
+    p: u32,
+    layout: Layout,
+    (words, coefs): Terms,
+) -> bool {
     let mut good = true;
     for (&word, &coef) in words.iter().zip(coefs) {
         good &= coef.wrapping_sub(1) < p - 1;
-        good &= in_layout(allowed, word);
+        good &= layout.has(word);
     }
     for pair in words.windows(2) {
         good &= key(pair[0]) > key(pair[1]);
@@ -120,12 +159,12 @@ fn polynomial_good(key: impl Fn(u64) -> u64, p: u32, allowed: u64, (words, coefs
 }
 
 /// The refusal of a polynomial that has one.
-fn polynomial_refusal(p: u32, allowed: u64, (words, coefs): Terms) -> u64 {
+fn polynomial_refusal(p: u32, layout: Layout, (words, coefs): Terms) -> u64 {
     for (&word, &coef) in words.iter().zip(coefs) {
         if coef == 0 || coef >= p {
             return 4;
         }
-        if !in_layout(allowed, word) {
+        if !layout.has(word) {
             return 5;
         }
     }

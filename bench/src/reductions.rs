@@ -5,7 +5,7 @@ use crate::given::Given;
 use crate::library;
 use crate::lists::{List, Order};
 use crate::loan::Loan;
-use crate::monomial::{self, degree};
+use crate::monomial;
 use crate::plain_reduction;
 use crate::random::Random;
 use crate::results::ReductionResult;
@@ -122,8 +122,8 @@ impl Kind {
 /// The same order, for exponents.
 pub(crate) fn by_exponents(order: Order) -> monomial::Order {
     match order {
-        Order::Lex => monomial::Order::Lex,
-        Order::DegRevLex => monomial::Order::DegRevLex,
+        Order::Lex => monomial::Order::LEX,
+        Order::DegRevLex => monomial::Order::DEG_REV_LEX,
     }
 }
 
@@ -163,7 +163,7 @@ fn cube_and_tail(random: &mut Random, order: Order, k: usize, tail: usize) -> Ve
     cube[k] = 3;
     let mut monomials = vec![cube];
     for _ in 0..20 * tail {
-        let monomial = any_monomial(random, degree(&cube));
+        let monomial = any_monomial(random, by_exponents(order).degree(&cube));
         let smaller = by_exponents(order).compare(&monomial, &cube).is_lt();
         if smaller && monomials.len() <= tail && !monomials.contains(&monomial) {
             monomials.push(monomial);

@@ -9,7 +9,7 @@ use crate::given::Given;
 use crate::library;
 use crate::lists::{self, List};
 use crate::loan::Loan;
-use crate::monomial::Order;
+use crate::monomial::{Kind, Order};
 use crate::plain_reduction;
 use crate::plain_run::{self, ADD, LEAD, SUM};
 use crate::results::{ReductionResult, RunResult};
@@ -162,10 +162,10 @@ impl Workload {
 
     /// The same, to be done in plain Rust.
     pub fn plain(self) -> Self {
-        let order = match self.order {
-            Order::Lex => lists::Order::Lex,
-            Order::DegRevLex => lists::Order::DegRevLex,
-            Order::DegLex => panic!("plain Rust has no Dp"),
+        let order = match self.order.kind {
+            Kind::Lex => lists::Order::Lex,
+            Kind::DegRevLex => lists::Order::DegRevLex,
+            Kind::DegLex => panic!("plain Rust has no Dp"),
         };
         Workload {
             plain: Some(order),
