@@ -35,7 +35,7 @@ module _ (p : ℕ) where
   here-opposite Ordering·eq a b h = h
   here-opposite Ordering·gt a b h = zero-mod p
 
-  both-zero : (a b : ℕ) → a % p ≡ 0 → b % p ≡ 0 → (a + b) % p ≡ 0
+  pub both-zero : (a b : ℕ) → a % p ≡ 0 → b % p ≡ 0 → (a + b) % p ≡ 0
   both-zero a b h k = add-both p a 0 b 0 (h ∙ sym (zero-mod p)) (k ∙ sym (zero-mod p)) ∙ zero-mod p
 
   module _ {A : Type 0} (cmp : A → A → Ordering) (_·_ : A → A → A) (m q : A) where

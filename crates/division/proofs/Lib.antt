@@ -21,3 +21,11 @@ pub mod RenamedEndings
 pub mod ByExponents
 pub mod Absurd
 pub mod Outcomes
+pub mod Scaling
+pub mod Moving
+pub mod RewritingLaws
+pub mod Rewriting
+pub mod Remainders
+pub mod Chains
+pub mod EveryDivision
+pub mod Few

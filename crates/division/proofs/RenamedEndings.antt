@@ -21,7 +21,7 @@ use Rattle.division.proofs.FitLaws.{Sound}
 use Rattle.division.proofs.Renaming.{Agrees, fitRenamed}
 
 -- m has a like monomial in the list, or its coefficient is 0
-like-or-none : {A : Type 0} (cmp : A → A → Ordering) (Q : A → Type 0) (m : A) (ts : List (Term A)) → All (λ t. Q (t .mono)) ts → ((a : A) × Q a × (cmp a m ≡ Ordering·eq)) ⊎ (total cmp m ts ≡ 0)
+pub like-or-none : {A : Type 0} (cmp : A → A → Ordering) (Q : A → Type 0) (m : A) (ts : List (Term A)) → All (λ t. Q (t .mono)) ts → ((a : A) × Q a × (cmp a m ≡ Ordering·eq)) ⊎ (total cmp m ts ≡ 0)
 like-or-none cmp Q m [] u = inr (total-nil cmp m)
 like-or-none {A} cmp Q m (t ∷ ts) u = by (cmp (t .mono) m) refl (like-or-none cmp Q m ts (u .1))
   where

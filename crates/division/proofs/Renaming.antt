@@ -51,7 +51,7 @@ module _ {A B : Type 0} (name : A → B) (Is : A → Type 0) where
   reduced-renamed p (t ∷ ts) r = (r .0, reduced-renamed p ts (r .1))
 
   module _ (cmp : A → A → Ordering) (cmp' : B → B → Ordering) (agree : (a b : A) → Is a → Is b → cmp' (name a) (name b) ≡ cmp a b) where
-    under-renamed : (m : A) → Is m → (f : List (Term A)) → Are f → Under cmp m f → Under cmp' (name m) (renamed name f)
+    pub under-renamed : (m : A) → Is m → (f : List (Term A)) → All (λ t. Is (t .mono)) f → Under cmp m f → Under cmp' (name m) (renamed name f)
     under-renamed m i [] a u = tt
     under-renamed m i (t ∷ ts) a u = (agree m (t .mono) i (a .0) ∙ u .0, under-renamed m i ts (a .1) (u .1))
 

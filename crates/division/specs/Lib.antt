@@ -8,3 +8,6 @@ pub mod Combination
 pub mod Demanded
 pub mod InExponents
 pub mod Examples
+pub mod Rewriting
+pub mod Edits
+pub mod Chains

@@ -31,7 +31,7 @@ pub length-multiple : {A : Type 0} (_·_ : A → A → A) (p c : ℕ) (m : A) (f
 length-multiple _·_ p c m [] = refl
 length-multiple _·_ p c m (t ∷ ts) = ap suc (length-multiple _·_ p c m ts)
 
-here-product : (p c k : ℕ) (o : Ordering) → here o (c * k % p) % p ≡ c * here o k % p
+pub here-product : (p c k : ℕ) (o : Ordering) → here o (c * k % p) % p ≡ c * here o k % p
 here-product p c k Ordering·lt = ap (λ (n : ℕ). n % p) (sym (mul-zero c))
 here-product p c k Ordering·eq = mod-mod (c * k) p
 here-product p c k Ordering·gt = ap (λ (n : ℕ). n % p) (sym (mul-zero c))

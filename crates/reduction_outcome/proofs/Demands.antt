@@ -1,7 +1,7 @@
 -- The theorems on reductions that meet the customer's demands, about what a call leaves: the contract of `reduce` and `reduce_in_place` equates it with `reductionOutcome`. Polynomials are meant by exponents (`Meaning`). Assumes nothing.
 use mathlib.Core.Path.{_≡_, refl, sym, ap, _∙_, subst}
 use mathlib.Core.List.{List, [], _∷_, _++_, map}
-use Prim.Native.Nat.{ℕ, zero, suc, _+_, _-_, _*_, _%_, _<_, _≤_, Ordering}
+use Prim.Native.Nat.{ℕ, zero, suc, _+_, _-_, _*_, _%_, _<_, _≤_, Ordering, Ordering·gt}
 use native.Mathlib.Nat.{le-trans}
 use native.Mathlib.Omega.{arith}
 use lib.ListN.{length, take, drop, replicate}
@@ -10,11 +10,12 @@ use Rattle.monomial.specs.Exponents.{orderOf, divides, quotient, compareIn}
 use Rattle.monomial.specs.Layout.{exponents, Layout}
 use Rattle.monomial.specs.Words.{compareWords, dividesWord}
 use Rattle.monomial.proofs.OrderLaws.{exponents-order}
-use Rattle.polynomial.specs.Terms.{Term, terms, All, Falling, Same, total, coefAt, Canonical}
+use Rattle.polynomial.specs.Terms.{Term, terms, All, Under, Falling, Same, total, coefAt, Canonical}
 use Rattle.polynomial.specs.Terms as T
 use Rattle.polynomial.specs.declared.setting.Setting.{Setting}
 use Rattle.geobucket.specs.Buckets.{empty, held}
 use Rattle.geobucket.specs.Events.{Work, bound}
+use Rattle.geobucket.proofs.SearchLaws.{Above}
 use Rattle.geobucket.proofs.BoundLaws.{bound-monotone}
 use Rattle.space.specs.Space.{LiesIn}
 use Rattle.call.specs.declared.answer.Tally.{Tally}
@@ -36,9 +37,12 @@ use Rattle.division.specs.Choice.{chosen}
 use Rattle.division.specs.Steps.{Reduction, overWord}
 use Rattle.division.specs.Divisors.{Undivided}
 use Rattle.division.specs.Ending.{finished, at-limit, over, too-many, no-place, Ending, first-too-many, by-steps}
-use Rattle.division.proofs.HeldTerms.{Every}
+use Rattle.division.proofs.HeldTerms.{Every, above-every}
+use Rattle.division.proofs.TailLaws.{all-zip}
+use Rattle.division.proofs.WordOperations.{words-agree}
+use Rattle.division.proofs.Renaming.{under-renamed}
 use Rattle.division.proofs.StateLaws.{all-append}
-use Rattle.division.proofs.RenamedEndings.{OneList, renamed-long}
+use Rattle.division.proofs.RenamedEndings.{OneList, renamed-long, renamed-all}
 use Rattle.division.proofs.Endings.{begins-not, ending-once}
 use Rattle.division.proofs.Reductions.{Given}
 use Rattle.division.proofs.Reductions as R
@@ -234,6 +238,18 @@ module _ (tally : Tally) (t : Setting) (words coefs ss : List ℕ) (limit : ℕ)
 
     pub leads-fall : Falling (compareIn (orderOf (t .order)) (t .weights)) (byExponents t leads)
     leads-fall = X.leads-fall given (length ow) limit
+
+    -- each of them is larger than all that is still held, so that a further lead is below them too
+    pub leads-over : All (λ u. Under (compareIn (orderOf (t .order)) (t .weights)) (u .mono) (heldIn t outcome)) (byExponents t leads)
+    leads-over =
+        let E = exponents (orderOf order) n in
+        let Is : ℕ → Type 0 = λ w. Layout (orderOf order) n weights w in
+        let bs = last .work .buckets in
+        let gone = R.last-state given (length ow) limit .given-gone in
+        renamed-all E Is (λ u. Layout (orderOf order) n weights (u .mono) × Under cmp (u .mono) (heldAt (outcome .bw) (outcome .bc))) (λ u. Under (compareIn (orderOf order) weights) (u .mono) (heldIn t outcome))
+        (λ u h. under-renamed E Is cmp (compareIn (orderOf order) weights) (words-agree (orderOf order) n weights (opened .n-high) .compares) (u .mono) (h .0) (heldAt (outcome .bw) (outcome .bc)) held-words (h .1)) leads
+        (all-zip {P = λ u. Layout (orderOf order) n weights (u .mono)} {Q = λ u. Above cmp p (u .mono) bs} {R = λ u. Layout (orderOf order) n weights (u .mono) × Under cmp (u .mono) (heldAt (outcome .bw) (outcome .bc))}
+        (λ u l a. (l, subst (Under cmp (u .mono)) (sym held-is) (flat-are (λ w. cmp (u .mono) w ≡ Ordering·gt) bs (above-every cmp p (u .mono) bs a)))) leads leads-words (gone .over))
 
     pub leads-count : length (byExponents t leads) ≡ outcome .answer .finished
     leads-count = of-outcome (λ k l r. length (byExponents t leads) ≡ l) (X.leads-count given (length ow) limit)
