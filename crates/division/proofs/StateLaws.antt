@@ -30,7 +30,7 @@ pub all-append : {A : Type 0} (P : Term A → Type 0) (xs ys : List (Term A)) �
 all-append P [] ys a b = b
 all-append P (x ∷ xs) ys a b = (a .0, all-append P xs ys (a .1) b)
 
-falling-last : {A : Type 0} (cmp : A → A → Ordering) (ts : List (Term A)) (t : Term A) → Falling cmp ts → All (λ u. cmp (u .mono) (t .mono) ≡ Ordering·gt) ts → Falling cmp (ts ++ t ∷ [])
+pub falling-last : {A : Type 0} (cmp : A → A → Ordering) (ts : List (Term A)) (t : Term A) → Falling cmp ts → All (λ u. cmp (u .mono) (t .mono) ≡ Ordering·gt) ts → Falling cmp (ts ++ t ∷ [])
 falling-last cmp [] t f o = (tt, tt)
 falling-last cmp (u ∷ ts) t f o = (all-append (λ v. cmp (u .mono) (v .mono) ≡ Ordering·gt) ts (t ∷ []) (f .0) (o .0, tt), falling-last cmp ts t (f .1) (o .1))
 

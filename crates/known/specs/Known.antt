@@ -1,5 +1,5 @@
--- Document 01, "Known results": the starred ones, as a table, and forms of texts and bytes that it fixes in words; and of document 02 what weights do. Each row but those on monomials is about the outcome of a call. Assumes nothing.
-use Prim.Native.Nat.{ℕ, _+_, _≤_, Ordering·gt}
+-- Document 01, "Known results": the starred ones, as a table, and forms of texts and bytes that it fixes in words; and of document 02 what weights do, and a step limit. Each row but those on monomials is about the outcome of a call. Assumes nothing.
+use Prim.Native.Nat.{ℕ, zero, suc, _+_, _≤_, Ordering·gt}
 use Prim.Native.Char.{code}
 use Prim.Native.String.{String, [] as no-more, _∷_ as _then_}
 use mathlib.Core.Path.{_≡_}
@@ -51,16 +51,25 @@ zeros n = replicate n 0
 abbrev pub in-7 : Setting
 in-7 = settingOf 7 3 2 ones
 
+-- the same in one variable
+abbrev pub in-x1 : Setting
+in-x1 = settingOf 7 3 1 ones
+
+-- x1^(k-1) + .. + x1 + 1
+abbrev pub powers : (k : ℕ) → List (Term ℕ)
+powers zero = []
+powers (suc k) = in-dp 1 (k ∷ []) ∷ powers k
+
 -- a run of some operations, and a reduction of f by gs, each with 4,096 output places
 abbrev pub run-of : List (List (Term ℕ)) → (ops : List ℕ) → Outcome
 run-of fs ops =
     let ts = side-by-side fs in
     runOutcome noTally in-7 (T.words ts) (T.coefs ts) (startsFrom 0 fs) ops (zeros bucketPlaces) (zeros bucketPlaces) (zeros workPlaces) (zeros workPlaces) (zeros mostTerms) (zeros mostTerms)
 
-abbrev pub reduction-of : (limit : ℕ) → List (Term ℕ) → List (List (Term ℕ)) → Outcome
-reduction-of limit f gs =
+abbrev pub reduction-of : Setting → (limit : ℕ) → List (Term ℕ) → List (List (Term ℕ)) → Outcome
+reduction-of t limit f gs =
     let ts = side-by-side (f ∷ gs) in
-    reductionOutcome noTally in-7 (T.words ts) (T.coefs ts) (startsFrom 0 (f ∷ gs)) limit (zeros bucketPlaces) (zeros bucketPlaces) (zeros workPlaces) (zeros workPlaces) (zeros mostTerms) (zeros mostTerms)
+    reductionOutcome noTally t (T.words ts) (T.coefs ts) (startsFrom 0 (f ∷ gs)) limit (zeros bucketPlaces) (zeros bucketPlaces) (zeros workPlaces) (zeros workPlaces) (zeros mostTerms) (zeros mostTerms)
 
 -- what lies in the output places that a call says it wrote
 abbrev pub output : Outcome → List (Term ℕ)
@@ -86,6 +95,8 @@ pub data Result : Type 0 where
   leaves : (limit : ℕ) → List (Term ℕ) → List (List (Term ℕ)) → (remainder : List (Term ℕ)) → (leads : ℕ) → Result
   -- or the reduction is stopped by this refusal
   stops : (limit : ℕ) → List (Term ℕ) → List (List (Term ℕ)) → (refusal leads : ℕ) → Result
+  -- without divisors, all 128 monomials in one variable, with this step limit: the refusal, 0 for none, and the leads removed
+  empties : (limit refusal leads : ℕ) → Result
   -- the polynomial is written as one block with this check
   stores : List (Term ℕ) → (check : ℕ) → Result
   -- in its block, the first place holds these bytes
@@ -103,8 +114,9 @@ Says (word o α w) = wordOf o ones α ≡ w
 Says (weighs o vs α w) = wordOf o vs α ≡ w
 Says (prints script listing) = Prints (textOf script) (textOf listing)
 Says (writes fs ops places comparisons) = let o = run-of fs ops in (o .answer .number ≡ 0) × (output o ≡ places) × (o .tally .comparisons ≡ comparisons)
-Says (leaves limit f gs remainder leads) = let o = reduction-of limit f gs in (o .answer .number ≡ 0) × (output o ≡ remainder) × (o .answer .finished ≡ leads)
-Says (stops limit f gs refusal leads) = let o = reduction-of limit f gs in (o .answer .number ≡ refusal) × (o .answer .finished ≡ leads)
+Says (leaves limit f gs remainder leads) = let o = reduction-of in-7 limit f gs in (o .answer .number ≡ 0) × (output o ≡ remainder) × (o .answer .finished ≡ leads)
+Says (stops limit f gs refusal leads) = let o = reduction-of in-7 limit f gs in (o .answer .number ≡ refusal) × (o .answer .finished ≡ leads)
+Says (empties limit refusal leads) = let o = reduction-of in-x1 limit (powers 128) [] in (o .answer .number ≡ refusal) × (o .answer .finished ≡ leads)
 Says (stores f check) =
     let o = writeOutcome in-7 (T.words f) (T.coefs f) (zeros 512) in
     (o .answer .number ≡ 0) × (o .answer .blocks ≡ 1) × (length (o .bytes) ≡ 512) × (numberAt 4 508 (o .bytes) ≡ check)
@@ -189,4 +201,7 @@ table =
     ∷ outweighs DegRevLex heavy-x2 (0 ∷ 1 ∷ []) (1 ∷ 0 ∷ [])
     -- "Slide joints count double": with weights of 1 these terms would not fall
     ∷ prints slide slide-lines
+    -- "13 is never given with an allowed step limit" of 128^n or more: one less does not do at n = 1
+    ∷ empties 127 13 127
+    ∷ empties 128 0 128
     ∷ []

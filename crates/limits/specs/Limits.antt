@@ -36,6 +36,10 @@ mostOperations = 16777216
 abbrev pub mostSteps : ℕ
 mostSteps = 8796093022208
 
+-- "13 is never given with an allowed step limit of 4,398,046,511,104 (128 to the sixth) or more" (theorem `limit-suffices`)
+abbrev pub sufficientSteps : ℕ
+sufficientSteps = 4398046511104
+
 -- "At most 16,384 bytes" of a script
 abbrev pub scriptBytes : ℕ
 scriptBytes = 16384

@@ -35,11 +35,11 @@ use Rattle.opening.proofs.ReductionJudgements.{reduction-judged}
 use Rattle.opening.proofs.ListedLaws.{reduction-numbers}
 use Rattle.division.specs.Choice.{chosen}
 use Rattle.division.specs.Steps.{Reduction, overWord}
-use Rattle.division.specs.Divisors.{Undivided}
+use Rattle.division.specs.Divisors.{Valid, AllOf, Undivided}
 use Rattle.division.specs.Ending.{finished, at-limit, over, too-many, no-place, Ending, first-too-many, by-steps}
 use Rattle.division.proofs.HeldTerms.{Every, above-every}
 use Rattle.division.proofs.TailLaws.{all-zip}
-use Rattle.division.proofs.WordOperations.{words-agree}
+use Rattle.division.proofs.WordOperations.{words-agree, valid-exponents, all-exponents}
 use Rattle.division.proofs.Renaming.{under-renamed}
 use Rattle.division.proofs.StateLaws.{all-append}
 use Rattle.division.proofs.RenamedEndings.{OneList, renamed-long, renamed-all}
@@ -48,7 +48,7 @@ use Rattle.division.proofs.Reductions.{Given}
 use Rattle.division.proofs.Reductions as R
 use Rattle.division.proofs.ByExponents as X
 use Rattle.reduction_outcome.specs.Outcome.{tallyOf, ended, reducedThrough, reductionOutcome}
-use Rattle.reduction_outcome.specs.Meaning.{reductionNumbers, byExponents, remainderIn, heldIn, overExponents, dividendIn, divisorsIn, leadsRemoved, workOn, DividesTo, Removes, SumWith, EndsWith}
+use Rattle.reduction_outcome.specs.Meaning.{reductionNumbers, byExponents, remainderIn, heldIn, InVariables, overExponents, dividendIn, divisorsIn, leadsRemoved, workOn, DividesTo, Removes, SumWith, EndsWith}
 use Rattle.reduction_outcome.proofs.OpenedLaws.{valid-polynomial, valid-divisors}
 
 -- Demand 1: every call ends (its contract says so), with "a result, or a numbered refusal under its stated condition and no other". The opening: each number under its condition, where no earlier one holds.
@@ -73,6 +73,14 @@ module _ (tally : Tally) (t : Setting) (words coefs ss : List ℕ) (limit : ℕ)
   -- "A call refused in its opening checks changes no lent memory"
   pub demand-1-unchanged : (opening ≡ 0 → ⊥) → outcome ≡ record { answer = openingRefused opening; tally = tally; bw = bw; bc = bc; ww = ww; wc = wc; ow = ow; oc = oc }
   demand-1-unchanged ne = sym (decided-refused opening tally (ended (reducedThrough t words coefs ss limit (length ow)) ow oc) bw bc ww wc ow oc ne (refl, refl))
+
+  -- so a call that answers 0 has passed them
+  pub answered-opened : outcome .answer .number ≡ 0 → opening ≡ 0
+  answered-opened z = by opening refl
+    where
+      by : (k : ℕ) → opening ≡ k → opening ≡ 0
+      by zero e = e
+      by (suc k) e = sym (ap (λ (x : Outcome). x .answer .number) (demand-1-unchanged (λ q. let a : ⊥ = omega (arith, q, e) in a))) ∙ z
 
   -- ---- polynomial 0 and the divisors, by exponents
   abbrev pub f : List (Term (List ℕ))
@@ -106,11 +114,18 @@ module _ (tally : Tally) (t : Setting) (words coefs ss : List ℕ) (limit : ℕ)
     abbrev cmp : ℕ → ℕ → Ordering
     cmp = compareWords (orderOf (t .order))
 
-    opened : ReductionOpened t words coefs ss limit (length bw) (length bc) (length ww) (length wc) (length ow) (length oc)
+    pub opened : ReductionOpened t words coefs ss limit (length bw) (length bc) (length ww) (length wc) (length ow) (length oc)
     opened = reduction-opened t words coefs ss limit (length bw) (length bc) (length ww) (length wc) (length ow) (length oc) none
 
     given : Given (orderOf (t .order)) (t .n) (t .weights) (t .p) (divisorsOf words coefs ss) (polynomial words coefs ss 0)
     given = record { few = opened .n-high; prime = opened .prime; divisors = valid-divisors opened; valid = valid-polynomial opened 0 (opened .some) }
+
+    -- what they leave of polynomial 0 and the divisors, by exponents
+    pub dividend-valid : Valid (compareIn (orderOf (t .order)) (t .weights)) (t .p) (InVariables t) f
+    dividend-valid = valid-exponents (orderOf order) n weights (opened .n-high) p (polynomial words coefs ss 0) (given .valid)
+
+    pub divisors-valid : AllOf (Valid (compareIn (orderOf (t .order)) (t .weights)) (t .p) (InVariables t)) gs
+    divisors-valid = all-exponents (orderOf order) n weights (opened .n-high) p (divisorsOf words coefs ss) (given .divisors)
 
     few : length f ≤ mostTerms → length (polynomial words coefs ss 0) ≤ mostTerms
     few h = omega (arith, h, renamed-long (exponents (orderOf order) n) (λ w. Layout (orderOf order) n weights w) (polynomial words coefs ss 0))

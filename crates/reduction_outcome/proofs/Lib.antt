@@ -1,3 +1,5 @@
 pub mod OpenedLaws
 pub mod Demands
 pub mod Bars
+pub mod Edits
+pub mod StepLimit

@@ -5,7 +5,7 @@ use mathlib.Core.Bool.{Bool, true, false, _||_}
 use mathlib.Core.List.{List, [], _∷_, _++_}
 use mathlib.Core.Logic.{_⊎_, inl, inr}
 use native.Mathlib.Omega.{arith}
-use borrow.Author.Tests.{eqb-true}
+use borrow.Author.Tests.{eqb-true, eq-eqb}
 use lib.Dec.{eqb}
 use Rattle.refusal.specs.Table.{listed}
 use Rattle.refusal.specs.Judgement.{Condition, Judged, AllHold, Counted, OneOf, oneOf, NumberedBy}
@@ -71,6 +71,16 @@ one-of (m ∷ ns) n r h e = by (eqb n m) refl h (λ k. one-of ns n r k e)
     by : (b : Bool) → eqb n m ≡ b → (b || oneOf ns n) ≡ true → (oneOf ns n ≡ true → OneOf ns r) → OneOf (m ∷ ns) r
     by true q k f = inl (e ∙ eqb-true n m q)
     by false q k f = inr (f k)
+
+-- a number that is not listed does not come
+pub one-of-not : (ns : List ℕ) (n r : ℕ) → oneOf ns n ≡ false → OneOf ns r → r ≡ n → ⊥
+one-of-not [] n r h o e = o
+one-of-not (m ∷ ns) n r h o e = by (eqb n m) refl h o (λ k a. one-of-not ns n r k a e)
+  where
+    by : (b : Bool) → eqb n m ≡ b → (b || oneOf ns n) ≡ false → OneOf (m ∷ ns) r → (oneOf ns n ≡ false → OneOf ns r → ⊥) → ⊥
+    by true q k a f = let z : _≡_ {A = ℕ} 0 1 = cc in omega arith
+    by false q k (inl a) f = let t = eq-eqb n m (sym e ∙ a) in let z : _≡_ {A = ℕ} 0 1 = cc in omega arith
+    by false q k (inr a) f = f k a
 
 pub one-of-more : (ns ms : List ℕ) (r : ℕ) → OneOf ns r → OneOf (ns ++ ms) r
 one-of-more [] ms r h = absurd h
