@@ -60,6 +60,11 @@ extern "C" {
 #define DAMSELBUCKLE_MOST_OPERATIONS 16777216
 #define DAMSELBUCKLE_MOST_STEPS UINT64_C(8796093022208)
 
+/* A step limit that is always enough, for n up to 6: 128 to the sixth, the number of monomials. A reduction
+ * never removes more leads than there are monomials in n variables, 128 to the power n; so with this limit,
+ * or a larger one that is allowed, it is never stopped by 13. */
+#define DAMSELBUCKLE_SUFFICIENT_STEPS UINT64_C(4398046511104)
+
 /* The bytes of a block, and the most blocks of a polynomial. */
 #define DAMSELBUCKLE_BLOCK_BYTES 512
 #define DAMSELBUCKLE_MOST_BLOCKS 100
@@ -157,7 +162,8 @@ static const uint32_t DAMSELBUCKLE_ONES[DAMSELBUCKLE_WEIGHTS] = {1, 1, 1, 1, 1, 
 #define DAMSELBUCKLE_TOO_MANY_TERMS 11
 /* a product has an exponent over 127. After it: stopped. */
 #define DAMSELBUCKLE_EXPONENT_OVER 12
-/* the step limit is reached, and a lead is left. After it: stopped. */
+/* the step limit is reached, and a lead is left; with a limit of 4,398,046,511,104 or more it never
+ * comes. After it: stopped. */
 #define DAMSELBUCKLE_STEP_LIMIT 13
 /* the bytes are not 1 to 100 whole blocks. After it: all as it came. */
 #define DAMSELBUCKLE_NOT_BLOCKS 14
@@ -201,7 +207,7 @@ static inline const char *damselbuckle_refusal_text(uint64_t refusal)
     case DAMSELBUCKLE_EXPONENT_OVER:
         return "a product has an exponent over 127";
     case DAMSELBUCKLE_STEP_LIMIT:
-        return "the step limit is reached, and a lead is left";
+        return "the step limit is reached, and a lead is left; with a limit of 4,398,046,511,104 or more it never comes";
     case DAMSELBUCKLE_NOT_BLOCKS:
         return "the bytes are not 1 to 100 whole blocks";
     case DAMSELBUCKLE_BAD_CHECK:
@@ -297,6 +303,10 @@ damselbuckle_run_answer damselbuckle_run(
  *
  * The remainder goes to the first output places, with no zero place after it. Spaces and output are
  * left as by a run.
+ *
+ * With the same setting and divisors, and all reductions finished, the remainder of f + g is that of f
+ * plus that of g, whatever limits and outputs the calls had. docs/INTEGRATION.md, "After an edit", has
+ * what this says of somebody who changes one term.
  */
 damselbuckle_reduction_answer damselbuckle_reduce(
     damselbuckle_tally *tally, /* the counts; a refusal at the opening writes back those that came */
@@ -307,7 +317,8 @@ damselbuckle_reduction_answer damselbuckle_reduce(
     const uint64_t *words, size_t words_len, /* the words of all polynomials, one after the other */
     const uint32_t *coefs, size_t coefs_len, /* their coefficients; as many */
     const size_t *starts, size_t starts_len, /* polynomial k runs from start k to before start k + 1 */
-    uint64_t limit, /* the most leads to remove, at most DAMSELBUCKLE_MOST_STEPS */
+    uint64_t limit, /* the most leads to remove, at most DAMSELBUCKLE_MOST_STEPS; the constant
+                       DAMSELBUCKLE_SUFFICIENT_STEPS is always enough */
     uint64_t *bw, size_t bw_len, /* bucket space, words: DAMSELBUCKLE_BUCKET_PLACES */
     uint32_t *bc, size_t bc_len, /* bucket space, coefficients; as many */
     uint64_t *ww, size_t ww_len, /* work space, words: DAMSELBUCKLE_WORK_PLACES */

@@ -25,6 +25,9 @@ pub const MOST_OPERATIONS: usize = 16_777_216;
 /// "a step limit over 8,796,093,022,208"
 pub const MOST_STEPS: u64 = 8_796_093_022_208;
 
+/// "13 is never given with an allowed step limit of 4,398,046,511,104 (128 to the sixth) or more"
+pub const SUFFICIENT_STEPS: u64 = 4_398_046_511_104;
+
 /// "A block is 512 bytes", with "41 places", and there are at most "100 blocks".
 pub const BLOCK_BYTES: usize = 512;
 pub const BLOCK_TERMS: usize = 41;

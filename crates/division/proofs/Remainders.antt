@@ -128,6 +128,12 @@ module _ {A : Type 0} (cmp : A → A → Ordering) (choose : A → Fit A) (quoti
         ∙ add-both p (total cmp m r) (total cmp m r) (δ * total cmp m own) (total cmp m (scaled p δ own)) refl (sym (total-scaled cmp p m δ own));
   }
 
+  -- from zero it moves to that alone
+  pub edit-of-zero : {f g s own : List (Term A)} (α : A) (δ : ℕ) → Leaves f [] → Leaves g s → Leaves (term α 1 ∷ []) own → Edited cmp p α δ f g → s ≡ scaled p δ own
+  edit-of-zero {s = s} {own = own} α δ a b t e =
+      canonical-unique cmp O p pos s (scaled p δ own) (canonical b) (scaled-canonical cmp p prime δ (e .some) (e .small) own (canonical t))
+      (λ m. edit-moves α δ a b t e .coefficients m ∙ plain p (let z : total cmp m [] + total cmp m (scaled p δ own) ≡ total cmp m (scaled p δ own) = omega (arith, total-nil cmp m) in z))
+
   -- "never at a monomial above the edited one": where two polynomials agree above α, so do their remainders
   pub edit-below : {f g r s : List (Term A)} (α : A) → Leaves f r → Leaves g s → SameAbove cmp p α f g → SameAbove cmp p α r s
   edit-below {f} {g} {r} {s} α a b above =

@@ -1,4 +1,4 @@
--- Document 01, "Known results": the starred ones, as a table, and forms of texts and bytes that it fixes in words; and of document 02 what weights do, and a step limit. Each row but those on monomials is about the outcome of a call. Assumes nothing.
+-- Document 01, "Known results": the starred ones, as a table, and forms of texts and bytes that it fixes in words; and of document 02 what weights do, an edit, and a step limit. Each row but those on monomials is about the outcome of a call. Assumes nothing.
 use Prim.Native.Nat.{ℕ, zero, suc, _+_, _≤_, Ordering·gt}
 use Prim.Native.Char.{code}
 use Prim.Native.String.{String, [] as no-more, _∷_ as _then_}
@@ -95,7 +95,7 @@ pub data Result : Type 0 where
   leaves : (limit : ℕ) → List (Term ℕ) → List (List (Term ℕ)) → (remainder : List (Term ℕ)) → (leads : ℕ) → Result
   -- or the reduction is stopped by this refusal
   stops : (limit : ℕ) → List (Term ℕ) → List (List (Term ℕ)) → (refusal leads : ℕ) → Result
-  -- without divisors, all 128 monomials in one variable, with this step limit: the refusal, 0 for none, and the leads removed
+  -- without divisors, all 128 monomials in one variable, with this step limit: the refusal, 0 for none, and the leads removed, each of which goes to the output
   empties : (limit refusal leads : ℕ) → Result
   -- the polynomial is written as one block with this check
   stores : List (Term ℕ) → (check : ℕ) → Result
@@ -116,7 +116,7 @@ Says (prints script listing) = Prints (textOf script) (textOf listing)
 Says (writes fs ops places comparisons) = let o = run-of fs ops in (o .answer .number ≡ 0) × (output o ≡ places) × (o .tally .comparisons ≡ comparisons)
 Says (leaves limit f gs remainder leads) = let o = reduction-of in-7 limit f gs in (o .answer .number ≡ 0) × (output o ≡ remainder) × (o .answer .finished ≡ leads)
 Says (stops limit f gs refusal leads) = let o = reduction-of in-7 limit f gs in (o .answer .number ≡ refusal) × (o .answer .finished ≡ leads)
-Says (empties limit refusal leads) = let o = reduction-of in-x1 limit (powers 128) [] in (o .answer .number ≡ refusal) × (o .answer .finished ≡ leads)
+Says (empties limit refusal leads) = reduction-of in-x1 limit (powers 128) [] .answer ≡ record { number = refusal; finished = leads; places = leads }
 Says (stores f check) =
     let o = writeOutcome in-7 (T.words f) (T.coefs f) (zeros 512) in
     (o .answer .number ≡ 0) × (o .answer .blocks ≡ 1) × (length (o .bytes) ≡ 512) × (numberAt 4 508 (o .bytes) ≡ check)
@@ -154,6 +154,10 @@ slide = "prime 7" ∷ "order dp" ∷ "vars 2" ∷ "weights 1 2" ∷ "add 1:1.1 3
 abbrev pub slide-lines : List String
 slide-lines = "lead 1:1.1" ∷ "sum 3:2.0 6:1.0" ∷ "cost 0 of 18" ∷ []
 
+-- document 01's polynomial with 3x2² in place of x2²
+abbrev pub edited : List (Term ℕ)
+edited = in-dp 1 (2 ∷ 1 ∷ []) ∷ in-dp 1 (1 ∷ 2 ∷ []) ∷ in-dp 3 (0 ∷ 2 ∷ []) ∷ []
+
 -- six weights that differ, and a heavy x2
 abbrev pub six-weights : List ℕ
 six-weights = 3 ∷ 5 ∷ 7 ∷ 11 ∷ 13 ∷ 16 ∷ []
@@ -181,6 +185,9 @@ table =
     ∷ leaves 6 dividend (by-x1x2 ∷ by-x2² ∷ []) (in-dp 1 (1 ∷ 0 ∷ []) ∷ in-dp 1 (0 ∷ 1 ∷ []) ∷ in-dp 1 (0 ∷ 0 ∷ []) ∷ []) 6
     ∷ stops 5 dividend (by-x1x2 ∷ by-x2² ∷ []) 13 5
     ∷ leaves 5 dividend (by-x2² ∷ by-x1x2 ∷ []) (in-dp 2 (1 ∷ 0 ∷ []) ∷ in-dp 1 (0 ∷ 0 ∷ []) ∷ []) 5
+    -- of document 02, "an edit at one monomial moves the remainder by that term's own remainder, scaled": x2² leaves 1, and with 3x2² in place of x2² the remainder is x1+x2+3
+    ∷ leaves 2 (in-dp 1 (0 ∷ 2 ∷ []) ∷ []) (by-x1x2 ∷ by-x2² ∷ []) (in-dp 1 (0 ∷ 0 ∷ []) ∷ []) 2
+    ∷ leaves 6 edited (by-x1x2 ∷ by-x2² ∷ []) (in-dp 1 (1 ∷ 0 ∷ []) ∷ in-dp 1 (0 ∷ 1 ∷ []) ∷ in-dp 3 (0 ∷ 0 ∷ []) ∷ []) 6
     -- "* By x2²+6x1: x1^126·x2² leaves x1^127; * x1^127·x2² stops with 12."
     ∷ leaves 2 (in-dp 1 (126 ∷ 2 ∷ []) ∷ []) (by-x1 ∷ []) (in-dp 1 (127 ∷ 0 ∷ []) ∷ []) 2
     ∷ stops 2 (in-dp 1 (127 ∷ 2 ∷ []) ∷ []) (by-x1 ∷ []) 12 0

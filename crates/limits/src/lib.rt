@@ -26,6 +26,10 @@ pub const MOST_OPERATIONS: usize = 16777216;
 // "a step limit over 8,796,093,022,208"
 pub const MOST_STEPS: u64 = 8796093022208;
 
+// "13 is never given with an allowed step limit of 4,398,046,511,104 (128 to the sixth) or more": as many as there
+// are monomials in six variables. No code needs it; it is for callers.
+pub const SUFFICIENT_STEPS: u64 = 4398046511104;
+
 // "At most 16,384 bytes" of a script.
 pub const SCRIPT_BYTES: usize = 16384;
 

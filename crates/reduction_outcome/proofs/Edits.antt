@@ -1,5 +1,5 @@
 -- What a change of the closing condition does to the remainder (document 02, "One changed term in the closing condition."): about calls of `reduce` that finish, with the same setting and divisors, whatever their limits and outputs. Polynomials are meant by exponents. Assumes nothing.
-use mathlib.Core.Path.{_≡_, subst}
+use mathlib.Core.Path.{_≡_, refl, sym, ap, _∙_, subst}
 use mathlib.Core.Bool.{false}
 use mathlib.Core.List.{List, [], _∷_}
 use Prim.Native.Nat.{ℕ, _+_, _*_, _%_, _<_, Ordering}
@@ -16,7 +16,7 @@ use Rattle.division.specs.Division.{SumOf}
 use Rattle.division.specs.Divisors.{Valid, AllOf}
 use Rattle.division.specs.Operations.{Operations}
 use Rattle.division.specs.Edits.{Edited, SameAbove, scaled}
-use Rattle.division.proofs.DivisionLaws.{division-unique}
+use Rattle.division.proofs.DivisionLaws.{not-empty, division-unique}
 use Rattle.division.proofs.FitLaws.{chosen-choice}
 use Rattle.division.proofs.ExponentOperations.{exponent-operations}
 use Rattle.division.proofs.Remainders.{Leaves}
@@ -90,6 +90,17 @@ module _ (t : Setting) (gs : List (List (Term (List ℕ)))) where
   pub edit-moves : {f g r s own : List (Term (List ℕ))} (α : List ℕ) (δ : ℕ) → Reduces t gs f r → Reduces t gs g s → Reduces t gs (term α 1 ∷ []) own → Edited (compareIn (orderOf (t .order)) (t .weights)) (t .p) α δ f g
       → SumOf (compareIn (orderOf (t .order)) (t .weights)) (t .p) r (scaled (t .p) δ own) s
   edit-moves α δ a b c e = R.edit-moves cmp (chosen divides gs) quotient product (t .p) divides gs (chosen-choice divides gs) O (InVariables t) ops (said a .prime) (said a .divisors) α δ (left a a) (left a b) (left a c) e
+
+  -- So an arm that closed: a remainder that was zero is then δ times the edited term's own, and zero again exactly where that is zero.
+  pub edit-of-zero : {f g s own : List (Term (List ℕ))} (α : List ℕ) (δ : ℕ) → Reduces t gs f [] → Reduces t gs g s → Reduces t gs (term α 1 ∷ []) own → Edited (compareIn (orderOf (t .order)) (t .weights)) (t .p) α δ f g → s ≡ scaled (t .p) δ own
+  edit-of-zero α δ a b c e = R.edit-of-zero cmp (chosen divides gs) quotient product (t .p) divides gs (chosen-choice divides gs) O (InVariables t) ops (said a .prime) (said a .divisors) α δ (left a a) (left a b) (left a c) e
+
+  pub edit-keeps-zero : {f g s own : List (Term (List ℕ))} (α : List ℕ) (δ : ℕ) → Reduces t gs f [] → Reduces t gs g s → Reduces t gs (term α 1 ∷ []) own → Edited (compareIn (orderOf (t .order)) (t .weights)) (t .p) α δ f g → (s ≡ [] → own ≡ []) × (own ≡ [] → s ≡ [])
+  edit-keeps-zero {own = own} α δ a b c e = let z = edit-of-zero α δ a b c e in (λ h. none own (sym z ∙ h), λ h. z ∙ ap (scaled (t .p) δ) h)
+    where
+      none : (r : List (Term (List ℕ))) → scaled (t .p) δ r ≡ [] → r ≡ []
+      none [] h = refl
+      none (u ∷ r) h = absurd (not-empty (term (u .mono) (δ * u .coef % t .p)) (scaled (t .p) δ r) h)
 
   -- "never at a monomial above the edited one": where f and g agree above α, so do their remainders. The reduction of 1·α need not be finished, and more than one term up to α may differ.
   pub edit-below : {f g r s : List (Term (List ℕ))} (α : List ℕ) → Reduces t gs f r → Reduces t gs g s → SameAbove (compareIn (orderOf (t .order)) (t .weights)) (t .p) α f g → SameAbove (compareIn (orderOf (t .order)) (t .weights)) (t .p) α r s

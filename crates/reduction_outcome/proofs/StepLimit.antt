@@ -99,7 +99,7 @@ module _ (tally : Tally) (t : Setting) (words coefs ss : List ℕ) (limit : ℕ)
     short : outcome .answer .number ≡ 13 → limit < 128 ^ t .n
     short z = short-of (outcome .answer .number) (outcome .answer .finished) (remainderIn t outcome) refl (D.demand-1-ending tally t words coefs ss limit bw bc ww wc ow oc none) z
 
-    -- "every call ends" says it of the engine; as mathematics, without limits on exponents, terms and steps, each polynomial 0 has a division, so a remainder
+    -- the division of polynomial 0 ends: as mathematics, without the engine's limits on exponents, terms and steps
     pub every-division : (k : ℕ) × (s : List (Term (List ℕ))) × DividesTo t (divisorsIn t words coefs ss) k (dividendIn t words coefs ss) s
     every-division =
         let o = D.opened tally t words coefs ss limit bw bc ww wc ow oc none in

@@ -170,7 +170,10 @@ impl Engine {
     /// Reduces polynomial 0 by the others, with at most `limit` leads removed: the first divisor in the
     /// list whose lead divides the lead is used, and a lead that none divides goes to the remainder. A
     /// refusal at the opening does nothing at all; one on the way stops the reduction before the lead is
-    /// removed.
+    /// removed. A limit of [`SUFFICIENT_STEPS`](crate::SUFFICIENT_STEPS) is always enough.
+    ///
+    /// With the same setting and divisors, and all reductions finished, the remainder of a sum is the sum of the
+    /// remainders, whatever the limits and outputs were.
     ///
     /// ```
     /// use damselbuckle::{Engine, Order, Polynomials, Refusal, Setting};

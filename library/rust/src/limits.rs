@@ -33,6 +33,10 @@ pub const MOST_OPERATIONS: usize = 16_777_216;
 /// The largest step limit of a reduction.
 pub const MOST_STEPS: u64 = 8_796_093_022_208;
 
+/// A step limit that is always enough, in up to six variables: 128 to the sixth, the number of monomials. With it,
+/// or a larger one up to [`MOST_STEPS`], a reduction is never stopped by [`Refusal::StepLimit`](crate::Refusal).
+pub const SUFFICIENT_STEPS: u64 = 4_398_046_511_104;
+
 /// The most bytes of a script.
 pub const SCRIPT_BYTES: usize = 16_384;
 

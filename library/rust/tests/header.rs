@@ -254,6 +254,34 @@ fn the_wrapper_has_the_limits_of_rattle() {
     assert_eq!(rust, rattle);
 }
 
+/// The name that a definition has for a limit of the code: `MOST_STEPS` is `mostSteps`.
+fn defined_name(name: &str) -> String {
+    if name == "WEIGHTS" {
+        return "weightCount".to_string();
+    }
+    let mut parts = name.split('_').map(str::to_lowercase);
+    let first = parts.next().unwrap_or_default();
+    parts.fold(first, |whole, part| {
+        whole + &part[..1].to_uppercase() + &part[1..]
+    })
+}
+
+/// Each limit of the code is that of the definitions, also one that no code needs.
+#[test]
+fn the_limits_of_rattle_are_defined() {
+    let (rattle, definitions) = (
+        text("crates/limits/src/lib.rt"),
+        text("crates/limits/specs/Limits.antt"),
+    );
+    let constants = constants(&rattle);
+    for (name, (_, number)) in &constants {
+        let line = format!("\n{} = {number}\n", defined_name(name));
+        assert!(definitions.contains(&line), "{line}");
+    }
+    let count = definitions.matches("abbrev pub ").count();
+    assert_eq!(count, constants.len());
+}
+
 /// The limits of the wrapper, orders, operations and refusals, and nothing else.
 #[test]
 fn the_header_has_the_numbers() {
