@@ -162,8 +162,8 @@ static const uint32_t DAMSELBUCKLE_ONES[DAMSELBUCKLE_WEIGHTS] = {1, 1, 1, 1, 1, 
 #define DAMSELBUCKLE_TOO_MANY_TERMS 11
 /* a product has an exponent over 127. After it: stopped. */
 #define DAMSELBUCKLE_EXPONENT_OVER 12
-/* the step limit is reached, and a lead is left; with a limit of 4,398,046,511,104 or more it never
- * comes. After it: stopped. */
+/* the step limit is reached, and a lead is left; with a limit of 4,398,046,511,104 or more this
+ * never happens. After it: stopped. */
 #define DAMSELBUCKLE_STEP_LIMIT 13
 /* the bytes are not 1 to 100 whole blocks. After it: all as it came. */
 #define DAMSELBUCKLE_NOT_BLOCKS 14
@@ -207,7 +207,7 @@ static inline const char *damselbuckle_refusal_text(uint64_t refusal)
     case DAMSELBUCKLE_EXPONENT_OVER:
         return "a product has an exponent over 127";
     case DAMSELBUCKLE_STEP_LIMIT:
-        return "the step limit is reached, and a lead is left; with a limit of 4,398,046,511,104 or more it never comes";
+        return "the step limit is reached, and a lead is left; with a limit of 4,398,046,511,104 or more this never happens";
     case DAMSELBUCKLE_NOT_BLOCKS:
         return "the bytes are not 1 to 100 whole blocks";
     case DAMSELBUCKLE_BAD_CHECK:

@@ -114,10 +114,14 @@ fn groups(seed: u64, mut look: impl FnMut(&mut Group, Vec<Term>)) {
 }
 
 /// How often each kind was met, for each order.
-#[derive(Debug, Default)]
+#[derive(Debug)]
 struct Met<const KINDS: usize>([[u64; KINDS]; 3]);
 
 impl<const KINDS: usize> Met<KINDS> {
+    fn new() -> Self {
+        Met([[0; KINDS]; 3])
+    }
+
     fn meet(&mut self, order: Order, kinds: [bool; KINDS]) {
         let counts = &mut self.0[order.number() as usize - 1];
         for (count, met) in counts.iter_mut().zip(kinds) {
@@ -140,7 +144,7 @@ impl<const KINDS: usize> Met<KINDS> {
 /// f plus that of g."
 #[test]
 fn remainders_add_up() {
-    let mut met = Met::default();
+    let mut met = Met::new();
     groups(501, |group, f| {
         let g = group.polynomial();
         let h = group.plus(&f, &g);
@@ -168,7 +172,7 @@ fn remainders_add_up() {
 /// the edited one."
 #[test]
 fn an_edit_moves_the_remainder_by_its_own() {
-    let mut met = Met::default();
+    let mut met = Met::new();
     groups(502, |group, f| {
         let (order, _, p) = group.setting;
         let (edited, difference) = (group.monomial(), coef(group.random, p));

@@ -31,7 +31,7 @@ pub enum Refusal {
     TooManyTerms = 11,
     /// a product has an exponent over 127
     ExponentOver = 12,
-    /// the step limit is reached, and a lead is left; with a limit of 4,398,046,511,104 or more it never comes
+    /// the step limit is reached, and a lead is left; with a limit of 4,398,046,511,104 or more this never happens
     StepLimit = 13,
     /// the bytes are not 1 to 100 whole blocks
     NotBlocks = 14,
@@ -90,7 +90,7 @@ impl Refusal {
             Refusal::NoOutput => "there is too little room for the output",
             Refusal::TooManyTerms => "over 4,096 terms would be held, or are to be written",
             Refusal::ExponentOver => "a product has an exponent over 127",
-            Refusal::StepLimit => "the step limit is reached, and a lead is left; with a limit of 4,398,046,511,104 or more it never comes",
+            Refusal::StepLimit => "the step limit is reached, and a lead is left; with a limit of 4,398,046,511,104 or more this never happens",
             Refusal::NotBlocks => "the bytes are not 1 to 100 whole blocks",
             Refusal::BadCheck => "the check of a block is wrong",
             Refusal::BadBlock => "a block's numbers or filler are not what writing would put there",
