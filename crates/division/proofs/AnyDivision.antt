@@ -1,4 +1,4 @@
--- Theorems on every division, apart from any algorithm: the polynomial is the remainder and a sum of multiples of divisors, no term of the remainder is divisible, and the leads fall strictly. They ask for operations under which no product is too large. Assumes nothing.
+-- Theorems on every division, apart from any algorithm: the polynomial is the remainder and a sum of multiples of divisors, the remainder is canonical, no term of it is divisible, and the leads fall strictly. They ask for operations under which no product is too large. Assumes nothing.
 use mathlib.Core.Path.{_≡_, refl, sym, subst}
 use mathlib.Core.Bool.{Bool, false}
 use mathlib.Core.List.{List, [], _∷_}

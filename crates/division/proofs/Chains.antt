@@ -8,7 +8,7 @@ use lib.ListN.{length}
 use Rattle.monomial.specs.declared.order.Order.{Order}
 use Rattle.monomial.specs.declared.order.Order.the-variants.{Lex, DegLex, DegRevLex}
 use Rattle.monomial.specs.Exponents.{degree, weighted, Positive, orElse, lex, revLex, compareIn}
-use Rattle.monomial.proofs.Comparing.{Tri, less, same, more, tri, compare-same}
+use Rattle.monomial.proofs.Comparing.{compare-same, compare-larger}
 use Rattle.monomial.proofs.OrderLaws.{rev-same}
 use Rattle.division.specs.Chains.{Ends, ends}
 
@@ -18,14 +18,6 @@ not-lt e = let z : _≡_ {A = ℕ} 0 1 = cc in omega arith
 
 not-eq : Ordering·eq ≡ Ordering·gt → ⊥
 not-eq e = let z : _≡_ {A = ℕ} 0 1 = cc in omega arith
-
-compare-more : (a b : ℕ) → compare a b ≡ Ordering·gt → b < a
-compare-more a b g = by (tri a b)
-  where
-    by : Tri a b → b < a
-    by (less h e) = absurd (not-lt (sym e ∙ g))
-    by (same h e) = absurd (not-eq (sym e ∙ g))
-    by (more h e) = h
 
 -- of two answers one after the other, the first says "larger", or it says "equal" and the second does
 data Larger (s t : Ordering) : Type 0 where
@@ -56,7 +48,7 @@ module _ (n : ℕ) (rest : (α : List ℕ) → length α ≡ n → Ends (λ β. 
       by x ih out (c ∷ γ) j g = go (larger (compare a c) (lex x γ) g)
         where
           go : Larger (compare a c) (lex x γ) → Ends Long lex (c ∷ γ)
-          go (by-first e) = out c (omega (arith, compare-more a c e, l)) γ j
+          go (by-first e) = out c (omega (arith, compare-larger a c e, l)) γ j
           go (by-second e f) = subst (λ (b : ℕ). Ends Long lex (b ∷ γ)) (compare-same a c e) (ih γ (omega (arith, j)) f)
 
 lex-ends : (n : ℕ) (α : List ℕ) → length α ≡ n → Ends (λ β. length β ≡ n) lex α
@@ -86,7 +78,7 @@ module _ (n d : ℕ) where
           go (by-first e) = ih γ (record { long = omega (arith, j .long); low = omega (arith, j .low) }) e c j
           go (by-second e f) =
               let s : x ≡ γ = rev-same x γ e in
-              subst (λ (z : List ℕ). Rev (c ∷ z)) s (out c (omega (arith, compare-more c a f, l, j .low)) (subst (λ (z : List ℕ). In (suc n) d (c ∷ z)) (sym s) j))
+              subst (λ (z : List ℕ). Rev (c ∷ z)) s (out c (omega (arith, compare-larger c a f, l, j .low)) (subst (λ (z : List ℕ). In (suc n) d (c ∷ z)) (sym s) j))
 
   rev-cons : (α : List ℕ) → Ends (In n d) revLex α → (a : ℕ) → In (suc n) d (a ∷ α) → Rev (a ∷ α)
   rev-cons α e = elim e as (λ x e. (a : ℕ) → In (suc n) d (a ∷ x) → Rev (a ∷ x)) [ ends x (h → ih) ↦ λ a i. rev-first x ih (suc (d - a)) a (omega arith) i ]
@@ -124,7 +116,7 @@ module _ (n : ℕ) (vs : List ℕ) (high : (α : List ℕ) → length α ≡ n �
       by x w ih β j g out = go (larger (compare (weighted vs x) (weighted vs β)) (cmp x β) g)
         where
           go : Larger (compare (weighted vs x) (weighted vs β)) (cmp x β) → Ends Meant by-weight β
-          go (by-first e) = out β j (omega (arith, compare-more (weighted vs x) (weighted vs β) e, w, l))
+          go (by-first e) = out β j (omega (arith, compare-larger (weighted vs x) (weighted vs β) e, w, l))
           go (by-second e f) =
               let s : weighted vs β ≡ weighted vs α = sym (compare-same (weighted vs x) (weighted vs β) e) ∙ w in
               ih β (record { long = j; low = omega (arith, s, high β j) }) f j s

@@ -57,6 +57,15 @@ compare-same a b h = go (tri a b)
     go (same k e) = k
     go (more k e) = let z : _≡_ {A = ℕ} 0 1 = cc in omega arith
 
+-- and from "larger"
+pub compare-larger : (a b : ℕ) → compare a b ≡ Ordering·gt → b < a
+compare-larger a b h = go (tri a b)
+  where
+    go : Tri a b → b < a
+    go (less k e) = let z : _≡_ {A = ℕ} 0 1 = cc in omega arith
+    go (same k e) = let z : _≡_ {A = ℕ} 0 1 = cc in omega arith
+    go (more k e) = k
+
 -- x and y stand to each other as a and b do
 pub carried : (a b x y : ℕ) → (a < b → x < y) → (a ≡ b → x ≡ y) → (b < a → y < x) → compare x y ≡ compare a b
 carried a b x y f g h = go (tri a b)
