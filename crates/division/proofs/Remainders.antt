@@ -9,7 +9,6 @@ use Rattle.residue.specs.Prime.{Prime}
 use Rattle.residue.proofs.Remainder.{add-both}
 use Rattle.monomial.specs.TotalOrder.{TotalOrder}
 use Rattle.polynomial.specs.Terms.{Term, term, here, total, coefAt, Canonical}
-use Rattle.polynomial.proofs.MergeLaws.{same}
 use Rattle.polynomial.proofs.CoefLaws.{total-nil, total-cons, canonical-unique}
 use Rattle.division.specs.Choice.{Fit, Choice}
 use Rattle.division.specs.Division.{SumOf, Division}

@@ -1,2 +1,3 @@
-// Division of a polynomial by others: `specs/` has the division algorithm on polynomials and the
-// published reduction on a geobucket, `proofs/` their theorems. There is no code.
+// Division of a polynomial by others: `specs/` has the division algorithm on polynomials, the published
+// reduction on a geobucket, and what an edit of a polynomial is; `proofs/` the theorems that tie them, and
+// those on remainders apart from the steps of a division. There is no code.

@@ -1,13 +1,13 @@
 -- How many leads a reduction can remove, and a step limit that is always enough (document 02, "One changed term in the closing condition."): about what a call leaves. And that the division of every polynomial 0 ends, apart from the engine's limits. Assumes nothing.
 use mathlib.Core.Path.{_≡_, refl, sym, ap, _∙_, subst}
 use mathlib.Core.List.{List, [], _∷_, _++_}
-use mathlib.Core.Logic.{inl, inr, ⊎-elim}
-use Prim.Native.Nat.{ℕ, zero, suc, _+_, _^_, _%_, _<_, _≤_, Ordering, Ordering·eq, Ordering·gt}
+use mathlib.Core.Logic.{⊎-elim}
+use Prim.Native.Nat.{ℕ, zero, suc, _+_, _^_, _%_, _<_, _≤_, Ordering, Ordering·gt}
 use native.Mathlib.Nat.{le-trans, pow-le-pow-right, zero-mod}
 use native.Mathlib.Omega.{arith}
 use lib.Dec.{lit<}
 use lib.ListN.{length, length-append}
-use Rattle.limits.specs.Limits.{mostTerms, sufficientSteps}
+use Rattle.limits.specs.Limits.{sufficientSteps}
 use Rattle.monomial.specs.Exponents.{orderOf, divides, quotient, product, compareIn}
 use Rattle.monomial.specs.Layout.{exponents, Below, Layout}
 use Rattle.monomial.specs.TotalOrder.{TotalOrder}
