@@ -16,7 +16,7 @@ use Rattle.division.specs.Operations.{Operations}
 use Rattle.division.specs.Divisors.{Valid, AllOf}
 use Rattle.division.proofs.Combining.{both-zero}
 use Rattle.division.proofs.AnyDivision.{division-canonical}
-use Rattle.division.specs.Rewriting.{Rewrites, shareOf, Divided}
+use Rattle.division.specs.Rewriting.{Rewrites, Irreducible, shareOf, Divided}
 use Rattle.division.specs.Edits.{Edited, SameAbove, scaled}
 use Rattle.division.proofs.Scaling.{plain, mul-left, total-scaled, scaled-canonical}
 use Rattle.division.proofs.RewritingLaws.{rewrites-add, rewrites-scaled, rewrites-agree}
@@ -79,15 +79,12 @@ module _ {A : Type 0} (cmp : A → A → Ordering) (choose : A → Fit A) (quoti
   abbrev To : (f r : A → ℕ) → Type 0
   To f r = Rewrites cmp p (Divided Is choose) (shareOf cmp quotient _·_ p choose) f r
 
-  abbrev Free : (A → ℕ) → Type 0
-  Free r = (α : A) → Divided Is choose α → r α % p ≡ 0
-
   -- where two polynomials agree at the upper monomials, so do their remainders
-  agree : (Upper : A → Type 0) → ((a b : A) → cmp a b ≡ Ordering·gt → Upper b → Upper a) → (f g r s : A → ℕ) → Free r → Free s → To f r → To g s → ((m : A) → Upper m → f m % p ≡ g m % p) → (m : A) → Upper m → r m % p ≡ s m % p
+  agree : (Upper : A → Type 0) → ((a b : A) → cmp a b ≡ Ordering·gt → Upper b → Upper a) → (f g r s : A → ℕ) → Irreducible p (Divided Is choose) r → Irreducible p (Divided Is choose) s → To f r → To g s → ((m : A) → Upper m → f m % p ≡ g m % p) → (m : A) → Upper m → r m % p ≡ s m % p
   agree Upper upward f g r s = rewrites-agree cmp O p prime (Divided Is choose) (shareOf cmp quotient _·_ p choose) (share-below cmp choose quotient _·_ p divides gs choice O Is ops prime divisors) Upper upward f g r s
 
   -- and where they agree everywhere
-  agree-all : (f g r s : A → ℕ) → Free r → Free s → To f r → To g s → ((m : A) → f m % p ≡ g m % p) → (m : A) → r m % p ≡ s m % p
+  agree-all : (f g r s : A → ℕ) → Irreducible p (Divided Is choose) r → Irreducible p (Divided Is choose) s → To f r → To g s → ((m : A) → f m % p ≡ g m % p) → (m : A) → r m % p ≡ s m % p
   agree-all f g r s x y a b h m = agree (λ x. Unit {0}) (λ x y k u. tt) f g r s x y a b (λ x u. h x) m tt
 
   times-zero : (c a : ℕ) → a % p ≡ 0 → c * a % p ≡ 0

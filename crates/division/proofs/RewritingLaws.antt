@@ -11,7 +11,7 @@ use Rattle.polynomial.specs.Terms.{Term, All, Under, total, Canonical}
 use Rattle.polynomial.specs.Merge.{merge}
 use Rattle.polynomial.proofs.MergeLaws.{Stands, less, same, more, stands, under-more, merge-all, merge-canonical, turned-gt}
 use Rattle.polynomial.proofs.CoefLaws.{total-nil, total-merge, total-under, coef-lead}
-use Rattle.division.specs.Rewriting.{moved, Rewrites}
+use Rattle.division.specs.Rewriting.{moved, Rewrites, Irreducible}
 use Rattle.division.specs.Edits.{scaled}
 use Rattle.division.proofs.Scaling.{plain, mul-left, total-scaled, scaled-canonical, all-scaled}
 use Rattle.division.proofs.Moving.{moved-nil, moved-scaled, moved-merge, moved-under, moved-lead}
@@ -68,13 +68,9 @@ module _ {A : Type 0} (cmp : A → A → Ordering) (O : TotalOrder A cmp) (p : �
 
   -- ---- what the divided terms are replaced by is below them
   module _ (below : (α m : A) → Divided α → (cmp α m ≡ Ordering·gt → ⊥) → share α m ≡ 0) where
-    -- no divided monomial has a coefficient
-    abbrev pub Irreducible : (A → ℕ) → Type 0
-    Irreducible r = (α : A) → Divided α → r α % p ≡ 0
-
     module _ (Upper : A → Type 0) (upward : (a b : A) → cmp a b ≡ Ordering·gt → Upper b → Upper a) where
       -- the terms that were taken off have none at an upper monomial: the largest would be left over
-      none-upper : (r : A → ℕ) → Irreducible r → (ts : List (Term A)) → Canonical cmp p ts → All (λ t. Divided (t .mono)) ts → ((m : A) → Upper m → moved share m ts % p ≡ (r m + total cmp m ts) % p) → (m : A) → Upper m → r m % p ≡ 0
+      none-upper : (r : A → ℕ) → Irreducible p Divided r → (ts : List (Term A)) → Canonical cmp p ts → All (λ t. Divided (t .mono)) ts → ((m : A) → Upper m → moved share m ts % p ≡ (r m + total cmp m ts) % p) → (m : A) → Upper m → r m % p ≡ 0
       none-upper r ir [] c d h m u = plain p (let e : r m ≡ r m + total cmp m [] = omega (arith, total-nil cmp m) in e) ∙ (sym (h m u) ∙ (plain p (moved-nil share m) ∙ zero-mod p))
       none-upper r ir (t ∷ ts) c d h m u = by (stands cmp m (t .mono))
         where
@@ -99,7 +95,7 @@ module _ {A : Type 0} (cmp : A → A → Ordering) (O : TotalOrder A cmp) (p : �
           by (more g) = low g
 
       -- a polynomial that is zero at the upper monomials has such a remainder
-      zero-upper : (f r : A → ℕ) → Irreducible r → To f r → ((m : A) → Upper m → f m % p ≡ 0) → (m : A) → Upper m → r m % p ≡ 0
+      zero-upper : (f r : A → ℕ) → Irreducible p Divided r → To f r → ((m : A) → Upper m → f m % p ≡ 0) → (m : A) → Upper m → r m % p ≡ 0
       zero-upper f r ir a z =
           none-upper r ir (a .terms) (a .canonical) (a .divided)
           (λ m u. plain p (let e : moved share m (a .terms) ≡ 0 + moved share m (a .terms) = omega arith in e) ∙ (sym (add-same p (f m) 0 (moved share m (a .terms)) (z m u ∙ sym (zero-mod p))) ∙ a .sums m))
@@ -112,7 +108,7 @@ module _ {A : Type 0} (cmp : A → A → Ordering) (O : TotalOrder A cmp) (p : �
       none x = mul-mod-right p x
 
       -- where two polynomials agree at the upper monomials, so do their remainders
-      pub rewrites-agree : (f g r s : A → ℕ) → Irreducible r → Irreducible s → To f r → To g s → ((m : A) → Upper m → f m % p ≡ g m % p) → (m : A) → Upper m → r m % p ≡ s m % p
+      pub rewrites-agree : (f g r s : A → ℕ) → Irreducible p Divided r → Irreducible p Divided s → To f r → To g s → ((m : A) → Upper m → f m % p ≡ g m % p) → (m : A) → Upper m → r m % p ≡ s m % p
       rewrites-agree f g r s ir is a b agree m u =
           let c = p - 1 in
           let z = zero-upper (λ k. f k + c * g k) (λ k. r k + c * s k)

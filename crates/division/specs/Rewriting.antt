@@ -18,6 +18,10 @@ pub record Rewrites {A : Type 0} (cmp : A → A → Ordering) (p : ℕ) (Divided
   pub divided : All (λ t. Divided (t .mono)) terms
   pub sums : (m : A) → (f m + moved share m terms) % p ≡ (r m + total cmp m terms) % p
 
+-- no divided monomial has a coefficient in r
+abbrev pub Irreducible : {A : Type 0} → (p : ℕ) (Divided : A → Type 0) → (r : A → ℕ) → Type 0
+Irreducible {A} p Divided r = (α : A) → Divided α → r α % p ≡ 0
+
 module _ {A : Type 0} (cmp : A → A → Ordering) (quotient _·_ : A → A → A) (p : ℕ) where
   -- what a division replaces 1·α by: the multiple of the tail of the divisor that is taken
   abbrev pub shareBy : Fit A → A → A → ℕ

@@ -48,4 +48,4 @@ printed script text e small out h =
 
 pub known : Hold table
 unfolding noDivisor isPrime inverseBelow inverseOf wordOf bytes fields inLayout keep into merge comparedInto compared riseTo startsGood termsRefusal fall refusalOf held carry carryCompared place placeCompared add addCompared sumFrom sumCompared emptied seek pass onward ended searchIn putBack levelFrom listFrom weightsGood setting spaceGood lentGood pairsGood shapeGood operationGood operationsGood refusalFrom runRefusal reductionShape noneZero reductionRefusal operate operateAll operationsOf firstFrom chosen anyTooLarge dividing keeping stepsFrom reduction weightNumber settingBytes headerWith places sumWords blockWith firstBlocksWith writeRefusal begins same indexOf parts joined decimalIn andThen withDigit withDigits numberOf numbersOf entryOf entriesOf addOf lineOf linesOf scriptOf entriesIn endsFrom pairsFrom leadText sumTerms termsText sumText answersText costText refusedText ranText listingOf
-known = ((refl, refl), ((refl, refl), ((refl, refl), (refl, (refl, (printed (textOf script) (textOf listing) refl (lit≤ tt), ((refl, refl, refl), ((refl, refl, refl), ((refl, refl), ((refl, refl, refl), ((refl, refl, refl), ((refl, refl, refl), ((refl, refl, refl), ((refl, refl), ((refl, refl, refl, refl), (printed (textOf nothing-added) (textOf zero-lines) refl (lit≤ tt), (printed (textOf bad-prime) (textOf refused-line) refl (lit≤ tt), (refl, (refl, (refl, ((refl, refl), ((refl, refl), ((refl, refl), (printed (textOf slide) (textOf slide-lines) refl (lit≤ tt), (refl, (refl, tt))))))))))))))))))))))))))
+known = ((refl, refl), ((refl, refl), ((refl, refl), (refl, (refl, (printed (textOf script) (textOf listing) refl (lit≤ tt), ((refl, refl, refl), ((refl, refl, refl), ((refl, refl), ((refl, refl, refl), ((refl, refl, refl), ((refl, refl, refl), ((refl, refl, refl), ((refl, refl), ((refl, refl, refl, refl), (printed (textOf nothing-added) (textOf zero-lines) refl (lit≤ tt), (printed (textOf bad-prime) (textOf refused-line) refl (lit≤ tt), (refl, (refl, (refl, ((refl, refl), ((refl, refl), ((refl, refl), (printed (textOf slide) (textOf slide-lines) refl (lit≤ tt), (refl, (refl, (refl, tt)))))))))))))))))))))))))))

@@ -211,4 +211,6 @@ table =
     -- "13 is never given with an allowed step limit" of 128^n or more: one less does not do at n = 1
     ∷ empties 127 13 127
     ∷ empties 128 0 128
+    -- "all reductions finished": stopped earlier, the same polynomial has another remainder so far
+    ∷ empties 126 13 126
     ∷ []

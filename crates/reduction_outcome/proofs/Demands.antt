@@ -74,13 +74,16 @@ module _ (tally : Tally) (t : Setting) (words coefs ss : List ℕ) (limit : ℕ)
   pub demand-1-unchanged : (opening ≡ 0 → ⊥) → outcome ≡ record { answer = openingRefused opening; tally = tally; bw = bw; bc = bc; ww = ww; wc = wc; ow = ow; oc = oc }
   demand-1-unchanged ne = sym (decided-refused opening tally (ended (reducedThrough t words coefs ss limit (length ow)) ow oc) bw bc ww wc ow oc ne (refl, refl))
 
+  pub refused-number : {k : ℕ} → opening ≡ suc k → outcome .answer .number ≡ opening
+  refused-number e = ap (λ (x : Outcome). x .answer .number) (demand-1-unchanged (λ z. let q : ⊥ = omega (arith, z, e) in q))
+
   -- so a call that answers 0 has passed them
   pub answered-opened : outcome .answer .number ≡ 0 → opening ≡ 0
   answered-opened z = by opening refl
     where
       by : (k : ℕ) → opening ≡ k → opening ≡ 0
       by zero e = e
-      by (suc k) e = sym (ap (λ (x : Outcome). x .answer .number) (demand-1-unchanged (λ q. let a : ⊥ = omega (arith, q, e) in a))) ∙ z
+      by (suc k) e = sym (refused-number e) ∙ z
 
   -- ---- polynomial 0 and the divisors, by exponents
   abbrev pub f : List (Term (List ℕ))
@@ -344,7 +347,7 @@ module _ (tally : Tally) (t : Setting) (words coefs ss : List ℕ) (limit : ℕ)
       by : (k : ℕ) → opening ≡ k → OneOf reductionNumbers (outcome .answer .number)
       by zero e = numbers-past _ _ _ _ (demand-1-ending e)
       by (suc k) e =
-          subst (OneOf reductionNumbers) (sym (ap (λ (x : Outcome). x .answer .number) (demand-1-unchanged (λ z. let q : ⊥ = omega (arith, z, e) in q))))
+          subst (OneOf reductionNumbers) (sym (refused-number e))
           (one-of-more (0 ∷ 1 ∷ 2 ∷ 3 ∷ 4 ∷ 5 ∷ 6 ∷ 7 ∷ 8 ∷ 24 ∷ []) (10 ∷ 11 ∷ 12 ∷ 13 ∷ []) opening (reduction-numbers t words coefs ss limit (length bw) (length bc) (length ww) (length wc) (length ow) (length oc)))
 
 -- "What either held before is not read": two calls that differ only in the contents of bucket space, work space and tally have the same outcome past the opening.

@@ -93,9 +93,13 @@ module _ (t : Setting) (gs : List (List (Term (List ℕ)))) where
       R.remainder-scaled (comparing t) (chosen divides gs) quotient product (t .p) divides gs (chosen-choice divides gs) O (InVariables t) ops (said a .prime) (said a .divisors) c some small (left a a) (left a b)
       (λ m. times m ∙ mul-left (t .p) c (coefIn t m f) (total (comparing t) m f) (mod-mod (total (comparing t) m f) (t .p)))
 
-  -- "an edit at one monomial moves the remainder by that term's own remainder, scaled": by δ times `own`, what 1·α leaves
+  -- "an edit at one monomial moves the remainder by that term's own remainder, scaled": by δ times `own`, what 1·α leaves. The remainder after the edit is foretold by two finished calls, whether or not a call on g would finish within its limits.
+  pub edit-foretold : {f g r own : List (Term (List ℕ))} (α : List ℕ) (δ k : ℕ) (s : List (Term (List ℕ))) → Reduces t gs f r → Reduces t gs (term α 1 ∷ []) own → Valid (comparing t) (t .p) (InVariables t) g → DividesTo t gs k g s → IsEdit t α δ f g → IsSum t r (scaled (t .p) δ own) s
+  edit-foretold {r = r} {own = own} α δ k s a c v d e = of-sum r (scaled (t .p) δ own) s (R.edit-moves (comparing t) (chosen divides gs) quotient product (t .p) divides gs (chosen-choice divides gs) O (InVariables t) ops (said a .prime) (said a .divisors) α δ (left a a) (record { valid = v; steps = k; division = d }) (left a c) e)
+
+  -- and so it is of a finished call on g
   pub edit-moves : {f g r s own : List (Term (List ℕ))} (α : List ℕ) (δ : ℕ) → Reduces t gs f r → Reduces t gs g s → Reduces t gs (term α 1 ∷ []) own → IsEdit t α δ f g → IsSum t r (scaled (t .p) δ own) s
-  edit-moves {r = r} {s = s} {own = own} α δ a b c e = of-sum r (scaled (t .p) δ own) s (R.edit-moves (comparing t) (chosen divides gs) quotient product (t .p) divides gs (chosen-choice divides gs) O (InVariables t) ops (said a .prime) (said a .divisors) α δ (left a a) (left a b) (left a c) e)
+  edit-moves {s = s} α δ a b c e = edit-foretold α δ (said b .steps) s a c (said b .valid) (said b .division) e
 
   -- so from zero it moves to δ times that
   pub edit-of-zero : {f g s own : List (Term (List ℕ))} (α : List ℕ) (δ : ℕ) → Reduces t gs f [] → Reduces t gs g s → Reduces t gs (term α 1 ∷ []) own → IsEdit t α δ f g → s ≡ scaled (t .p) δ own

@@ -117,7 +117,7 @@ module _ (tally : Tally) (t : Setting) (words coefs ss : List ℕ) (limit : ℕ)
       by (suc k) e =
           absurd
           (one-of-not (0 ∷ 1 ∷ 2 ∷ 3 ∷ 4 ∷ 5 ∷ 6 ∷ 7 ∷ 8 ∷ 24 ∷ []) 13 (D.opening tally t words coefs ss limit bw bc ww wc ow oc) refl (reduction-numbers t words coefs ss limit (length bw) (length bc) (length ww) (length wc) (length ow) (length oc))
-          (sym (ap (λ (x : Outcome). x .answer .number) (D.demand-1-unchanged tally t words coefs ss limit bw bc ww wc ow oc (λ q. let a : ⊥ = omega (arith, q, e) in a))) ∙ z))
+          (sym (D.refused-number tally t words coefs ss limit bw bc ww wc ow oc e) ∙ z))
 
   -- with a limit of all monomials in n variables, 128^n, the answer is never 13
   pub monomials-suffice : 128 ^ t .n ≤ limit → D.outcome tally t words coefs ss limit bw bc ww wc ow oc .answer .number ≡ 13 → ⊥
