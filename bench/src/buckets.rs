@@ -213,24 +213,17 @@ fn run<G: Geobucket>(
     comparisons
 }
 
-/// The terms of the full sum, and the comparisons.
-fn sum<G: Geobucket>(order: Order, memory: &mut Memory) -> (List, u64) {
-    let (from, len, comparisons) = G::sum(order, P, memory);
-    let places = from..from + len;
-    let terms = List {
-        words: memory.work.words[places.clone()].to_vec(),
-        coefs: memory.work.coefs[places].to_vec(),
-    };
-    (terms, comparisons)
-}
-
 /// Both must have left the same buckets and the same sum.
 fn compare(order: Order, [proved, plain]: [&mut Memory; 2]) {
-    let (mut one, mut other) = (proved.clone(), plain.clone());
-    Proved::settle(&mut one);
-    Plain::settle(&mut other);
-    assert!(one.space == other.space && one.work == other.work);
-    assert!(sum::<Proved>(order, proved) == sum::<Plain>(order, plain));
+    compare_settled(order, [proved.clone(), plain.clone()]);
+    assert!(Proved::sum(order, P, proved) == Plain::sum(order, P, plain));
+}
+
+/// Both must have the same buckets once they are settled.
+fn compare_settled(order: Order, [mut proved, mut plain]: [Memory; 2]) {
+    Proved::settle(order, &mut proved);
+    Plain::settle(order, &mut plain);
+    assert!(proved.space == plain.space && proved.work == plain.work);
 }
 
 /// One kind of lists of operations.
@@ -315,15 +308,21 @@ const FILLS: [[usize; BUCKETS]; 4] = [
     [4, 16, 64, 256, 1_024, 2_732],
 ];
 
-/// Six buckets with so many terms each. They are filled and then taken from.
-fn filled(random: &mut Random, order: Order, fill: [usize; BUCKETS]) -> Memory {
-    let mut memory = emptied::<Plain>();
-    for bucket in (0..BUCKETS).rev() {
+/// What the buckets are filled with.
+fn fillers(random: &mut Random, order: Order, fill: [usize; BUCKETS]) -> [List; BUCKETS] {
+    std::array::from_fn(|bucket| {
         let len = fill[bucket].max(CAPACITIES[bucket] / 4 + 1);
         // Any two of so few words are hardly ever like.
         let words = words(random, order, len);
-        let f = list(random, order, P, words);
-        Plain::add(order, P, &mut memory, f.terms());
+        list(random, order, P, words)
+    })
+}
+
+/// Six buckets with so many terms each. They are filled and then taken from.
+fn filled<G: Geobucket>(order: Order, fillers: &[List; BUCKETS], fill: [usize; BUCKETS]) -> Memory {
+    let mut memory = emptied::<G>();
+    for bucket in (0..BUCKETS).rev() {
+        G::add(order, P, &mut memory, fillers[bucket].terms());
         memory.keep(bucket, fill[bucket]);
     }
     memory
@@ -367,8 +366,17 @@ fn time_leads(
     fill: [usize; BUCKETS],
     best: &mut Best,
 ) {
-    let memories: Vec<Memory> = (0..FILLINGS).map(|_| filled(random, order, fill)).collect();
-    let (mut proved, mut plain) = (memories.clone(), memories);
+    let fillings: Vec<_> = (0..FILLINGS)
+        .map(|_| fillers(random, order, fill))
+        .collect();
+    let mut proved: Vec<Memory> = fillings
+        .iter()
+        .map(|f| filled::<Proved>(order, f, fill))
+        .collect();
+    let mut plain: Vec<Memory> = fillings
+        .iter()
+        .map(|f| filled::<Plain>(order, f, fill))
+        .collect();
     best.time(
         round,
         [
@@ -376,10 +384,13 @@ fn time_leads(
             &mut || plain.iter_mut().map(|m| search::<Plain>(order, m)).sum(),
         ],
     );
-    for (one, other) in proved.iter_mut().zip(&mut plain) {
-        let (lead, expected) = (taken::<Proved>(order, one), taken::<Plain>(order, other));
+    for (mut one, mut other) in proved.into_iter().zip(plain) {
+        let (lead, expected) = (
+            taken::<Proved>(order, &mut one),
+            taken::<Plain>(order, &mut other),
+        );
         assert_eq!(lead, expected, "leads differ");
-        assert!(one.state == other.state, "buckets differ");
+        compare_settled(order, [one, other]);
     }
 }
 
@@ -387,7 +398,7 @@ fn time_leads(
 fn settle<G: Geobucket>(memory: &mut Memory) -> u64 {
     for _ in 0..SETTLINGS {
         G::empty(memory);
-        G::settle(black_box(memory));
+        G::settle(ORDERS[0], black_box(memory));
     }
     SETTLINGS as u64
 }

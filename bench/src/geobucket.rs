@@ -12,10 +12,11 @@ const STARTS: [usize; BUCKETS] = [0, 4, 20, 84, 340, 1_364];
 /// The work space has two halves.
 const HALF: usize = WORK_PLACES / 2;
 
-/// What a geobucket works on: the six heads and then the six lengths, and the spaces.
+/// What a geobucket works on: the six heads, the six lengths, and for the proved one the places of the free
+/// areas; and the spaces.
 #[derive(Clone, PartialEq, Eq)]
 pub struct Memory {
-    pub state: [usize; 2 * BUCKETS],
+    pub state: [usize; 3 * BUCKETS],
     pub space: List,
     pub work: List,
 }
@@ -45,17 +46,16 @@ pub trait Geobucket {
     fn lead(order: Order, p: u32, memory: &mut Memory) -> Lead;
     /// Removes the lead of a bucket.
     fn take(memory: &mut Memory, bucket: usize);
-    /// Puts the full sum into the work space, and gives its first place, its terms and the
-    /// comparisons.
-    fn sum(order: Order, p: u32, memory: &mut Memory) -> (usize, usize, u64);
+    /// The full sum, and the comparisons.
+    fn sum(order: Order, p: u32, memory: &mut Memory) -> (List, u64);
     /// Leaves the spaces as they are at return.
-    fn settle(memory: &mut Memory);
+    fn settle(order: Order, memory: &mut Memory);
 }
 
 impl Memory {
     pub fn new() -> Self {
         Memory {
-            state: [0; 2 * BUCKETS],
+            state: [0; 3 * BUCKETS],
             space: List::of(BUCKET_PLACES),
             work: List::of(WORK_PLACES),
         }
@@ -73,7 +73,7 @@ impl Memory {
 
     /// How many terms are held.
     pub fn held(&self) -> usize {
-        self.state[BUCKETS..].iter().sum()
+        self.state[BUCKETS..2 * BUCKETS].iter().sum()
     }
 
     /// Keeps only the last `len` terms of a bucket, as if the others had been taken.
@@ -136,26 +136,37 @@ impl Geobucket for Plain {
         memory.remove(bucket);
     }
 
-    fn sum(order: Order, p: u32, memory: &mut Memory) -> (usize, usize, u64) {
-        match order {
+    fn sum(order: Order, p: u32, memory: &mut Memory) -> (List, u64) {
+        let (from, len, comparisons) = match order {
             Order::Lex => sum_by(lex_key, p, memory),
             Order::DegRevLex => sum_by(deg_rev_lex_key, p, memory),
-        }
+        };
+        let (words, coefs) = part(&memory.work, from, len);
+        let sum = List {
+            words: words.to_vec(),
+            coefs: coefs.to_vec(),
+        };
+        (sum, comparisons)
     }
 
-    fn settle(memory: &mut Memory) {
-        for bucket in 0..BUCKETS {
-            let (head, len, start) = (memory.head(bucket), memory.len(bucket), STARTS[bucket]);
-            let end = start + CAPACITIES[bucket];
-            memory.space.words.copy_within(head..head + len, start);
-            memory.space.coefs.copy_within(head..head + len, start);
-            memory.space.words[start + len..end].fill(0);
-            memory.space.coefs[start + len..end].fill(0);
-            memory.set_len(bucket, len);
-        }
-        memory.work.words.fill(0);
-        memory.work.coefs.fill(0);
+    fn settle(_: Order, memory: &mut Memory) {
+        settle(memory);
     }
+}
+
+/// Leaves the spaces as they are at return.
+pub fn settle(memory: &mut Memory) {
+    for bucket in 0..BUCKETS {
+        let (head, len, start) = (memory.head(bucket), memory.len(bucket), STARTS[bucket]);
+        let end = start + CAPACITIES[bucket];
+        memory.space.words.copy_within(head..head + len, start);
+        memory.space.coefs.copy_within(head..head + len, start);
+        memory.space.words[start + len..end].fill(0);
+        memory.space.coefs[start + len..end].fill(0);
+        memory.set_len(bucket, len);
+    }
+    memory.work.words.fill(0);
+    memory.work.coefs.fill(0);
 }
 
 /// The terms of a list at some places.
@@ -335,7 +346,8 @@ fn leave(memory: &mut Memory, candidate: usize, coef: u32) {
     }
 }
 
-/// The full sum by words that are compared by a key.
+/// Puts the full sum, by words that are compared by a key, into the work space, and gives its first place,
+/// its terms and the comparisons.
 #[inline(always)]
 pub fn sum_by(key: impl Fn(u64) -> u64 + Copy, p: u32, memory: &mut Memory) -> (usize, usize, u64) {
     let (mut in_upper, mut len, mut comparisons) = (false, 0, 0);

@@ -59,6 +59,14 @@ impl Order {
         }
     }
 
+    /// The word that has a key.
+    pub fn word_of_key(self, key: u64) -> u64 {
+        match self {
+            Order::Lex => key.rotate_right(16),
+            Order::DegRevLex => deg_rev_lex_key(key),
+        }
+    }
+
     /// The word of six exponents.
     fn word(self, exponents: [u8; 6]) -> u64 {
         let mut word = 0;

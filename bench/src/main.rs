@@ -8,10 +8,9 @@ use bench::beside::beside;
 use bench::blocks::blocks;
 use bench::bound::bound;
 use bench::buckets;
-use bench::c_functions::Counts;
 use bench::checks::{checks, opening};
 use bench::lists::{pair, List, Order};
-use bench::merge::{branching, masks, Merge};
+use bench::merge::{branching, masks, Areas, Merge};
 use bench::primes::primes;
 use bench::proved;
 use bench::random::Random;
@@ -109,9 +108,26 @@ fn merges() {
     rows.iter().for_each(Row::print);
 }
 
-/// An output for lists of these lengths.
-fn output((a, b): (usize, usize)) -> List {
-    List::of(a + b)
+/// Pairs of lists in one buffer, with keys for words, and past all of them room for the merge of any pair.
+fn laid(order: Order, pairs: &[(List, List)]) -> (List, Vec<Areas>) {
+    let mut buffer = List::default();
+    let mut put = |list: &List| {
+        let at = buffer.words.len();
+        buffer
+            .words
+            .extend(list.words.iter().map(|&w| order.key(w)));
+        buffer.coefs.extend_from_slice(&list.coefs);
+        (at, list.words.len())
+    };
+    let places: Vec<_> = pairs.iter().map(|(a, b)| (put(a), put(b))).collect();
+    let to = buffer.words.len();
+    let areas = |((a, n), (b, m))| Areas { a, n, b, m, to };
+    let all: Vec<Areas> = places.into_iter().map(areas).collect();
+    let room = all.iter().map(|areas| areas.n + areas.m).max();
+    let size = to + room.unwrap_or(0);
+    buffer.words.resize(size, 0);
+    buffer.coefs.resize(size, 0);
+    (buffer, all)
 }
 
 impl Row {
@@ -121,19 +137,20 @@ impl Row {
         let lists: Vec<(List, List)> = (0..PASS / (lens.0 + lens.1))
             .map(|_| pair(random, order, P, lens, self.like))
             .collect();
-        let mut out = output(lens);
+        let (mut buffer, all) = laid(order, &lists);
         let mut comparisons = [0; MERGES.len()];
         for turn in 0..MERGES.len() {
             let k = (round + turn) % MERGES.len();
             let start = Instant::now();
-            for (a, b) in &lists {
-                comparisons[k] += MERGES[k](order, P, a, b, black_box(&mut out)).comparisons;
+            for areas in &all {
+                comparisons[k] += MERGES[k](P, black_box(&mut buffer), *areas).comparisons;
             }
             let time = start.elapsed().as_nanos() as f64 / comparisons[k] as f64;
             self.best[k] = self.best[k].min(time);
         }
         assert!(comparisons.iter().all(|&n| n == comparisons[0]));
-        lists.iter().for_each(|(a, b)| compare(order, a, b));
+        all.into_iter()
+            .for_each(|areas| compare(&mut buffer, areas));
     }
 
     fn print(&self) {
@@ -151,13 +168,12 @@ impl Row {
 }
 
 /// All merges must give the same.
-fn compare(order: Order, a: &List, b: &List) {
+fn compare(buffer: &mut List, areas: Areas) {
     let results = MERGES.map(|merge| {
-        let mut out = output((a.words.len(), b.words.len()));
-        let counts: Counts = merge(order, P, a, b, &mut out);
-        out.words.truncate(counts.len);
-        out.coefs.truncate(counts.len);
-        (counts, out.words, out.coefs)
+        let merged = merge(P, buffer, areas);
+        let places = merged.head..merged.head + merged.len;
+        let (words, coefs) = (&buffer.words[places.clone()], &buffer.coefs[places]);
+        (merged.comparisons, words.to_vec(), coefs.to_vec())
     });
     assert!(results.iter().all(|r| *r == results[0]), "results differ");
 }

@@ -1,16 +1,57 @@
 //! The merge in plain Rust, with the order taken out of the loop.
-use crate::c_functions::Counts;
-use crate::lists::{deg_rev_lex_key, lex_key, List, Order, Places, Terms};
+use crate::c_functions::Places as Merged;
+use crate::lists::{List, Places, Terms};
 
-/// A merge of two lists into the first places of an output with room for all their terms.
-pub type Merge = fn(Order, u32, &List, &List, &mut List) -> Counts;
+/// Two lists in a buffer, with keys for words, n terms at place a and m at b, and past them the place of
+/// their merge, with room for all their terms.
+#[derive(Clone, Copy)]
+pub struct Areas {
+    pub a: usize,
+    pub n: usize,
+    pub b: usize,
+    pub m: usize,
+    pub to: usize,
+}
+
+/// A merge of two lists of a buffer.
+pub type Merge = fn(u32, &mut List, Areas) -> Merged;
+
+/// What a merge made in the first places of its output: the terms, and the comparisons.
+pub struct Counts {
+    pub len: usize,
+    pub comparisons: u64,
+}
+
+impl Areas {
+    /// The two lists, and the places of their merge.
+    #[inline(always)]
+    fn of(self, buffer: &mut List) -> (Terms<'_>, Terms<'_>, Places<'_>) {
+        let (words, ow) = buffer.words.split_at_mut(self.to);
+        let (coefs, oc) = buffer.coefs.split_at_mut(self.to);
+        let (a, b) = (self.a..self.a + self.n, self.b..self.b + self.m);
+        let (words, coefs) = (&*words, &*coefs);
+        (
+            (&words[a.clone()], &coefs[a]),
+            (&words[b.clone()], &coefs[b]),
+            (ow, oc),
+        )
+    }
+
+    /// The merge as it lies in the buffer.
+    #[inline(always)]
+    fn merged(self, Counts { len, comparisons }: Counts) -> Merged {
+        Merged {
+            head: self.to,
+            len,
+            comparisons,
+        }
+    }
+}
 
 /// With a branch for each outcome of a comparison.
-pub fn branching(order: Order, p: u32, a: &List, b: &List, out: &mut List) -> Counts {
-    match order {
-        Order::Lex => branching_by(lex_key, p, a.terms(), b.terms(), out.places()),
-        Order::DegRevLex => branching_by(deg_rev_lex_key, p, a.terms(), b.terms(), out.places()),
-    }
+pub fn branching(p: u32, buffer: &mut List, areas: Areas) -> Merged {
+    let (a, b, out) = areas.of(buffer);
+    areas.merged(branching_by(|key| key, p, a, b, out))
 }
 
 #[inline(always)]
@@ -50,11 +91,9 @@ fn branching_by(key: impl Fn(u64) -> u64, p: u32, a: Terms, b: Terms, out: Place
 }
 
 /// Without branches in the loop: each outcome is a mask.
-pub fn masks(order: Order, p: u32, a: &List, b: &List, out: &mut List) -> Counts {
-    match order {
-        Order::Lex => masks_by(lex_key, p, a.terms(), b.terms(), out.places()),
-        Order::DegRevLex => masks_by(deg_rev_lex_key, p, a.terms(), b.terms(), out.places()),
-    }
+pub fn masks(p: u32, buffer: &mut List, areas: Areas) -> Merged {
+    let (a, b, out) = areas.of(buffer);
+    areas.merged(masks_by(|key| key, p, a, b, out))
 }
 
 #[inline(always)]

@@ -1,7 +1,7 @@
 //! A reduction in plain Rust: the opening checks, the steps on the geobucket of `geobucket`, and
 //! settling, with the order taken out of the loops. The buckets hold keys, which are compared as
 //! numbers; they become words again when they leave.
-use crate::geobucket::{add_by, lead_by, Geobucket, Lead, Memory, Plain, BUCKETS};
+use crate::geobucket::{add_by, lead_by, settle, Geobucket, Lead, Memory, Plain, BUCKETS};
 use crate::given::Given;
 use crate::lists::{deg_rev_lex_key, lex_key, List, Order, Terms};
 use crate::plain_opening::{polynomials_refusal, setting_refusal, sizes_good};
@@ -102,7 +102,7 @@ fn reduce_by<K: Keys>(
     let mut result = reduction.steps(given.polynomial(0), limit);
     result.given = result.terms;
     result.held = memory.held() as u64;
-    Plain::settle(memory);
+    settle(memory);
     if result.held > 0 {
         words_again::<K>(&mut memory.space);
     }

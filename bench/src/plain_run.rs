@@ -1,6 +1,6 @@
 //! A run in plain Rust: the opening checks, the operations on the geobucket of `geobucket`, and
 //! settling, with the order taken out of the loops.
-use crate::geobucket::{add_by, lead_by, sum_by, Geobucket, Memory, Plain, BUCKETS};
+use crate::geobucket::{add_by, lead_by, settle, sum_by, Geobucket, Memory, Plain, BUCKETS};
 use crate::given::Given;
 use crate::lists::{deg_rev_lex_key, lex_key, List, Order};
 use crate::plain_opening::{polynomials_refusal, setting_refusal, sizes_good};
@@ -54,7 +54,7 @@ pub fn run_by(
     Plain::empty(memory);
     let mut result = operate(key, given, operations, memory, output);
     result.held = memory.held() as u64;
-    Plain::settle(memory);
+    settle(memory);
     result
 }
 

@@ -1,29 +1,27 @@
 //! The proved merge, through the static library `probe`.
-use crate::c_functions::{probe_merge, Counts};
-use crate::lists::{List, Order};
+use crate::c_functions::{probe_merge_areas, Places as Merged};
+use crate::lists::List;
+use crate::merge::Areas;
 
 /// The lists are falling, with coefficients from 1 to p - 1, as `lists` makes them.
-pub fn merge(order: Order, p: u32, a: &List, b: &List, out: &mut List) -> Counts {
-    let room = a.words.len() + b.words.len();
-    assert!(a.words.len() == a.coefs.len() && b.words.len() == b.coefs.len());
-    assert!(room <= out.words.len() && room <= out.coefs.len());
-    // SAFETY: what probe_merge asks holds; it stays within the slices and keeps no reference.
+pub fn merge(p: u32, buffer: &mut List, areas: Areas) -> Merged {
+    let Areas { a, n, b, m, to } = areas;
+    let (words, coefs) = buffer.places();
+    assert!(words.len() == coefs.len() && to + n + m <= words.len());
+    assert!(n > 0 && m > 0 && a + n <= to && b + m <= to);
+    // SAFETY: what probe_merge_areas asks holds; it stays within the slices and keeps no reference.
     unsafe {
-        probe_merge(
-            order.number(),
+        probe_merge_areas(
             p,
-            a.words.as_ptr(),
-            a.words.len(),
-            a.coefs.as_ptr(),
-            a.coefs.len(),
-            b.words.as_ptr(),
-            b.words.len(),
-            b.coefs.as_ptr(),
-            b.coefs.len(),
-            out.words.as_mut_ptr(),
-            out.words.len(),
-            out.coefs.as_mut_ptr(),
-            out.coefs.len(),
+            words.as_mut_ptr(),
+            words.len(),
+            coefs.as_mut_ptr(),
+            coefs.len(),
+            a,
+            n,
+            b,
+            m,
+            to,
         )
     }
 }

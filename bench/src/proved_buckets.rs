@@ -4,7 +4,7 @@ use crate::c_functions::{
     probe_buckets_sum, probe_buckets_take,
 };
 use crate::geobucket::{Geobucket, Lead, Memory};
-use crate::lists::{Order, Terms};
+use crate::lists::{List, Order, Terms};
 use damselbuckle::MOST_TERMS;
 
 pub struct Proved;
@@ -54,6 +54,10 @@ impl Geobucket for Proved {
                 memory.space.words.len(),
                 memory.space.coefs.as_mut_ptr(),
                 memory.space.coefs.len(),
+                memory.work.words.as_ptr(),
+                memory.work.words.len(),
+                memory.work.coefs.as_mut_ptr(),
+                memory.work.coefs.len(),
                 lead.as_mut_ptr(),
                 lead.len(),
             )
@@ -72,17 +76,17 @@ impl Geobucket for Proved {
         unsafe { probe_buckets_take(memory.state.as_mut_ptr(), memory.state.len(), bucket) }
     }
 
-    fn sum(order: Order, p: u32, memory: &mut Memory) -> (usize, usize, u64) {
+    /// In the bucket space, where it lies, keys stand for words.
+    fn sum(order: Order, p: u32, memory: &mut Memory) -> (List, u64) {
         let mut at = [0; 2];
         let comparisons = unsafe {
             probe_buckets_sum(
-                order.number(),
                 p,
                 memory.state.as_mut_ptr(),
                 memory.state.len(),
-                memory.space.words.as_ptr(),
+                memory.space.words.as_mut_ptr(),
                 memory.space.words.len(),
-                memory.space.coefs.as_ptr(),
+                memory.space.coefs.as_mut_ptr(),
                 memory.space.coefs.len(),
                 memory.work.words.as_mut_ptr(),
                 memory.work.words.len(),
@@ -92,13 +96,20 @@ impl Geobucket for Proved {
                 at.len(),
             )
         };
-        (at[0], at[1], comparisons)
+        let places = at[0]..at[0] + at[1];
+        let keys = memory.space.words[places.clone()].iter();
+        let sum = List {
+            words: keys.map(|&key| order.word_of_key(key)).collect(),
+            coefs: memory.space.coefs[places].to_vec(),
+        };
+        (sum, comparisons)
     }
 
-    fn settle(memory: &mut Memory) {
+    fn settle(order: Order, memory: &mut Memory) {
         unsafe {
             probe_buckets_settle(
-                memory.state.as_mut_ptr(),
+                order.number(),
+                memory.state.as_ptr(),
                 memory.state.len(),
                 memory.space.words.as_mut_ptr(),
                 memory.space.words.len(),

@@ -1,10 +1,11 @@
 //! The C functions of the static library `probe` that the tests and the benchmark share. A slice is a
 //! pointer and a length.
 
-/// What a merge made: the terms of the result, and the comparisons.
+/// Where a merge lies: its first place and its terms; and the comparisons.
 #[repr(C)]
 #[derive(Clone, Copy, Debug, Default, PartialEq, Eq)]
-pub struct Counts {
+pub struct Places {
+    pub head: usize,
     pub len: usize,
     pub comparisons: u64,
 }
@@ -48,22 +49,18 @@ extern "C" {
         seen: bool,
         last: u64,
     ) -> Checking;
-    pub fn probe_merge(
-        order: u32,
+    pub fn probe_merge_areas(
         p: u32,
-        aw: *const u64,
-        aw_len: usize,
-        ac: *const u32,
-        ac_len: usize,
-        bw: *const u64,
-        bw_len: usize,
-        bc: *const u32,
-        bc_len: usize,
-        ow: *mut u64,
-        ow_len: usize,
-        oc: *mut u32,
-        oc_len: usize,
-    ) -> Counts;
+        ww: *mut u64,
+        ww_len: usize,
+        wc: *mut u32,
+        wc_len: usize,
+        a: usize,
+        n: usize,
+        b: usize,
+        m: usize,
+        to: usize,
+    ) -> Places;
     pub fn probe_buckets_empty(state: *mut usize, state_len: usize);
     pub fn probe_buckets_add(
         order: u32,
@@ -92,18 +89,21 @@ extern "C" {
         sw_len: usize,
         sc: *mut u32,
         sc_len: usize,
+        ww: *const u64,
+        ww_len: usize,
+        wc: *mut u32,
+        wc_len: usize,
         lead: *mut u64,
         lead_len: usize,
     ) -> u64;
     pub fn probe_buckets_take(state: *mut usize, state_len: usize, bucket: usize);
     pub fn probe_buckets_sum(
-        order: u32,
         p: u32,
         state: *mut usize,
         state_len: usize,
-        sw: *const u64,
+        sw: *mut u64,
         sw_len: usize,
-        sc: *const u32,
+        sc: *mut u32,
         sc_len: usize,
         ww: *mut u64,
         ww_len: usize,
@@ -113,7 +113,8 @@ extern "C" {
         at_len: usize,
     ) -> u64;
     pub fn probe_buckets_settle(
-        state: *mut usize,
+        order: u32,
+        state: *const usize,
         state_len: usize,
         sw: *mut u64,
         sw_len: usize,

@@ -1,5 +1,5 @@
 //! The proved functions, through the static library `probe`.
-use crate::c_functions::{self, probe_merge, Checking, Counts};
+use crate::c_functions::{self, probe_merge_areas, Checking, Places};
 use crate::monomial::{Order, LIMIT};
 use crate::residue;
 use std::cmp::Ordering;
@@ -32,6 +32,7 @@ pub const NO_COEF: u32 = u32::MAX;
 
 extern "C" {
     fn probe_key(order: u32, w: u64) -> u64;
+    fn probe_word(order: u32, key: u64) -> u64;
     fn probe_compare(order: u32, x: u64, y: u64) -> u32;
     fn probe_in_layout(order: u32, n: u32, weights: *const u32, weights_len: usize, w: u64)
         -> bool;
@@ -67,23 +68,9 @@ extern "C" {
         k: usize,
         i: usize,
     ) -> u32;
-    fn probe_merge_within(
-        order: u32,
-        p: u32,
-        ww: *mut u64,
-        ww_len: usize,
-        wc: *mut u32,
-        wc_len: usize,
-        from: usize,
-        len: usize,
-        to: usize,
-        bw: *const u64,
-        bw_len: usize,
-        bc: *const u32,
-        bc_len: usize,
-    ) -> Counts;
     fn probe_any_over(q: u64, words: *const u64, words_len: usize) -> bool;
     fn probe_put_multiple(
+        order: u32,
         p: u32,
         c: u32,
         q: u64,
@@ -104,6 +91,21 @@ extern "C" {
 
 pub fn key(order: Order, w: u64) -> u64 {
     unsafe { probe_key(order.number(), w) }
+}
+
+/// The word that has a key.
+pub fn word(order: Order, key: u64) -> u64 {
+    unsafe { probe_word(order.number(), key) }
+}
+
+/// The keys of words.
+pub fn keys(order: Order, words: &[u64]) -> Vec<u64> {
+    words.iter().map(|&w| key(order, w)).collect()
+}
+
+/// Turns keys into words.
+pub fn make_words(order: Order, keys: &mut [u64]) {
+    keys.iter_mut().for_each(|k| *k = word(order, *k));
 }
 
 pub fn compare(order: Order, x: u64, y: u64) -> Ordering {
@@ -185,10 +187,21 @@ pub type Lent<'a> = (&'a [u64], &'a [u32]);
 pub type LentMut<'a> = (&'a mut [u64], &'a mut [u32]);
 
 /// What every merge and multiple asks of a modulus and a polynomial.
-pub(crate) fn ask_polynomial(p: u32, (words, coefs): Lent) {
+fn ask_polynomial(p: u32, (words, coefs): Lent) {
     assert!((2..=residue::LIMIT).contains(&p), "not a modulus");
     assert_eq!(words.len(), coefs.len());
     assert!(coefs.iter().all(|c| (1..p).contains(c)), "not reduced");
+}
+
+/// The same of a polynomial with keys for words, which must fall.
+pub(crate) fn ask_keys(p: u32, (keys, coefs): Lent) {
+    ask_polynomial(p, (keys, coefs));
+    assert!(keys.windows(2).all(|k| k[0] > k[1]), "not falling");
+}
+
+/// That two stretches of places, each a first place and a length, have none in common.
+pub(crate) fn ask_apart((a, n): (usize, usize), (b, m): (usize, usize)) {
+    assert!(a + n <= b || b + m <= a, "not apart");
 }
 
 /// That `len` places from `from` on are within `size`.
@@ -227,64 +240,21 @@ pub fn part_coef(coefs: &[u32], starts: &[usize], k: usize, i: usize) -> u32 {
     unsafe { probe_part_coef(coefs.as_ptr(), coefs.len(), from, len, k, i) }
 }
 
-/// Merges a and b into the first places of the output.
-pub fn merge(order: Order, p: u32, a: Lent, b: Lent, (ow, oc): LentMut) -> Counts {
-    ask_polynomial(p, a);
-    ask_polynomial(p, b);
-    ask_room(a.0.len(), b.0.len(), ow.len());
-    ask_room(a.0.len(), b.0.len(), oc.len());
-    unsafe {
-        probe_merge(
-            order.number(),
-            p,
-            a.0.as_ptr(),
-            a.0.len(),
-            a.1.as_ptr(),
-            a.1.len(),
-            b.0.as_ptr(),
-            b.0.len(),
-            b.1.as_ptr(),
-            b.1.len(),
-            ow.as_mut_ptr(),
-            ow.len(),
-            oc.as_mut_ptr(),
-            oc.len(),
-        )
+/// Merges two polynomials of the work space, each a first place and its terms, with keys for words, to
+/// the places from `to` on.
+pub fn merge_areas(p: u32, (ww, wc): LentMut, lists: [(usize, usize); 2], to: usize) -> Places {
+    let [(a, n), (b, m)] = lists;
+    assert_eq!(ww.len(), wc.len());
+    ask_room(to, n + m, ww.len());
+    for (from, len) in lists {
+        assert!(len > 0, "an empty list");
+        ask_room(from, len, ww.len());
+        ask_keys(p, (&ww[from..from + len], &wc[from..from + len]));
+        ask_apart((from, len), (to, n + m));
     }
-}
-
-/// Merges the `len` terms at `from` of the work space with b, to `to` on.
-pub fn merge_within(
-    order: Order,
-    p: u32,
-    (ww, wc): LentMut,
-    [from, len, to]: [usize; 3],
-    b: Lent,
-) -> Counts {
-    ask_polynomial(p, b);
-    let size = ww.len().min(wc.len());
-    ask_room(from, len, size);
-    let most = len + b.0.len();
-    ask_room(to, most, size);
-    ask_polynomial(p, (&ww[from..from + len], &wc[from..from + len]));
-    assert!(from + len <= to || to + most <= from, "not apart");
-    unsafe {
-        probe_merge_within(
-            order.number(),
-            p,
-            ww.as_mut_ptr(),
-            ww.len(),
-            wc.as_mut_ptr(),
-            wc.len(),
-            from,
-            len,
-            to,
-            b.0.as_ptr(),
-            b.0.len(),
-            b.1.as_ptr(),
-            b.1.len(),
-        )
-    }
+    let ((words, words_len), (coefs, coefs_len)) =
+        ((ww.as_mut_ptr(), ww.len()), (wc.as_mut_ptr(), wc.len()));
+    unsafe { probe_merge_areas(p, words, words_len, coefs, coefs_len, a, n, b, m, to) }
 }
 
 /// Whether a product of the monomial q with one of the words has an exponent over 127.
@@ -294,8 +264,14 @@ pub fn any_over(q: u64, words: &[u64]) -> bool {
     unsafe { probe_any_over(q, words.as_ptr(), words.len()) }
 }
 
-/// Puts the polynomial times c·q modulo p into the output from `to` on.
-pub fn put_multiple(p: u32, (c, q): (u32, u64), f: Lent, (ow, oc): LentMut, to: usize) {
+/// Puts the polynomial times c·q modulo p, with keys for words, into the output from `to` on.
+pub fn put_multiple(
+    (order, p): (Order, u32),
+    (c, q): (u32, u64),
+    f: Lent,
+    (ow, oc): LentMut,
+    to: usize,
+) {
     ask_polynomial(p, f);
     assert!(c < p, "not below the modulus");
     ask_packed(q);
@@ -304,6 +280,7 @@ pub fn put_multiple(p: u32, (c, q): (u32, u64), f: Lent, (ow, oc): LentMut, to: 
     ask_room(to, f.0.len(), oc.len());
     unsafe {
         probe_put_multiple(
+            order.number(),
             p,
             c,
             q,

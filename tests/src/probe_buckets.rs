@@ -6,11 +6,18 @@ use crate::c_functions::{
 use crate::geobucket::{capacity, start, BUCKETS};
 use crate::limits::{BUCKET_PLACES, MOST_TERMS, WORK_PLACES};
 use crate::monomial::Order;
-use crate::probe::{ask_polynomial, Lent};
+use crate::probe::{ask_apart, ask_keys, keys, make_words, Lent};
 use std::ops::Range;
 
-/// The six heads, and then the six lengths.
-pub const STATE: usize = 2 * BUCKETS;
+/// The six heads, the six lengths, and the places of the free areas, of which the last is unused. Places
+/// are counted through the work space and on through the bucket space.
+pub const STATE: usize = 3 * BUCKETS;
+
+/// This bucket lies in the bucket space, and those below it in the work space.
+const LAST: usize = BUCKETS - 1;
+
+/// Words and coefficients of a space.
+pub type Space = (Vec<u64>, Vec<u32>);
 
 /// The number in the place of a bucket where the lead is zero.
 const NO_BUCKET: u64 = BUCKETS as u64;
@@ -26,15 +33,15 @@ pub struct Lead {
     pub coef: u32,
 }
 
-/// Heads, lengths and spaces.
+/// The state and the spaces, where keys stand for words.
 #[derive(Clone)]
 pub struct Buckets {
     order: Order,
     p: u32,
     state: [usize; STATE],
     /// The bucket space.
-    pub space: (Vec<u64>, Vec<u32>),
-    pub work: (Vec<u64>, Vec<u32>),
+    pub space: Space,
+    pub work: Space,
 }
 
 impl Buckets {
@@ -42,8 +49,8 @@ impl Buckets {
     pub fn new(
         (order, p): (Order, u32),
         mut state: [usize; STATE],
-        space: (Vec<u64>, Vec<u32>),
-        work: (Vec<u64>, Vec<u32>),
+        space: Space,
+        work: Space,
     ) -> Self {
         assert_eq!(
             (space.0.len(), space.1.len()),
@@ -66,44 +73,98 @@ impl Buckets {
         self.state[BUCKETS + bucket]
     }
 
-    /// The places of a bucket's terms in the bucket space: its length of them, from its head on.
-    pub fn terms_at(&self, bucket: usize) -> Range<usize> {
-        let head = self.state[bucket];
-        let end = head.checked_add(self.len(bucket));
-        head..end.expect("a length past all places")
+    /// Where a bucket's terms lie, in all places: its length of them, from its head on.
+    fn terms_at(&self, bucket: usize) -> (usize, usize) {
+        (self.state[bucket], self.len(bucket))
     }
 
-    /// The places of a bucket.
-    fn places_of(bucket: usize) -> Range<usize> {
-        start(bucket)..start(bucket) + capacity(bucket)
+    /// The zone of a bucket, which its terms lie in, in all places.
+    fn zone(bucket: usize) -> Range<usize> {
+        match bucket {
+            LAST => WORK_PLACES + start(LAST)..WORK_PLACES + BUCKET_PLACES,
+            _ => 4 * start(bucket)..4 * start(bucket + 1),
+        }
+    }
+
+    /// The places of a bucket's terms within the space that it lies in.
+    fn places(&self, bucket: usize) -> Range<usize> {
+        let (head, len) = self.terms_at(bucket);
+        let head = match bucket {
+            LAST => head - WORK_PLACES,
+            _ => head,
+        };
+        head..head + len
+    }
+
+    /// The keys and coefficients of a bucket.
+    fn keys(&self, bucket: usize) -> Lent<'_> {
+        let (keys, coefs) = match bucket {
+            LAST => &self.space,
+            _ => &self.work,
+        };
+        let places = self.places(bucket);
+        (&keys[places.clone()], &coefs[places])
     }
 
     /// The words and coefficients of a bucket.
-    pub fn list(&self, bucket: usize) -> Lent<'_> {
-        let places = match self.len(bucket) {
-            0 => 0..0,
-            _ => self.terms_at(bucket),
-        };
-        (&self.space.0[places.clone()], &self.space.1[places])
+    pub fn list(&self, bucket: usize) -> Space {
+        let (keys, coefs) = self.keys(bucket);
+        self.in_words(keys, coefs)
     }
 
-    /// What every function asks: each bucket that has terms has them in its own places, with reduced
-    /// coefficients.
+    /// Keys as words, with their coefficients.
+    fn in_words(&self, keys: &[u64], coefs: &[u32]) -> Space {
+        let mut words = keys.to_vec();
+        make_words(self.order, &mut words);
+        (words, coefs.to_vec())
+    }
+
+    /// Puts these contents into all places of both spaces that hold no term of a bucket.
+    pub fn spoil(&mut self, space: &Space, work: &Space) {
+        let mut spoilt = self.clone();
+        spoilt.space.clone_from(space);
+        spoilt.work.clone_from(work);
+        for bucket in 0..BUCKETS {
+            let (keys, coefs) = self.keys(bucket);
+            let to = match bucket {
+                LAST => &mut spoilt.space,
+                _ => &mut spoilt.work,
+            };
+            let places = self.places(bucket);
+            to.0[places.clone()].copy_from_slice(keys);
+            to.1[places].copy_from_slice(coefs);
+        }
+        *self = spoilt;
+    }
+
+    /// What every function asks: each bucket, also an empty one, lies in its zone and has no more terms
+    /// than its capacity, with falling keys and reduced coefficients; and the free area of each but the
+    /// last is one of the two areas of its zone, apart from the bucket's terms.
     fn ask(&self) {
-        for bucket in (0..BUCKETS).filter(|&b| self.len(b) > 0) {
-            let (terms, own) = (self.terms_at(bucket), Self::places_of(bucket));
+        for bucket in 0..BUCKETS {
+            let ((head, len), zone) = (self.terms_at(bucket), Self::zone(bucket));
+            let end = head.checked_add(len).expect("a length past all places");
             assert!(
-                own.start <= terms.start && terms.end <= own.end,
-                "bucket {bucket} is outside its places: {terms:?}"
+                zone.start <= head && end <= zone.end,
+                "bucket {bucket} is outside its zone: {head}..{end}"
             );
-            ask_polynomial(self.p, self.list(bucket));
+            assert!(len <= capacity(bucket), "bucket {bucket} has {len} terms");
+            ask_keys(self.p, self.keys(bucket));
+            if bucket != LAST {
+                let (side, area) = (self.state[2 * BUCKETS + bucket], 2 * capacity(bucket));
+                assert!(
+                    [zone.start, zone.start + area].contains(&side) && zone.len() == 2 * area,
+                    "the free area of bucket {bucket} is at {side}"
+                );
+                ask_apart((head, len), (side, area));
+            }
         }
     }
 
     /// Adds a polynomial, and gives the comparisons.
     pub fn add(&mut self, (fw, fc): Lent) -> u64 {
         self.ask();
-        ask_polynomial(self.p, (fw, fc));
+        ask_keys(self.p, (&keys(self.order, fw), fc));
         let held: usize = (0..BUCKETS).map(|b| self.len(b)).sum();
         assert!(held + fw.len() <= MOST_TERMS, "too many terms");
         unsafe {
@@ -143,6 +204,10 @@ impl Buckets {
                 self.space.0.len(),
                 self.space.1.as_mut_ptr(),
                 self.space.1.len(),
+                self.work.0.as_ptr(),
+                self.work.0.len(),
+                self.work.1.as_mut_ptr(),
+                self.work.1.len(),
                 lead.as_mut_ptr(),
                 lead.len(),
             )
@@ -156,20 +221,19 @@ impl Buckets {
         unsafe { probe_buckets_take(self.state.as_mut_ptr(), self.state.len(), bucket) }
     }
 
-    /// Puts the full sum into the work space and empties the buckets. Gives the places of the sum,
-    /// and the comparisons.
-    pub fn sum(&mut self) -> (Range<usize>, u64) {
+    /// Puts the full sum into the bucket space and empties the buckets. Gives the words and the
+    /// coefficients of the sum, and the comparisons.
+    pub fn sum(&mut self) -> (Space, u64) {
         self.ask();
         let mut at = [usize::MAX; 2];
         let comparisons = unsafe {
             probe_buckets_sum(
-                self.order.number(),
                 self.p,
                 self.state.as_mut_ptr(),
                 self.state.len(),
-                self.space.0.as_ptr(),
+                self.space.0.as_mut_ptr(),
                 self.space.0.len(),
-                self.space.1.as_ptr(),
+                self.space.1.as_mut_ptr(),
                 self.space.1.len(),
                 self.work.0.as_mut_ptr(),
                 self.work.0.len(),
@@ -181,10 +245,13 @@ impl Buckets {
         };
         let [from, len] = at;
         assert!(
-            from <= WORK_PLACES && len <= WORK_PLACES - from,
-            "outside the work space"
+            from <= BUCKET_PLACES && len <= BUCKET_PLACES - from,
+            "outside the bucket space"
         );
-        (from..from + len, comparisons)
+        let places = from..from + len;
+        let (keys, coefs) = &self.space;
+        let sum = self.in_words(&keys[places.clone()], &coefs[places]);
+        (sum, comparisons)
     }
 
     /// Leaves the spaces as they are at return.
@@ -192,7 +259,8 @@ impl Buckets {
         self.ask();
         unsafe {
             probe_buckets_settle(
-                self.state.as_mut_ptr(),
+                self.order.number(),
+                self.state.as_ptr(),
                 self.state.len(),
                 self.space.0.as_mut_ptr(),
                 self.space.0.len(),

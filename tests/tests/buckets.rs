@@ -7,7 +7,7 @@ use second::limits::{BUCKET_PLACES, MOST_TERMS, WORK_PLACES};
 use second::monomial::Order;
 use second::operations::{Operation, Operations};
 use second::polynomial::{lent, Term};
-use second::probe_buckets::{self, Buckets, STATE};
+use second::probe_buckets::{self, Buckets, Space, STATE};
 use second::random::Random;
 
 /// One of so many cases is a list of operations.
@@ -15,9 +15,6 @@ const CASES_PER_LIST: u64 = 50;
 
 /// A full sum of so many terms is a long one.
 const LONG: usize = 1_000;
-
-/// Words and coefficients of a space.
-type Space = (Vec<u64>, Vec<u32>);
 
 /// What the operations of a run met.
 #[derive(Debug, Default)]
@@ -119,17 +116,10 @@ impl Both {
         }
     }
 
-    /// Puts any contents into the work space and into the places that hold no term of a bucket.
+    /// Puts any contents into the places that hold no term of a bucket.
     fn spoil(&mut self) {
         let (space, work) = &self.rubbish;
-        self.proved.work.clone_from(work);
-        let before = std::mem::replace(&mut self.proved.space, space.clone());
-        for bucket in (0..BUCKETS).filter(|&b| !self.model.buckets()[b].is_empty()) {
-            let terms = self.proved.terms_at(bucket);
-            let (words, coefs) = (&before.0[terms.clone()], &before.1[terms.clone()]);
-            self.proved.space.0[terms.clone()].copy_from_slice(words);
-            self.proved.space.1[terms].copy_from_slice(coefs);
-        }
+        self.proved.spoil(space, work);
     }
 
     /// Does an operation on both: the comparisons and what is given out must be the same.
@@ -185,20 +175,17 @@ impl Both {
 
     fn sum(&mut self, met: &mut Met, about: &str) {
         let (terms, expected) = self.model.sum();
-        let (places, comparisons) = self.proved.sum();
-        let (words, coefs) = lent(self.order, &terms);
+        let (sum, comparisons) = self.proved.sum();
         assert_eq!(comparisons, expected, "{about}");
-        assert!(self.proved.work.0[places.clone()] == words, "{about}");
-        assert!(self.proved.work.1[places] == coefs, "{about}");
+        assert!(sum == lent(self.order, &terms), "{about}");
         met.sum(terms.len(), comparisons);
     }
 
     /// The six lists must be those of the model, and so must the spaces once they are settled.
     fn compare(&self, about: &str) {
         for (bucket, terms) in self.model.buckets().iter().enumerate() {
-            let (words, coefs) = lent(self.order, terms);
             let list = self.proved.list(bucket);
-            assert!(list == (&words, &coefs), "{about}, bucket {bucket}");
+            assert!(list == lent(self.order, terms), "{about}, bucket {bucket}");
         }
         let mut settled = self.proved.clone();
         settled.settle();

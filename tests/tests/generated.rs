@@ -230,7 +230,8 @@ fn comparisons_of_monomials() {
     }
 }
 
-/// Each order is total on all words, of the layout or not, goes by its key, and is the model's.
+/// Each order is total on all words, of the layout or not, goes by its key, which is that of one word, and is
+/// the model's.
 #[test]
 fn orders_are_total() {
     let random = &mut Random::new(5);
@@ -250,6 +251,8 @@ fn orders_are_total() {
             assert_eq!(compare(y, x), compare(x, y).reverse());
             let keys = probe::key(order, x).cmp(&probe::key(order, y));
             assert_eq!(compare(x, y), keys);
+            assert_eq!(probe::word(order, probe::key(order, x)), x);
+            assert_eq!(probe::key(order, probe::word(order, x)), x);
             assert_eq!(compare(x, y), order.compare_words(x, y));
             let mut sorted = [x, y, z];
             sorted.sort_by(|&a, &b| compare(a, b));

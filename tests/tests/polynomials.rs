@@ -1,6 +1,6 @@
 //! Generated polynomials: starts, parts, merges and multiples against the model. The variable
 //! SECOND_CASES sets the size, as for the other generated tests.
-use second::c_functions::Counts;
+use second::c_functions::Places;
 use second::cases;
 use second::generate::{
     coef, falling, monomial, monomials, negative, places, polynomial, setting, up_to, with_coefs,
@@ -27,26 +27,37 @@ enum Likeness {
     All,
     Cancelling,
     SomeCancelling,
-    LeftEmpty,
-    RightEmpty,
-    BothEmpty,
+    OneTerm,
     OneAfterTheOther,
 }
 
-const LIKENESSES: [Likeness; 9] = [
+const LIKENESSES: [Likeness; 7] = [
     Likeness::Any,
     Likeness::Many,
     Likeness::All,
     Likeness::Cancelling,
     Likeness::SomeCancelling,
-    Likeness::LeftEmpty,
-    Likeness::RightEmpty,
-    Likeness::BothEmpty,
+    Likeness::OneTerm,
     Likeness::OneAfterTheOther,
 ];
 
-/// Two polynomials of up to `len` terms each.
+/// Two polynomials of 1 to `len` terms each: a merge of two areas is of lists that are not empty.
 fn pair(
+    random: &mut Random,
+    setting: (Order, usize, u32),
+    likeness: Likeness,
+    len: usize,
+) -> (Vec<Term>, Vec<Term>) {
+    loop {
+        let (a, b) = any_pair(random, setting, likeness, len);
+        if !a.is_empty() && !b.is_empty() {
+            return (a, b);
+        }
+    }
+}
+
+/// Two polynomials of up to `len` terms each.
+fn any_pair(
     random: &mut Random,
     (order, n, p): (Order, usize, u32),
     likeness: Likeness,
@@ -82,9 +93,16 @@ fn pair(
             let b = a.iter().map(some).collect();
             (a, b)
         }
-        Likeness::LeftEmpty => (Vec::new(), b),
-        Likeness::RightEmpty => (a, Vec::new()),
-        Likeness::BothEmpty => (Vec::new(), Vec::new()),
+        Likeness::OneTerm => {
+            let (mut a, mut b) = (a, b);
+            let one = match random.below(2) {
+                0 => &mut a,
+                _ => &mut b,
+            };
+            let at = up_to(random, one.len());
+            *one = one.iter().skip(at).take(1).cloned().collect();
+            (a, b)
+        }
         Likeness::OneAfterTheOther => {
             let mut high = a;
             let low = high.split_off(up_to(random, high.len()));
@@ -111,60 +129,72 @@ fn put(order: Order, terms: &[Term], space: &mut (Vec<u64>, Vec<u32>), to: usize
     space.1[to..to + coefs.len()].copy_from_slice(&coefs);
 }
 
-/// One place past a result may hold what cancelled there, if it is within the room that is left: it
-/// is taken over from what is wanted, so that all other places are compared.
-fn pass_over(
-    found: &mut (Vec<u64>, Vec<u32>),
-    wanted: &(Vec<u64>, Vec<u32>),
-    at: usize,
-    left: usize,
-) {
-    if left > 0 {
-        found.0[at] = wanted.0[at];
-        found.1[at] = wanted.1[at];
-    }
+/// The same with keys for words.
+fn put_keys(order: Order, terms: &[Term], space: &mut (Vec<u64>, Vec<u32>), to: usize) {
+    put(order, terms, space, to);
+    let words = &mut space.0[to..to + terms.len()];
+    let keys = probe::keys(order, words);
+    words.copy_from_slice(&keys);
 }
 
-fn as_lent((words, coefs): &(Vec<u64>, Vec<u32>)) -> probe::Lent<'_> {
-    (words, coefs)
-}
+/// Terms, and the place in the work space that they lie at.
+type Placed<'a> = (&'a [Term], usize);
 
 /// The model's merge: the published one, which must give the sum.
-fn model(order: Order, p: u32, a: &[Term], b: &[Term]) -> (Vec<Term>, Counts) {
+fn model(order: Order, p: u32, a: &[Term], b: &[Term]) -> (Vec<Term>, u64) {
     let (merged, comparisons) = merge(order, p, a, b);
     assert_eq!(merged, sum(order, p, a, b));
-    let len = merged.len();
-    (merged, Counts { len, comparisons })
+    (merged, comparisons)
 }
 
-/// Merges the terms a at `from` of the space with b, to `to` on, as the model does and nothing else.
-fn merge_within(
+/// Puts a and b at their places of the space, and merges them to the places from `to` on, where the
+/// result must be the model's, and end at the last of them. What lies there in front of the result may
+/// be anything, and all other places must be as they were.
+fn merge_areas(
     (order, p): (Order, u32),
-    (a, from): (&[Term], usize),
-    b: &[Term],
+    [(a, a_at), (b, b_at)]: [Placed; 2],
     space: &mut (Vec<u64>, Vec<u32>),
     to: usize,
     about: &str,
-) -> (Vec<Term>, Counts) {
-    let (expected, counts) = model(order, p, a, b);
+) -> (Vec<Term>, Places) {
+    let (expected, comparisons) = model(order, p, a, b);
+    let (len, end) = (expected.len(), to + a.len() + b.len());
+    let head = end - len;
+    put_keys(order, a, space, a_at);
+    put_keys(order, b, space, b_at);
     let mut wanted = space.clone();
-    put(order, &expected, &mut wanted, to);
-    let found = probe::merge_within(
-        order,
+    put(order, &expected, &mut wanted, head);
+    let places = probe::merge_areas(
         p,
         (&mut space.0, &mut space.1),
-        [from, a.len(), to],
-        as_lent(&lent(order, b)),
+        [(a_at, a.len()), (b_at, b.len())],
+        to,
     );
-    assert_eq!(found, counts, "{about}");
-    pass_over(
-        space,
-        &wanted,
-        to + expected.len(),
-        a.len() + b.len() - expected.len(),
-    );
-    assert!(*space == wanted, "{about}");
-    (expected, counts)
+    let counts = Places {
+        head,
+        len,
+        comparisons,
+    };
+    assert_eq!(places, counts, "{about}");
+    let mut found = space.clone();
+    probe::make_words(order, &mut found.0[head..end]);
+    wanted.0[to..head].copy_from_slice(&found.0[to..head]);
+    wanted.1[to..head].copy_from_slice(&found.1[to..head]);
+    assert!(found == wanted, "{about}");
+    (expected, places)
+}
+
+/// First places for stretches of places of these lengths, in any order, apart from each other by up to
+/// `gap` places, and how many places there are in all.
+fn apart<const N: usize>(random: &mut Random, lens: [usize; N], gap: usize) -> ([usize; N], usize) {
+    let mut left: Vec<usize> = (0..N).collect();
+    let (mut firsts, mut end) = ([0; N], up_to(random, gap));
+    while !left.is_empty() {
+        let k = left.swap_remove(up_to(random, left.len() - 1));
+        firsts[k] = end;
+        end += lens[k] + up_to(random, gap);
+    }
+    (firsts, end)
 }
 
 /// What the merges of a run met.
@@ -181,15 +211,15 @@ struct Met {
 }
 
 impl Met {
-    fn add(&mut self, a: usize, b: usize, counts: Counts, all: usize) {
+    fn add(&mut self, a: usize, b: usize, counts: Places, all: usize) {
         self.merges += 1;
         self.long += u64::from(a.max(b) > SHORT);
         self.longest = self.longest.max(a).max(b);
         self.comparisons += counts.comparisons;
         self.like += (a + b - all) as u64;
         self.cancelled += (all - counts.len) as u64;
-        self.zero += u64::from(a + b > 0 && counts.len == 0);
-        self.uneven += u64::from(a.min(b) > 0 && a.max(b) / 4 > a.min(b));
+        self.zero += u64::from(counts.len == 0);
+        self.uneven += u64::from(a.max(b) / 4 > a.min(b));
     }
 
     /// That each kind was met.
@@ -206,7 +236,7 @@ fn unlike(order: Order, a: &[Term], b: &[Term]) -> usize {
     falling(order, all.collect()).len()
 }
 
-/// Two fifths of the cases: 20,000 merges into an output.
+/// Two fifths of the cases: 20,000 merges at any places.
 #[test]
 fn merges() {
     let random = &mut Random::new(21);
@@ -216,29 +246,18 @@ fn merges() {
         let likeness = random.pick(&LIKENESSES);
         let len = list_len(random, case);
         let (a, b) = pair(random, (order, n, p), likeness, len);
-        let (expected, counts) = model(order, p, &a, &b);
-        let room = a.len() + b.len();
-        let (ow, oc) = (room + up_to(random, 4), room + up_to(random, 4));
-        let mut output = places(random, ow, oc);
-        let mut wanted = output.clone();
-        put(order, &expected, &mut wanted, 0);
-        let found = probe::merge(
-            order,
-            p,
-            as_lent(&lent(order, &a)),
-            as_lent(&lent(order, &b)),
-            (&mut output.0, &mut output.1),
-        );
-        let about = || format!("case {case} {order:?} n {n} p {p} {likeness:?}");
-        assert_eq!(found, counts, "{}", about());
-        pass_over(&mut output, &wanted, expected.len(), room - expected.len());
-        assert!(output == wanted, "{}", about());
+        let ([a_at, b_at, to], size) = apart(random, [a.len(), b.len(), a.len() + b.len()], 40);
+        let mut space = places(random, size, size);
+        let about = format!("case {case} {order:?} n {n} p {p} {likeness:?}");
+        let lists = [(&a[..], a_at), (&b[..], b_at)];
+        let (_, counts) = merge_areas((order, p), lists, &mut space, to, &about);
         met.add(a.len(), b.len(), counts, unlike(order, &a, &b));
     }
     met.whole();
 }
 
-/// Merges within the work space, from the lower half to the upper and back: 20,000.
+/// Merges within the work space, from the lower half to the upper, where the result is merged on, and
+/// back: 20,000.
 #[test]
 fn merges_between_halves() {
     let random = &mut Random::new(22);
@@ -248,19 +267,24 @@ fn merges_between_halves() {
         let (order, n, p) = setting(case);
         let likeness = random.pick(&LIKENESSES);
         let len = list_len(random, case).min(1_300);
-        let (mut a, up) = pair(random, (order, n, p), likeness, len);
+        let (a, up) = pair(random, (order, n, p), likeness, len);
         let down = match random.below(2) {
             0 => negative(p, &up),
             _ => polynomial(random, order, n, p, len),
         };
-        put(order, &a, &mut space, 0);
-        for (b, from, to) in [(up, 0, HALF), (down, HALF, 0)] {
-            let about = format!("case {case} {order:?} n {n} p {p} {likeness:?} to {to}");
-            let (expected, counts) =
-                merge_within((order, p), (&a, from), &b, &mut space, to, &about);
-            met.add(a.len(), b.len(), counts, unlike(order, &a, &b));
-            a = expected;
+        let about = format!("case {case} {order:?} n {n} p {p} {likeness:?}");
+        let most = a.len() + up.len();
+        let lists = [(&a[..], 0), (&up[..], a.len())];
+        let (sum, counts) = merge_areas((order, p), lists, &mut space, HALF, &about);
+        met.add(a.len(), up.len(), counts, unlike(order, &a, &up));
+        if sum.is_empty() || down.is_empty() {
+            continue;
         }
+        // The sum is put where it lies.
+        let lists = [(&sum[..], counts.head), (&down[..], HALF + most)];
+        let about = about + ", back";
+        let (_, counts) = merge_areas((order, p), lists, &mut space, 0, &about);
+        met.add(sum.len(), down.len(), counts, unlike(order, &sum, &down));
     }
     met.whole();
 }
@@ -273,23 +297,12 @@ fn merges_side_by_side() {
         let (order, n, p) = setting(case);
         let likeness = random.pick(&LIKENESSES);
         let (a, b) = pair(random, (order, n, p), likeness, 12);
-        let most = a.len() + b.len();
-        let gaps = [0; 3].map(|_| up_to(random, 3) / 2);
-        let (from, to, end) = match random.below(2) {
-            0 => {
-                let to = gaps[0] + a.len() + gaps[1];
-                (gaps[0], to, to + most)
-            }
-            _ => {
-                let from = gaps[0] + most + gaps[1];
-                (from, gaps[0], from + a.len())
-            }
-        };
-        let more = up_to(random, 2);
-        let mut space = places(random, end + gaps[2], end + more);
-        put(order, &a, &mut space, from);
-        let about = format!("case {case} {likeness:?} {from} to {to}");
-        merge_within((order, p), (&a, from), &b, &mut space, to, &about);
+        let gap = up_to(random, 3) / 2;
+        let ([a_at, b_at, to], size) = apart(random, [a.len(), b.len(), a.len() + b.len()], gap);
+        let mut space = places(random, size, size);
+        let about = format!("case {case} {likeness:?} {a_at} and {b_at} to {to}");
+        let lists = [(&a[..], a_at), (&b[..], b_at)];
+        merge_areas((order, p), lists, &mut space, to, &about);
     }
 }
 
@@ -395,7 +408,8 @@ fn multiples() {
         put(order, &expected, &mut wanted, to);
         let term = (c, order.word(&q));
         let into = (&mut output.0[..], &mut output.1[..]);
-        probe::put_multiple(p, term, (&words, &coefs), into, to);
+        probe::put_multiple((order, p), term, (&words, &coefs), into, to);
+        probe::make_words(order, &mut output.0[to..room]);
         assert!(
             output == wanted,
             "case {case} {order:?} n {n} p {p} {c} {q:?}"

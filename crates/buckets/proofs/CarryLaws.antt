@@ -1,116 +1,102 @@
--- A carry, from bucket to bucket: over lists, and then in the spaces. Assumes nothing.
-use mathlib.Core.Path.{_≡_, sym, ap, ap₂, _∙_, subst}
-use mathlib.Core.List.{List, [], _∷_, _++_}
-use Prim.Native.Nat.{ℕ, suc, _+_, _-_, _*_, _<_, _≤_, Ordering}
-use native.Mathlib.Nat.{zero-add}
+-- The published carry and the published addition, bucket by bucket. Assumes nothing.
+use mathlib.Core.Path.{_≡_, refl, sym, ap, ap₂, _∙_, subst}
+use mathlib.Core.List.{List, [], _∷_, _++_, append-nil}
+use Prim.Native.Nat.{ℕ, zero, suc, _+_, _-_, _*_, _<_, _≤_, Ordering}
 use native.Mathlib.Omega.{arith}
 use borrow.Author.Tests.{le-leb, lt-leb}
 use lib.ListN.{length, length-append}
-use lib.Seq.{append-snoc}
-use Rattle.limits.specs.Limits.{mostTerms}
-use Rattle.monomial.specs.TotalOrder.{TotalOrder}
-use Rattle.polynomial.specs.Terms.{Term, Canonical}
+use Rattle.polynomial.specs.Terms.{Term}
 use Rattle.polynomial.specs.Merge.{merge, compared, mergeCount}
-use Rattle.polynomial.proofs.MergeLaws.{merge-size, merge-canonical, count-size}
-use Rattle.geobucket.specs.Buckets.{held, carry, carryCompared}
-use Rattle.space.specs.Space.{Buckets, capacity, start, listFrom, bucketAt, Laid, moved}
-use Rattle.buckets.specs.Adding.{landed, landedCompared}
-use Rattle.space.proofs.Starts.{next-capacity, next-start}
-use Rattle.space.proofs.SpaceLaws.{held-cons, from-same, from-next, from-last, laid-moved, moved-len, bucket-none, bucket-other}
-use Rattle.buckets.proofs.LevelLaws.{not-last}
+use Rattle.geobucket.specs.Buckets.{carry, carryCompared, place, placeCompared, add, addCompared}
+use Rattle.space.specs.Space.{capacity, listFrom}
+use Rattle.space.proofs.Starts.{next-capacity, cap-zero}
+use Rattle.buckets.specs.declared.level.Level.{Level}
+use Rattle.buckets.specs.Levels.{LevelFor}
 
--- ---- the equations of a landing
-module _ (cmp : ℕ → ℕ → Ordering) (p : ℕ) where
-  pub landed-fits : (cap : ℕ) (m : List (Term ℕ)) (bs : List (List (Term ℕ))) → length m ≤ cap → landed cmp p cap m bs ≡ m ∷ bs
-  unfolding landed
-  landed-fits cap m bs h = rw (le-leb (length m) cap h, landed)
+module _ (cmp : ℕ → ℕ → Ordering) (p : ℕ) (cap : ℕ) (f b : List (Term ℕ)) (bs : List (List (Term ℕ))) where
+  -- the merge is not larger than the bucket
+  pub carry-stays : length (merge cmp p f b) ≤ cap → carry cmp p cap f (b ∷ bs) ≡ merge cmp p f b ∷ bs
+  unfolding carry
+  carry-stays h = rw (le-leb (length (merge cmp p f b)) cap h, carry)
 
-  pub landed-over : (cap : ℕ) (m b : List (Term ℕ)) (bs : List (List (Term ℕ))) → cap < length m → landed cmp p cap m (b ∷ bs) ≡ [] ∷ landed cmp p (4 * cap) (merge cmp p m b) bs
-  unfolding landed carry
-  landed-over cap m b bs h = rw (lt-leb (length m) cap h, landed)
+  compared-stays : length (merge cmp p f b) ≤ cap → carryCompared cmp p cap f (b ∷ bs) ≡ compared cmp f b ++ []
+  unfolding carryCompared
+  compared-stays h = rw (le-leb (length (merge cmp p f b)) cap h, carryCompared)
 
-  pub compared-fits : (cap : ℕ) (m : List (Term ℕ)) (bs : List (List (Term ℕ))) → length m ≤ cap → landedCompared cmp p cap m bs ≡ []
-  unfolding landedCompared
-  compared-fits cap m bs h = rw (le-leb (length m) cap h, landedCompared)
+  pub count-stays : length (merge cmp p f b) ≤ cap → length (carryCompared cmp p cap f (b ∷ bs)) ≡ mergeCount cmp f b
+  count-stays h = ap length (compared-stays h ∙ append-nil (compared cmp f b))
 
-  pub compared-over : (cap : ℕ) (m b : List (Term ℕ)) (bs : List (List (Term ℕ))) → cap < length m → landedCompared cmp p cap m (b ∷ bs) ≡ compared cmp m b ++ landedCompared cmp p (4 * cap) (merge cmp p m b) bs
-  unfolding landedCompared carryCompared
-  compared-over cap m b bs h = rw (lt-leb (length m) cap h, landedCompared)
+  -- it is larger
+  pub carry-goes : cap < length (merge cmp p f b) → carry cmp p cap f (b ∷ bs) ≡ [] ∷ carry cmp p (4 * cap) (merge cmp p f b) bs
+  unfolding carry
+  carry-goes h = rw (lt-leb (length (merge cmp p f b)) cap h, carry)
 
--- ---- over lists: m was merged with bucket i of the buckets g; G is what the whole carry makes, with N comparisons
-pub record Carrying (cmp : ℕ → ℕ → Ordering) (p : ℕ) (G : List (List (Term ℕ))) (N : ℕ) (g : ℕ → List (Term ℕ)) (i : ℕ) (m : List (Term ℕ)) (n : ℕ) : Type 0 where
-  pub in-six : i < 6
-  pub lists : listFrom g 0 i ++ landed cmp p (capacity i) m (listFrom g (suc i) (5 - i)) ≡ G
-  pub count : n + length (landedCompared cmp p (capacity i) m (listFrom g (suc i) (5 - i))) ≡ N
-  pub canonical : Canonical cmp p m
-  pub room : length m + held (listFrom g (suc i) (5 - i)) ≤ mostTerms
-  pub ahead : (j : ℕ) → i < j → j < 6 → Canonical cmp p (g j)
-  pub few : n ≤ mostTerms * suc i
+  compared-goes : cap < length (merge cmp p f b) → carryCompared cmp p cap f (b ∷ bs) ≡ compared cmp f b ++ carryCompared cmp p (4 * cap) (merge cmp p f b) bs
+  unfolding carryCompared
+  compared-goes h = rw (lt-leb (length (merge cmp p f b)) cap h, carryCompared)
 
-module _ {cmp : ℕ → ℕ → Ordering} {p : ℕ} {G : List (List (Term ℕ))} {N : ℕ} {g : ℕ → List (Term ℕ)} {i : ℕ} {m : List (Term ℕ)} {n : ℕ} (c : Carrying cmp p G N g i m n) where
-  module _ (over : capacity i < length m) where
-    pub up : suc i < 6
-    up = not-last i (length m) (c .in-six) over (omega (arith, c .room))
+  pub count-goes : cap < length (merge cmp p f b) → length (carryCompared cmp p cap f (b ∷ bs)) ≡ mergeCount cmp f b + length (carryCompared cmp p (4 * cap) (merge cmp p f b) bs)
+  count-goes h = ap length (compared-goes h) ∙ length-append (compared cmp f b) (carryCompared cmp p (4 * cap) (merge cmp p f b) bs)
 
-    above : listFrom g (suc i) (5 - i) ≡ g (suc i) ∷ listFrom g (suc (suc i)) (5 - suc i)
-    above = ap (listFrom g (suc i)) (let k = up in let e : 5 - i ≡ suc (5 - suc i) = omega arith in e) ∙ from-next g (suc i) (5 - suc i)
+-- ---- the bucket that an addition begins with
+module _ (cmp : ℕ → ℕ → Ordering) (p : ℕ) (f : List (Term ℕ)) (g : ℕ → List (Term ℕ)) where
+  place-on : (cap : ℕ) (b : List (Term ℕ)) (bs : List (List (Term ℕ))) → cap < length f → place cmp p cap f (b ∷ bs) ≡ b ∷ place cmp p (4 * cap) f bs
+  unfolding place
+  place-on cap b bs h = rw (lt-leb (length f) cap h, place)
 
-    pub pair-room : length m + length (g (suc i)) ≤ mostTerms
-    pair-room = omega (arith, c .room, ap held above, held-cons (g (suc i)) (listFrom g (suc (suc i)) (5 - suc i)))
+  place-here : (cap : ℕ) (b : List (Term ℕ)) (bs : List (List (Term ℕ))) → length f ≤ cap → place cmp p cap f (b ∷ bs) ≡ carry cmp p cap f (b ∷ bs)
+  unfolding place
+  place-here cap b bs h = rw (le-leb (length f) cap h, place)
 
-    pub pair-count : n + mergeCount cmp m (g (suc i)) ≤ mostTerms * suc (suc i)
-    pair-count = omega (arith, c .few, count-size cmp p m (g (suc i)), pair-room)
+  compared-on : (cap : ℕ) (b : List (Term ℕ)) (bs : List (List (Term ℕ))) → cap < length f → placeCompared cmp p cap f (b ∷ bs) ≡ placeCompared cmp p (4 * cap) f bs
+  unfolding placeCompared
+  compared-on cap b bs h = rw (lt-leb (length f) cap h, placeCompared)
 
-    -- the bucket is emptied and the next one merged in
-    pub carry-on : TotalOrder ℕ cmp → 0 < p → (g' : ℕ → List (Term ℕ)) → g' i ≡ [] → ((j : ℕ) → j < 6 → (j ≡ i → ⊥) → g' j ≡ g j) → Carrying cmp p G N g' (suc i) (merge cmp p m (g (suc i))) (n + mergeCount cmp m (g (suc i)))
-    carry-on O pos g' here others =
-        let b = g (suc i) in
-        let bs = listFrom g (suc (suc i)) (5 - suc i) in
-        let M = merge cmp p m b in
-        let k = up in
-        let low : listFrom g' 0 (suc i) ≡ listFrom g 0 i ++ ([] ∷ []) = from-last g' 0 i ∙ ap₂ (λ (l : List (List (Term ℕ))) (x : List (Term ℕ)). l ++ (x ∷ [])) (from-same g' g 0 i (λ j l u. others j (omega arith) (λ e. let z : ⊥ = omega arith in z))) (ap g' (zero-add i) ∙ here) in
-        let high : listFrom g' (suc (suc i)) (5 - suc i) ≡ bs = from-same g' g (suc (suc i)) (5 - suc i) (λ j l u. others j (omega arith) (λ e. let z : ⊥ = omega arith in z)) in
-        record {
-          in-six = up;
-          lists =
-              ap₂ (λ (l r : List (List (Term ℕ))). l ++ landed cmp p (capacity (suc i)) M r) low high
-              ∙ (append-snoc (listFrom g 0 i) [] (landed cmp p (capacity (suc i)) M bs)
-              ∙ (ap (λ (q : ℕ). listFrom g 0 i ++ ([] ∷ landed cmp p q M bs)) (next-capacity i)
-              ∙ (ap (λ (l : List (List (Term ℕ))). listFrom g 0 i ++ l) (sym (ap (landed cmp p (capacity i) m) above ∙ landed-over cmp p (capacity i) m b bs over)) ∙ c .lists)));
-          count =
-              let e1 : length (landedCompared cmp p (capacity (suc i)) M (listFrom g' (suc (suc i)) (5 - suc i))) ≡ length (landedCompared cmp p (4 * capacity i) M bs) = ap₂ (λ (q : ℕ) (r : List (List (Term ℕ))). length (landedCompared cmp p q M r)) (next-capacity i) high in
-              let e2 : length (landedCompared cmp p (capacity i) m (listFrom g (suc i) (5 - i))) ≡ mergeCount cmp m b + length (landedCompared cmp p (4 * capacity i) M bs) = ap length (ap (landedCompared cmp p (capacity i) m) above ∙ compared-over cmp p (capacity i) m b bs over) ∙ length-append (compared cmp m b) (landedCompared cmp p (4 * capacity i) M bs) in
-              omega (arith, c .count, e1, e2);
-          canonical = merge-canonical cmp O p pos m b (c .canonical) (c .ahead (suc i) (omega arith) up);
-          room = omega (arith, c .room, ap held above, held-cons b bs, merge-size cmp p m b, ap held high);
-          ahead = λ j u v. subst (λ (l : List (Term ℕ)). Canonical cmp p l) (sym (others j v (λ e. let z : ⊥ = omega arith in z))) (c .ahead j (omega arith) v);
-          few = pair-count;
-        }
+  compared-here : (cap : ℕ) (b : List (Term ℕ)) (bs : List (List (Term ℕ))) → length f ≤ cap → placeCompared cmp p cap f (b ∷ bs) ≡ carryCompared cmp p cap f (b ∷ bs)
+  unfolding placeCompared
+  compared-here cap b bs h = rw (le-leb (length f) cap h, placeCompared)
 
-  module _ (fits : length m ≤ capacity i) where
-    pub carry-ends : listFrom g 0 i ++ (m ∷ listFrom g (suc i) (5 - i)) ≡ G
-    carry-ends = ap (λ (l : List (List (Term ℕ))). listFrom g 0 i ++ l) (sym (landed-fits cmp p (capacity i) m (listFrom g (suc i) (5 - i)) fits)) ∙ c .lists
+  -- from bucket a on, i buckets are too small and the next is not
+  place-at : (i a k : ℕ) → ((j : ℕ) → j < i → capacity (a + j) < length f) → length f ≤ capacity (a + i)
+      → (place cmp p (capacity a) f (listFrom g a (i + suc k)) ≡ listFrom g a i ++ carry cmp p (capacity (a + i)) f (listFrom g (a + i) (suc k)))
+      × (placeCompared cmp p (capacity a) f (listFrom g a (i + suc k)) ≡ carryCompared cmp p (capacity (a + i)) f (listFrom g (a + i) (suc k)))
+  unfolding listFrom
+  place-at zero a k small fits =
+      let e : a + 0 ≡ a = omega arith in
+      let n : 0 + suc k ≡ suc k = omega arith in
+      let h : length f ≤ capacity a = subst (λ (x : ℕ). length f ≤ capacity x) e fits in
+      rw (e, n) (place-here (capacity a) (g a) (listFrom g (suc a) k) h, compared-here (capacity a) (g a) (listFrom g (suc a) k) h)
+  place-at (suc i) a k small fits =
+      let e : suc a + i ≡ a + suc i = omega arith in
+      let n : suc i + suc k ≡ suc (i + suc k) = omega arith in
+      let h : capacity a < length f = subst (λ (x : ℕ). capacity x < length f) (let z : a + 0 ≡ a = omega arith in z) (small 0 (omega arith)) in
+      let r = place-at i (suc a) k (λ j l. subst (λ (x : ℕ). capacity x < length f) (let z : a + suc j ≡ suc a + j = omega arith in z) (small (suc j) (omega arith))) (subst (λ (x : ℕ). length f ≤ capacity x) (sym e) fits) in
+      rw (← e, n) (
+        place-on (capacity a) (g a) (listFrom g (suc a) (i + suc k)) h ∙ ap (λ (x : List (List (Term ℕ))). g a ∷ x) (ap (λ (q : ℕ). place cmp p q f (listFrom g (suc a) (i + suc k))) (sym (next-capacity a)) ∙ r .0),
+        compared-on (capacity a) (g a) (listFrom g (suc a) (i + suc k)) h ∙ (ap (λ (q : ℕ). placeCompared cmp p q f (listFrom g (suc a) (i + suc k))) (sym (next-capacity a)) ∙ r .1),
+      )
 
-    pub carry-count : n ≡ N
-    carry-count = omega (arith, c .count, ap length (compared-fits cmp p (capacity i) m (listFrom g (suc i) (5 - i)) fits))
+add-some : (cmp : ℕ → ℕ → Ordering) (p : ℕ) (f : List (Term ℕ)) (bs : List (List (Term ℕ))) → 0 < length f → (add cmp p f bs ≡ place cmp p 4 f bs) × (addCompared cmp p f bs ≡ placeCompared cmp p 4 f bs)
+unfolding add addCompared
+add-some cmp p [] bs h = absurd (let z : ⊥ = omega arith in z)
+add-some cmp p (t ∷ ts) bs h = (refl, refl)
 
--- the same state, written in other words
-pub same-carrying : {cmp : ℕ → ℕ → Ordering} {p : ℕ} {G : List (List (Term ℕ))} {N : ℕ} {g : ℕ → List (Term ℕ)} {i : ℕ} {m : List (Term ℕ)} {n : ℕ} {i' : ℕ} {m' : List (Term ℕ)} {n' : ℕ} → Carrying cmp p G N g i m n → i' ≡ i → m' ≡ m → n' ≡ n → Carrying cmp p G N g i' m' n'
-same-carrying {cmp} {p} {G} {N} {g} {i} {m} {n} {i'} {m'} {n'} c ei em en =
-    subst (λ (x : ℕ). Carrying cmp p G N g x m' n') (sym ei) (subst (λ (x : List (Term ℕ)). Carrying cmp p G N g i x n') (sym em) (subst (λ (x : ℕ). Carrying cmp p G N g i m x) (sym en) c))
+-- an addition is a carry from the bucket that f goes to
+pub add-at : (cmp : ℕ → ℕ → Ordering) (p : ℕ) (f : List (Term ℕ)) (g : ℕ → List (Term ℕ)) (l : Level) → LevelFor (length f) l → 0 < length f
+    → (add cmp p f (listFrom g 0 6) ≡ listFrom g 0 (l .bucket) ++ carry cmp p (capacity (l .bucket)) f (listFrom g (l .bucket) (6 - l .bucket)))
+    × (addCompared cmp p f (listFrom g 0 6) ≡ carryCompared cmp p (capacity (l .bucket)) f (listFrom g (l .bucket) (6 - l .bucket)))
+add-at cmp p f g l v some =
+    let i = l .bucket in
+    let six : i + suc (5 - i) ≡ 6 = let w = v .within in omega arith in
+    let left : suc (5 - i) ≡ 6 - i = let w = v .within in omega arith in
+    let z : 0 + i ≡ i = omega arith in
+    let r = place-at cmp p f g i 0 (5 - i) (λ j h. subst (λ (x : ℕ). capacity x < length f) (let e : j ≡ 0 + j = omega arith in e) (v .least j h)) (subst (λ (x : ℕ). length f ≤ capacity x) (sym z) (v .fits)) in
+    let s = add-some cmp p f (listFrom g 0 6) some in
+    let q = rw (z, six, cap-zero, left) at r in
+    (s .0 ∙ q .0, s .1 ∙ q .1)
 
--- ---- a bucket in the bucket space is emptied
-module _ {b b₁ : Buckets} {i h : ℕ} (laid : Laid b) (in-six : i < 6) (eh : h ≡ start i) (e : b₁ ≡ moved b i h 0) where
-  moved-laid : Laid (moved b i h 0)
-  moved-laid = laid-moved b i h 0 laid in-six (omega (arith, eh)) (omega (arith, eh, next-start i))
-
-  pub emptied-laid : Laid b₁
-  emptied-laid = subst Laid (sym e) moved-laid
-
-  pub emptied-other : (sw sc : List ℕ) (j : ℕ) → j < 6 → (j ≡ i → ⊥) → bucketAt b₁ sw sc j ≡ bucketAt b sw sc j
-  emptied-other sw sc j k ne =
-      ap (λ (x : Buckets). bucketAt x sw sc j) e
-      ∙ bucket-other b i h 0 laid in-six sw sc (start i) (start i) [] [] (omega arith) (omega (arith, next-start i)) (omega arith) (omega (arith, next-start i)) j k ne
-
-  pub emptied-here : (sw sc : List ℕ) → bucketAt b₁ sw sc i ≡ []
-  emptied-here sw sc = ap (λ (x : Buckets). bucketAt x sw sc i) e ∙ bucket-none (moved b i h 0) i moved-laid in-six sw sc (moved-len b i h 0 laid in-six)
+-- a zero polynomial
+pub add-none : (cmp : ℕ → ℕ → Ordering) (p : ℕ) (f : List (Term ℕ)) (bs : List (List (Term ℕ))) → length f ≡ 0 → (add cmp p f bs ≡ bs) × (addCompared cmp p f bs ≡ [])
+unfolding add addCompared
+add-none cmp p [] bs h = (refl, refl)
+add-none cmp p (t ∷ ts) bs h = absurd (let z : ⊥ = omega arith in z)

@@ -1,234 +1,334 @@
--- A carry under way in the spaces: what each turn of the loop asks and leaves. Assumes nothing.
+-- A carry under way: what each turn of its loop asks and leaves. Assumes nothing.
 use mathlib.Core.Path.{_≡_, refl, sym, ap, ap₂, _∙_, subst}
-use mathlib.Core.List.{List, [], _++_}
-use mathlib.Core.Logic.{inl}
-use Prim.Native.Nat.{ℕ, suc, _+_, _-_, _*_, _<_, _≤_, Ordering}
+use mathlib.Core.List.{List, [], _∷_, _++_, append-assoc}
+use mathlib.Core.Logic.{_⊎_, inl, inr, ⊎-elim}
+use Prim.Native.Nat.{ℕ, zero, suc, _+_, _-_, _*_, _<_, _≤_, compare}
+use native.Mathlib.Decide.{decLe}
 use native.Mathlib.Omega.{arith}
-use lib.ListN.{length, take, drop}
-use Rattle.limits.specs.Limits.{bucketPlaces, mostTerms}
+use lib.ListN.{length, getD}
+use Rattle.limits.specs.Limits.{bucketPlaces, mostTerms, workPlaces}
 use Rattle.residue.specs.Modular.{Modulus}
-use Rattle.monomial.specs.TotalOrder.{TotalOrder}
-use Rattle.polynomial.specs.Terms.{Term, terms, Canonical}
+use Rattle.monomial.proofs.OrderLaws.{numbers-order}
+use Rattle.polynomial.specs.Terms.{Term, terms, words, coefs, Canonical}
 use Rattle.polynomial.specs.Merge.{merge, mergeCount}
-use Rattle.polynomial.proofs.MergeLaws.{merge-size, merge-nil, count-right}
-use Rattle.polynomial.proofs.TermLists.{length-terms}
+use Rattle.polynomial.proofs.MergeLaws.{merge-size, merge-canonical, count-size}
+use Rattle.polynomial.proofs.TermLists.{length-terms, terms-of}
 use Rattle.merge_common.specs.Lent.{Poly, part}
-use Rattle.merge_common.specs.Merging.{Made, Within}
+use Rattle.merge_common.specs.declared.merging.Placed.{Placed}
 use Rattle.merge_common.proofs.Lists.{length-part}
-use Rattle.space.specs.Space.{Buckets, headAt, lenAt, capacity, start, listFrom, rowAt, bucketAt, Laid, moved}
+use Rattle.merge_areas.specs.Areas.{MergedIn}
+use Rattle.geobucket.specs.Buckets.{held, carry, carryCompared}
+use Rattle.space.specs.Space.{Buckets, headAt, lenAt, sideAt, capacity, start, zone, zoneEnd, allPlaces, listFrom, rowAt, bucketAt, bucketsIn, Laid, Stands, Slices, moved, turned}
+use Rattle.space.proofs.Starts.{next-capacity, next-start, cap-last, zone-work, end-work, zone-areas, end-in-work, five}
+use Rattle.space.proofs.Joined.{SameBut, part-left, same-wider, same-left}
+use Rattle.space.proofs.SpaceLaws.{from-same, from-none, from-last, from-at, bucket-long, bucket-none, held-cons, moved-len, moved-head-other, moved-len-other, laid-moved, bucket-else, turned-head, turned-len, laid-turned, bucket-else-turned, side-low, side-high}
 use Rattle.buckets.specs.declared.level.Level.{Level}
 use Rattle.buckets.specs.Levels.{levelAt}
-use Rattle.buckets.specs.Adding.{landed, landedCompared, Carry, CarryDone, MergeIn, Store, Stored}
-use Rattle.space.proofs.Starts.{next-start}
-use Rattle.space.proofs.SpaceLaws.{row-of, good-at, bucket-none, row-end, row-long, bucket-long, bucket-poly}
-use Rattle.buckets.proofs.LevelLaws.{start-is, cap-is, next-fits}
-use Rattle.buckets.proofs.WorkLaws.{InHalf, in-work, same-long, terms-long, half-within, other-half, other-terms}
-use Rattle.buckets.proofs.StoreLaws.{stored-lists}
-use Rattle.buckets.proofs.CarryLaws.{Carrying, up, same-carrying, pair-room, pair-count, carry-on, carry-ends, carry-count, emptied-laid, emptied-other, emptied-here}
+use Rattle.buckets.specs.Adding.{Carry, CarryDone, MergeUp, free}
+use Rattle.buckets.specs.Last.{MergeLast, LastMerged, lastAt}
+use Rattle.buckets.proofs.CarryLaws.{carry-stays, count-stays, carry-goes, count-goes}
+use Rattle.buckets.proofs.PlaceLaws.{in-work, in-space, all-long, stands-of, canon-of, from-here, each-by}
+use Rattle.buckets.proofs.UpLaws.{both-fit, side-end}
+use Rattle.buckets.proofs.LastLaws.{last-merged}
 
--- ---- the loop
-pub record Carries (cmp : ℕ → ℕ → Ordering) (p : ℕ) (G : List (List (Term ℕ))) (N : ℕ) (sw sc : List ℕ) (b : Buckets) (l : Level) (ww wc : List ℕ) (from len n : ℕ) : Type 0 where
+-- The len terms at `from` are merged with bucket l next; in the end the buckets are R, and the comparisons N, of which n are made.
+pub record Carries (p : ℕ) (R : List (List (Term ℕ))) (N : ℕ) (b : Buckets) (l : Level) (from len n : ℕ) (ww wc sw sc : List ℕ) : Type 0 where
   pub modulus : Modulus p
-  pub words-long : length sw ≡ bucketPlaces
-  pub coefs-long : length sc ≡ bucketPlaces
   pub laid : Laid b
+  pub slices : Slices ww wc sw sc
   pub level-is : l ≡ levelAt (l .bucket)
-  pub work : InHalf ww wc from len
-  pub state : Carrying cmp p G N (bucketAt b sw sc) (l .bucket) (terms (part from len ww) (part from len wc)) n
+  pub within : l .bucket < 6
+  pub some : 0 < len
+  pub canon : (j : ℕ) → j < 6 → Canonical compare p (bucketAt b (ww ++ sw) (wc ++ sc) j)
+  pub canonical : Canonical compare p (terms (part from len ww) (part from len wc))
+  pub fits : len ≤ capacity (l .bucket)
+  pub in-places : from + len ≤ workPlaces
+  pub apart : (from + len ≤ 4 * start (l .bucket)) ⊎ (free ≤ from)
+  pub room : len + held (listFrom (bucketAt b (ww ++ sw) (wc ++ sc)) (l .bucket) (6 - l .bucket)) ≤ mostTerms
+  pub lists : listFrom (bucketAt b (ww ++ sw) (wc ++ sc)) 0 (l .bucket) ++ carry compare p (capacity (l .bucket)) (terms (part from len ww) (part from len wc)) (listFrom (bucketAt b (ww ++ sw) (wc ++ sc)) (l .bucket) (6 - l .bucket)) ≡ R
+  pub count : n + length (carryCompared compare p (capacity (l .bucket)) (terms (part from len ww) (part from len wc)) (listFrom (bucketAt b (ww ++ sw) (wc ++ sc)) (l .bucket) (6 - l .bucket))) ≡ N
+  pub few : n ≤ mostTerms * l .bucket
 
-module _ {cmp : ℕ → ℕ → Ordering} {p : ℕ} {G : List (List (Term ℕ))} {N : ℕ} {sw sc : List ℕ} {b : Buckets} {l : Level} {ww wc : List ℕ} {from len n : ℕ} (v : Carries cmp p G N sw sc b l ww wc from len n) where
-  module _ (over : l .cap < len) {k : Level} (ek : k ≡ levelAt (suc (l .bucket))) where
-    abbrev m : List (Term ℕ)
-    m = terms (part from len ww) (part from len wc)
+pub carries-start : {p : ℕ} {b : Buckets} {l : Level} {from len : ℕ} {ww wc sw sc : List ℕ} → Carry p b l from len ww wc sw sc
+    → Carries p (listFrom (bucketAt b (ww ++ sw) (wc ++ sc)) 0 (l .bucket) ++ carry compare p (capacity (l .bucket)) (terms (part from len ww) (part from len wc)) (listFrom (bucketAt b (ww ++ sw) (wc ++ sc)) (l .bucket) (6 - l .bucket)))
+    (length (carryCompared compare p (capacity (l .bucket)) (terms (part from len ww) (part from len wc)) (listFrom (bucketAt b (ww ++ sw) (wc ++ sc)) (l .bucket) (6 - l .bucket)))) b l from len 0 ww wc sw sc
+carries-start a = record {
+  modulus = a .stands .modulus;
+  laid = a .stands .laid;
+  slices = a .slices;
+  level-is = a .level-is;
+  within = a .within;
+  some = a .some;
+  canon = canon-of (a .stands);
+  canonical = a .canonical;
+  fits = a .fits;
+  in-places = a .in-work;
+  apart = a .apart;
+  room = a .room;
+  lists = refl;
+  count = omega arith;
+  few = omega arith;
+}
 
-    over-long : capacity (l .bucket) < length m
-    over-long = omega (arith, over, cap-is l (v .level-is), terms-long (v .work))
+module _ {p : ℕ} {R : List (List (Term ℕ))} {N : ℕ} {b : Buckets} {l : Level} {from len n : ℕ} {ww wc sw sc : List ℕ} (v : Carries p R N b l from len n ww wc sw sc) where
+  abbrev i : ℕ
+  i = l .bucket
 
-    pub next-bucket : k .bucket ≡ suc (l .bucket)
-    next-bucket = ap (λ (x : Level). x .bucket) ek
+  abbrev g : ℕ → List (Term ℕ)
+  g = bucketAt b (ww ++ sw) (wc ++ sc)
 
-    pub next-six : k .bucket < 6
-    next-six = omega (arith, next-bucket, up (v .state) over-long)
+  abbrev F : List (Term ℕ)
+  F = terms (part from len ww) (part from len wc)
 
-    next-level : k ≡ levelAt (k .bucket)
-    next-level = ek ∙ ap levelAt (sym next-bucket)
+  lw : length (part from len ww) ≡ len
+  lw = length-part from len ww (omega (arith, v .in-places, v .slices .work-words))
 
-    pub next-sum : k .start + len ≤ 10000
-    next-sum = omega (arith, next-fits k next-level next-six, v .work .short)
+  lc : length (part from len wc) ≡ len
+  lc = length-part from len wc (omega (arith, v .in-places, v .slices .work-coefs))
 
-    -- the bucket is emptied
-    module _ {b₁ : Buckets} (eb : b₁ ≡ moved b (l .bucket) (l .start) 0) where
-      pub next-laid : Laid b₁
-      next-laid = emptied-laid (v .laid) (v .state .in-six) (start-is l (v .level-is)) eb
+  F-long : length F ≡ len
+  F-long = length-terms (part from len ww) (part from len wc) (lc ∙ sym lw) ∙ lw
 
-      pub next-end : {h n : ℕ} → h ≡ headAt b₁ (k .bucket) → n ≡ lenAt b₁ (k .bucket) → h + n ≤ bucketPlaces
-      next-end eh en = omega (arith, eh, en, row-end b₁ next-laid (k .bucket) next-six)
+  pos : 0 < p
+  pos = omega (arith, v .modulus .two)
 
-      next-same : bucketAt b₁ sw sc (k .bucket) ≡ bucketAt b sw sc (k .bucket)
-      next-same = emptied-other (v .laid) (v .state .in-six) (start-is l (v .level-is)) eb sw sc (k .bucket) next-six (λ q. let z : ⊥ = omega (arith, next-bucket) in z)
+  g-long : length (g i) ≡ lenAt b i
+  g-long = let q = all-long (v .slices) in bucket-long b (v .laid) i (v .within) (ww ++ sw) (wc ++ sc) (q .0) (q .1)
 
-      next-is : bucketAt b₁ sw sc (k .bucket) ≡ bucketAt b sw sc (suc (l .bucket))
-      next-is = next-same ∙ ap (bucketAt b sw sc) next-bucket
+  -- the terms held from here on are those of bucket i and those above it
+  parted : held (listFrom g i (6 - i)) ≡ lenAt b i + held (listFrom g (suc i) (6 - suc i))
+  parted = ap held (from-here g i (v .within)) ∙ (held-cons (g i) (listFrom g (suc i) (6 - suc i)) ∙ ap (λ (k : ℕ). k + held (listFrom g (suc i) (6 - suc i))) g-long)
 
-      next-poly : Poly p (rowAt b₁ sw (k .bucket)) (rowAt b₁ sc (k .bucket))
-      next-poly = bucket-poly b₁ next-laid (k .bucket) next-six p cmp sw sc (v .words-long) (v .coefs-long) (subst (λ (x : List (Term ℕ)). Canonical cmp p x) (sym next-same) (v .state .ahead (k .bucket) (omega (arith, next-bucket)) next-six))
+  M-size : length (merge compare p F (g i)) ≤ len + lenAt b i
+  M-size = omega (arith, merge-size compare p F (g i), F-long, g-long)
 
-      -- and the next one merged in
-      module _ (O : TotalOrder ℕ cmp) where
-        on : {m' : List (Term ℕ)} {n' : ℕ} → m' ≡ merge cmp p m (bucketAt b sw sc (suc (l .bucket))) → n' ≡ n + mergeCount cmp m (bucketAt b sw sc (suc (l .bucket))) → Carrying cmp p G N (bucketAt b₁ sw sc) (k .bucket) m' n'
-        on em en =
-            same-carrying
-            (carry-on (v .state) over-long O (omega (arith, v .modulus .two)) (bucketAt b₁ sw sc) (emptied-here (v .laid) (v .state .in-six) (start-is l (v .level-is)) eb sw sc) (emptied-other (v .laid) (v .state .in-six) (start-is l (v .level-is)) eb sw sc))
-            next-bucket em en
+  M-canonical : Canonical compare p (merge compare p F (g i))
+  M-canonical = merge-canonical compare numbers-order p pos F (g i) (v .canonical) (v .canon i (v .within))
 
-        goes : {ww' wc' : List ℕ} {from' len' n' : ℕ} → InHalf ww' wc' from' len' → Carrying cmp p G N (bucketAt b₁ sw sc) (k .bucket) (terms (part from' len' ww') (part from' len' wc')) n' → Carries cmp p G N sw sc b₁ k ww' wc' from' len' n'
-        goes w s = record { modulus = v .modulus; words-long = v .words-long; coefs-long = v .coefs-long; laid = next-laid; level-is = next-level; work = w; state = s }
+  M-count : mergeCount compare F (g i) ≤ mostTerms
+  M-count = omega (arith, count-size compare p F (g i), F-long, g-long, parted, v .room)
 
-        -- an empty bucket is not merged
-        pub again-empty : lenAt b₁ (k .bucket) ≡ 0 → Carries cmp p G N sw sc b₁ k ww wc from len n
-        again-empty e =
-            let none : bucketAt b sw sc (suc (l .bucket)) ≡ [] = sym next-is ∙ bucket-none b₁ (k .bucket) next-laid next-six sw sc e in
-            goes (v .work) (on (sym (ap (merge cmp p m) none ∙ merge-nil cmp p m)) (omega (arith, ap (mergeCount cmp m) none, count-right cmp m)))
+  -- ---- one of buckets 0 to 4
+  module _ (h : i < 5) where
+    here : g i ≡ bucketAt b ww wc i
+    here = in-work b (v .laid) i h (v .slices)
 
-        -- where there is room in front of the bucket, the merge stays there
-        module _ (room : k .start + len ≤ headAt b₁ (k .bucket)) {tw tc : List ℕ} (etw : tw ≡ part from len ww) (etc : tc ≡ part from len wc) where
-          tw-long : length tw ≡ len
-          tw-long = ap length etw ∙ length-part from len ww (omega (arith, in-work (v .work), v .work .work-words))
-
-          pub place-asks : MergeIn p b₁ k tw tc sw sc
-          place-asks = record {
-            modulus = v .modulus;
-            laid = next-laid;
-            level-is = next-level;
-            within = next-six;
-            lent = rw (etw, etc) (record { long = same-long (v .work); reduced = v .state .canonical .reduced });
-            there = next-poly;
-            room = omega (arith, room, tw-long, start-is k next-level);
-            words-long = v .words-long;
-            coefs-long = v .coefs-long;
-          }
-
-          abbrev placed : List (Term ℕ)
-          placed = merge cmp p (terms tw tc) (bucketAt b₁ sw sc (k .bucket))
-
-          pub placed-fits : length placed ≤ capacity (k .bucket)
-          placed-fits =
-              omega (
-                arith,
-                merge-size cmp p m (bucketAt b₁ sw sc (k .bucket)),
-                ap (λ (x : List (Term ℕ)). length (merge cmp p x (bucketAt b₁ sw sc (k .bucket)))) (ap₂ terms etw etc),
-                terms-long (v .work),
-                bucket-long b₁ next-laid (k .bucket) next-six sw sc (v .words-long) (v .coefs-long),
-                next-laid .high (k .bucket) next-six,
-                next-start (k .bucket),
-                start-is k next-level,
-                room,
-              )
-
-          module _ {cnt : ℕ} (count : cnt ≡ mergeCount cmp (terms tw tc) (bucketAt b₁ sw sc (k .bucket))) where
-            cnt-is : n + cnt ≡ n + mergeCount cmp m (bucketAt b sw sc (suc (l .bucket)))
-            cnt-is = ap (λ (x : ℕ). n + x) (count ∙ ap₂ (mergeCount cmp) (ap₂ terms etw etc) next-is)
-
-            pub placed-count : n + cnt ≤ mostTerms * 8
-            placed-count = omega (arith, cnt-is, pair-count (v .state) over-long, up (v .state) over-long)
-
-            pub placed-state : Carrying cmp p G N (bucketAt b₁ sw sc) (k .bucket) placed (n + cnt)
-            placed-state = on (ap₂ (merge cmp p) (ap₂ terms etw etc) next-is) cnt-is
-
-        module _ {h c : ℕ} (eh : h ≡ headAt b₁ (k .bucket)) (ec : c ≡ lenAt b₁ (k .bucket)) where
-          -- the part that is lent is the next bucket's row
-          abbrev lent : List ℕ → List ℕ
-          lent s = take (h + c - h) (drop h s)
-
-          row : (s : List ℕ) → lent s ≡ rowAt b₁ s (k .bucket)
-          row = row-of b₁ (k .bucket) eh ec
-
-          next-terms : terms (lent sw) (lent sc) ≡ bucketAt b sw sc (suc (l .bucket))
-          next-terms = ap₂ terms (row sw) (row sc) ∙ next-is
-
-          terms-room : len + length (terms (lent sw) (lent sc)) ≤ mostTerms
-          terms-room = omega (arith, ap length next-terms, terms-long (v .work), pair-room (v .state) over-long)
-
-          pub within : Within p ww wc from len (mostTerms - from) (lent sw) (lent sc)
-          within =
-              half-within (v .work)
-              (omega (arith, terms-room, ap length (ap₂ terms (row sw) (row sc)), bucket-long b₁ next-laid (k .bucket) next-six sw sc (v .words-long) (v .coefs-long), ap length (row sw), row-long b₁ next-laid (k .bucket) next-six sw (v .words-long)))
-              (v .modulus) (v .state .canonical .reduced) (rw (row sw, row sc) next-poly)
-
-          module _ {ww' wc' : List ℕ} {len' cnt : ℕ} (d : Made cmp p m (terms (lent sw) (lent sc)) (mostTerms - from) ww wc ww' wc' len' cnt) where
-            count-is : n + cnt ≡ n + mergeCount cmp m (bucketAt b sw sc (suc (l .bucket)))
-            count-is = ap (λ (x : ℕ). n + x) (d .count-is ∙ ap (mergeCount cmp m) next-terms)
-
-            pub next-count : n + cnt ≤ mostTerms * 8
-            next-count = omega (arith, count-is, pair-count (v .state) over-long, up (v .state) over-long)
-
-            pub again : Carries cmp p G N sw sc b₁ k ww' wc' (mostTerms - from) len' (n + cnt)
-            again = goes (other-half (v .work) terms-room d) (on (other-terms (v .work) terms-room d ∙ ap (merge cmp p m) next-terms) count-is)
-
--- ---- the start and the end of the loop
-module _ {cmp : ℕ → ℕ → Ordering} {p : ℕ} {b : Buckets} {l : Level} {sw sc ww wc : List ℕ} {len n : ℕ} (c : Carry cmp p b l sw sc ww wc len n) where
-  abbrev pub whole : List (List (Term ℕ))
-  whole = listFrom (bucketAt b sw sc) 0 (l .bucket) ++ landed cmp p (capacity (l .bucket)) (terms (part 0 len ww) (part 0 len wc)) (listFrom (bucketAt b sw sc) (suc (l .bucket)) (5 - l .bucket))
-
-  abbrev pub cost : ℕ
-  cost = n + length (landedCompared cmp p (capacity (l .bucket)) (terms (part 0 len ww) (part 0 len wc)) (listFrom (bucketAt b sw sc) (suc (l .bucket)) (5 - l .bucket)))
-
-  len-short : len ≤ mostTerms
-  len-short = omega (arith, c .room)
-
-  at-front : InHalf ww wc 0 len
-  at-front = record { half = inl refl; work-words = c .work-words; work-coefs = c .work-coefs; short = len-short }
-
-  pub carries-start : Carries cmp p whole cost sw sc b l ww wc 0 len n
-  carries-start = record {
-    modulus = c .stands .modulus;
-    words-long = c .stands .words-long;
-    coefs-long = c .stands .coefs-long;
-    laid = c .stands .laid;
-    level-is = c .level-is;
-    work = at-front;
-    state = record {
-      in-six = c .within;
-      lists = refl;
-      count = refl;
-      canonical = c .canonical;
-      room = omega (arith, c .room, terms-long at-front);
-      ahead = λ j u v. good-at cmp p (bucketAt b sw sc) 6 0 4 (c .stands .good) j (omega arith) (omega arith);
-      few = omega (arith, c .few);
-    };
-  }
-
-  -- the merge lies in the bucket that it fits into
-  pub carried : {sw₁ sc₁ : List ℕ} {b' : Buckets} {l' : Level} {m : List (Term ℕ)} {n' : ℕ} {sw' sc' : List ℕ} {b'' : Buckets} → Carrying cmp p whole cost (bucketAt b' sw₁ sc₁) (l' .bucket) m n' → length m ≤ capacity (l' .bucket) → Stored b' l' m sw₁ sc₁ sw' sc' b'' → CarryDone cmp p b l sw sc ww wc len n b'' sw' sc' n'
-  carried st fits s = record {
-    laid = s .laid;
-    words-long = s .words-long;
-    coefs-long = s .coefs-long;
-    few = omega (arith, st .few, st .in-six);
-    lists-are = stored-lists (st .in-six) s ∙ carry-ends st fits;
-    count-is = carry-count st fits;
-  }
-
-  module _ {sw₁ sc₁ : List ℕ} {b' : Buckets} {l' : Level} {ww' wc' : List ℕ} {from' len' n' : ℕ} (v : Carries cmp p whole cost sw₁ sc₁ b' l' ww' wc' from' len' n') (h : len' ≤ l' .cap) {tw tc : List ℕ} (etw : tw ≡ part from' len' ww') (etc : tc ≡ part from' len' wc') where
-    words-end : length tw ≡ len'
-    words-end = ap length etw ∙ length-part from' len' ww' (omega (arith, in-work (v .work), v .work .work-words))
-
-    coefs-end : length tc ≡ len'
-    coefs-end = ap length etc ∙ length-part from' len' wc' (omega (arith, in-work (v .work), v .work .work-coefs))
-
-    pub store-asks : Store b' l' tw tc sw₁ sc₁
-    store-asks = record {
+    pub up-asks : MergeUp p b l from len ww wc
+    up-asks = record {
+      modulus = v .modulus;
       laid = v .laid;
       level-is = v .level-is;
-      within = v .state .in-six;
-      long = coefs-end ∙ sym words-end;
-      fits = omega (arith, words-end, h, cap-is l' (v .level-is));
-      words-long = v .words-long;
-      coefs-long = v .coefs-long;
+      within = h;
+      some = v .some;
+      canonical = v .canonical;
+      there = subst (Canonical compare p) here (v .canon i (v .within));
+      fits = v .fits;
+      in-work = v .in-places;
+      apart = v .apart;
+      work-words = v .slices .work-words;
+      work-coefs = v .slices .work-coefs;
     }
 
-    pub carries-end : {sw' sc' : List ℕ} {b'' : Buckets} → Stored b' l' (terms tw tc) sw₁ sc₁ sw' sc' b'' → CarryDone cmp p b l sw sc ww wc len n b'' sw' sc' n'
-    carries-end s =
-        carried (same-carrying (v .state) refl (ap₂ terms etw etc) refl)
-        (omega (arith, length-terms tw tc (coefs-end ∙ sym words-end), words-end, h, cap-is l' (v .level-is)))
-        s
+    pub other-asks : {s : ℕ} → s ≡ sideAt b i → (l ≡ levelAt i) × (i < 5) × (l .zone ≤ s) × (s ≤ l .zone + 2 * l .cap)
+    other-asks {s} es =
+        let z : l .zone ≡ zone i = ap (λ (x : Level). x .zone) (v .level-is) ∙ sym (zone-work i h) in
+        let k : l .cap ≡ capacity i = ap (λ (x : Level). x .cap) (v .level-is) in
+        (v .level-is, h, omega (arith, es, z, side-low (v .laid) i h), omega (arith, es, z, k, side-high (v .laid) i h, zone-areas i h))
+
+    module _ {ww' wc' : List ℕ} {r : Placed} (d : MergedIn compare p F (bucketAt b ww wc i) (sideAt b i) (sideAt b i + (len + lenAt b i)) ww wc ww' wc' r) (kw : length ww' ≡ length ww) (kc : length wc' ≡ length wc) where
+      abbrev M : List (Term ℕ)
+      M = merge compare p F (g i)
+
+      len-is : r .len ≡ length M
+      len-is = d .len-is ∙ ap (λ (x : List (Term ℕ)). length (merge compare p F x)) (sym here)
+
+      count-is : r .comparisons ≡ mergeCount compare F (g i)
+      count-is = d .count-is ∙ ap (mergeCount compare F) (sym here)
+
+      slices' : Slices ww' wc' sw sc
+      slices' = let s = v .slices in record { work-words = kw ∙ s .work-words; work-coefs = kc ∙ s .work-coefs; words-long = s .words-long; coefs-long = s .coefs-long }
+
+      -- what the merge made, read from the work space
+      pub made : terms (part (r .head) (r .len) ww') (part (r .head) (r .len) wc') ≡ M
+      made = ap₂ terms (d .words-are) (d .coefs-are) ∙ (terms-of (merge compare p F (bucketAt b ww wc i)) ∙ ap (merge compare p F) (sym here))
+
+      low : zone i ≤ r .head
+      low = omega (arith, d .from-to, side-low (v .laid) i h)
+
+      high : r .head + r .len ≤ zoneEnd i
+      high = omega (arith, d .to-end, side-end up-asks)
+
+      pub in-places' : r .head + r .len ≤ workPlaces
+      in-places' = omega (arith, high, end-in-work i h)
+
+      same-words : SameBut (zone i) (zoneEnd i) (ww ++ sw) (ww' ++ sw)
+      same-words = same-left ww ww' sw kw (same-wider ww ww' (zone i) (zoneEnd i) (side-low (v .laid) i h) (side-end up-asks) (d .words-else))
+
+      same-coefs : SameBut (zone i) (zoneEnd i) (wc ++ sc) (wc' ++ sc)
+      same-coefs = same-left wc wc' sc kc (same-wider wc wc' (zone i) (zoneEnd i) (side-low (v .laid) i h) (side-end up-asks) (d .coefs-else))
+
+      all : (length (ww ++ sw) ≡ allPlaces) × (length (wc ++ sc) ≡ allPlaces)
+      all = all-long (v .slices)
+
+      all' : (length (ww' ++ sw) ≡ allPlaces) × (length (wc' ++ sc) ≡ allPlaces)
+      all' = all-long slices'
+
+      pub short-count : n + r .comparisons ≤ mostTerms * (i + 1)
+      short-count = omega (arith, count-is, M-count, v .few)
+
+      -- ---- it is not larger than the bucket, and stays there
+      module _ (small : r .len ≤ l .cap) {s : ℕ} (es : s ≡ l .zone + (l .zone + 2 * l .cap - sideAt b i)) {b' : Buckets} (eb : b' ≡ turned b i (r .head) (r .len) s) where
+        cap-is : l .cap ≡ capacity i
+        cap-is = ap (λ (x : Level). x .cap) (v .level-is)
+
+        zone-is : l .zone ≡ zone i
+        zone-is = ap (λ (x : Level). x .zone) (v .level-is) ∙ sym (zone-work i h)
+
+        abbrev B : Buckets
+        B = turned b i (r .head) (r .len) s
+
+        fits-is : r .len ≤ capacity i
+        fits-is = omega (arith, small, cap-is)
+
+        laid' : Laid B
+        laid' =
+            let bf = both-fit up-asks in
+            ⊎-elim
+            (λ (e : sideAt b i ≡ zone i). laid-turned b i (r .head) (r .len) s (v .laid) h low high fits-is (inr (omega (arith, es, zone-is, cap-is, e))) (inl (omega (arith, d .to-end, es, zone-is, cap-is, e, bf))))
+            (λ (e : sideAt b i ≡ zone i + 2 * capacity i). laid-turned b i (r .head) (r .len) s (v .laid) h low high fits-is (inl (omega (arith, es, zone-is, cap-is, e))) (inr (omega (arith, d .from-to, es, zone-is, cap-is, e))))
+            (v .laid .side-is i h)
+
+        own : bucketAt B (ww' ++ sw) (wc' ++ sc) i ≡ M
+        own =
+            in-work B laid' i h slices'
+            ∙ (ap₂ (λ (x y : ℕ). terms (part x y ww') (part x y wc')) (turned-head b i (r .head) (r .len) s (v .laid) h) (turned-len b i (r .head) (r .len) s (v .laid) h) ∙ made)
+
+        other : (j : ℕ) → j < 6 → (j ≡ i → ⊥) → bucketAt B (ww' ++ sw) (wc' ++ sc) j ≡ g j
+        other j k ne = bucket-else-turned b i (r .head) (r .len) s (v .laid) h (ww ++ sw) (wc ++ sc) (ww' ++ sw) (wc' ++ sc) (all' .0 ∙ sym (all .0)) (all' .1 ∙ sym (all .1)) same-words same-coefs j k ne
+
+        lists' : bucketsIn B (ww' ++ sw) (wc' ++ sc) ≡ R
+        lists' =
+            from-at (bucketAt B (ww' ++ sw) (wc' ++ sc)) i (v .within)
+            ∙ (ap₂ (λ (x y : List (List (Term ℕ))). x ++ y)
+            (from-same (bucketAt B (ww' ++ sw) (wc' ++ sc)) g 0 i (λ j u w. other j (omega (arith, h)) (λ e. let z : ⊥ = omega arith in z)))
+            (ap₂ (λ (x : List (Term ℕ)) (y : List (List (Term ℕ))). x ∷ y) own
+            (from-same (bucketAt B (ww' ++ sw) (wc' ++ sc)) g (suc i) (5 - i) (λ j u w. other j (omega (arith, h)) (λ e. let z : ⊥ = omega arith in z)) ∙ ap (listFrom g (suc i)) (let e : 5 - i ≡ 6 - suc i = omega arith in e))
+            ∙ sym (ap (carry compare p (capacity i) F) (from-here g i (v .within)) ∙ carry-stays compare p (capacity i) F (g i) (listFrom g (suc i) (6 - suc i)) (omega (arith, len-is, fits-is))))
+            ∙ v .lists)
+
+        canon' : (j : ℕ) → j < 6 → Canonical compare p (bucketAt B (ww' ++ sw) (wc' ++ sc) j)
+        canon' = each-by (λ j. Canonical compare p (bucketAt B (ww' ++ sw) (wc' ++ sc) j)) i (subst (Canonical compare p) (sym own) M-canonical) (λ j k ne. subst (Canonical compare p) (sym (other j k ne)) (v .canon j k))
+
+        -- the comparisons are all made
+        all-made : n + r .comparisons ≡ N
+        all-made = omega (arith, count-is, v .count, ap length (ap (carryCompared compare p (capacity i) F) (from-here g i (v .within))) ∙ count-stays compare p (capacity i) F (g i) (listFrom g (suc i) (6 - suc i)) (omega (arith, len-is, fits-is)))
+
+        pub stays : (bucketsIn b' (ww' ++ sw) (wc' ++ sc) ≡ R) × (n + r .comparisons ≡ N) × (n + r .comparisons ≤ 50000) × Stands compare p b' (ww' ++ sw) (wc' ++ sc)
+        stays = subst (λ (x : Buckets). (bucketsIn x (ww' ++ sw) (wc' ++ sc) ≡ R) × (n + r .comparisons ≡ N) × (n + r .comparisons ≤ 50000) × Stands compare p x (ww' ++ sw) (wc' ++ sc)) (sym eb) (lists', all-made, omega (arith, short-count, h), stands-of (v .modulus) (all' .0) (all' .1) laid' canon')
+
+      -- ---- it is larger: the bucket is emptied, and the next one comes
+      module _ (large : l .cap < r .len) {h₀ : ℕ} (eh : h₀ ≡ headAt b i) {b' : Buckets} (eb : b' ≡ moved b i h₀ 0) {l' : Level} (el : l' ≡ levelAt (suc i)) where
+        cap-of : l .cap ≡ capacity i
+        cap-of = ap (λ (x : Level). x .cap) (v .level-is)
+
+        abbrev E : Buckets
+        E = moved b i h₀ 0
+
+        emptied-laid : Laid E
+        emptied-laid =
+            laid-moved b i h₀ 0 (v .laid) (v .within) (omega (arith, eh, v .laid .low i (v .within))) (omega (arith, eh, v .laid .high i (v .within))) (omega arith)
+            (λ k. ⊎-elim (λ u. inl (omega (arith, eh, u))) (λ u. inr (omega (arith, eh, u))) (v .laid .side-apart i k))
+
+        emptied-own : bucketAt E (ww' ++ sw) (wc' ++ sc) i ≡ []
+        emptied-own = bucket-none E i emptied-laid (v .within) (ww' ++ sw) (wc' ++ sc) (moved-len b i h₀ 0 (v .laid) (v .within))
+
+        emptied-other : (j : ℕ) → j < 6 → (j ≡ i → ⊥) → bucketAt E (ww' ++ sw) (wc' ++ sc) j ≡ g j
+        emptied-other j k ne = bucket-else b i h₀ 0 (v .laid) (v .within) (ww ++ sw) (wc ++ sc) (ww' ++ sw) (wc' ++ sc) (all' .0 ∙ sym (all .0)) (all' .1 ∙ sym (all .1)) same-words same-coefs j k ne
+
+        abbrev g' : ℕ → List (Term ℕ)
+        g' = bucketAt E (ww' ++ sw) (wc' ++ sc)
+
+        above : listFrom g' (suc i) (6 - suc i) ≡ listFrom g (suc i) (6 - suc i)
+        above = from-same g' g (suc i) (6 - suc i) (λ j u w. emptied-other j (omega (arith, h)) (λ e. let z : ⊥ = omega arith in z))
+
+        below : listFrom g' 0 (suc i) ≡ listFrom g 0 i ++ ([] ∷ [])
+        below =
+            from-last g' 0 i
+            ∙ ap₂ (λ (x : List (List (Term ℕ))) (y : List (Term ℕ)). x ++ (y ∷ []))
+            (from-same g' g 0 i (λ j u w. emptied-other j (omega (arith, h)) (λ e. let z : ⊥ = omega arith in z)))
+            (ap g' (let e : 0 + i ≡ i = omega arith in e) ∙ emptied-own)
+
+        over : capacity i < length M
+        over = omega (arith, large, cap-of, len-is)
+
+        cap-next : capacity (suc i) ≡ 4 * capacity i
+        cap-next = next-capacity i
+
+        lists-on : listFrom g' 0 (suc i) ++ carry compare p (capacity (suc i)) M (listFrom g' (suc i) (6 - suc i)) ≡ R
+        lists-on =
+            ap₂ (λ (x y : List (List (Term ℕ))). x ++ y) below (ap₂ (λ (c : ℕ) (x : List (List (Term ℕ))). carry compare p c M x) cap-next above)
+            ∙ (append-assoc (listFrom g 0 i) ([] ∷ []) (carry compare p (4 * capacity i) M (listFrom g (suc i) (6 - suc i)))
+            ∙ (ap (λ (x : List (List (Term ℕ))). listFrom g 0 i ++ x) (sym (ap (carry compare p (capacity i) F) (from-here g i (v .within)) ∙ carry-goes compare p (capacity i) F (g i) (listFrom g (suc i) (6 - suc i)) over))
+            ∙ v .lists))
+
+        count-on : (n + r .comparisons) + length (carryCompared compare p (capacity (suc i)) M (listFrom g' (suc i) (6 - suc i))) ≡ N
+        count-on =
+            omega (
+              arith,
+              count-is,
+              v .count,
+              ap length (ap (carryCompared compare p (capacity i) F) (from-here g i (v .within))) ∙ count-goes compare p (capacity i) F (g i) (listFrom g (suc i) (6 - suc i)) over,
+              ap length (ap₂ (λ (c : ℕ) (x : List (List (Term ℕ))). carryCompared compare p c M x) cap-next above),
+            )
+
+        canon-on : (j : ℕ) → j < 6 → Canonical compare p (g' j)
+        canon-on = each-by (λ j. Canonical compare p (g' j)) i (subst (Canonical compare p) (sym emptied-own) (record { falling = tt; reduced = tt })) (λ j k ne. subst (Canonical compare p) (sym (emptied-other j k ne)) (v .canon j k))
+
+        on-next : Carries p R N E (levelAt (suc i)) (r .head) (r .len) (n + r .comparisons) ww' wc' sw sc
+        on-next = record {
+          modulus = v .modulus;
+          laid = emptied-laid;
+          slices = slices';
+          level-is = refl;
+          within = omega (arith, h);
+          some = omega (arith, large);
+          canon = canon-on;
+          canonical = subst (Canonical compare p) (sym made) M-canonical;
+          fits = omega (arith, len-is, M-size, both-fit up-asks, cap-next);
+          in-places = in-places';
+          apart = inl (omega (arith, high, end-work i h));
+          room = omega (arith, len-is, M-size, parted, v .room, ap held above);
+          lists = ap (λ (x : List (Term ℕ)). listFrom g' 0 (suc i) ++ carry compare p (capacity (suc i)) x (listFrom g' (suc i) (6 - suc i))) made ∙ lists-on;
+          count = ap (λ (x : List (Term ℕ)). (n + r .comparisons) + length (carryCompared compare p (capacity (suc i)) x (listFrom g' (suc i) (6 - suc i)))) made ∙ count-on;
+          few = omega (arith, short-count);
+        }
+
+        pub goes : Carries p R N b' l' (r .head) (r .len) (n + r .comparisons) ww' wc' sw sc
+        goes = subst (λ (x : Buckets). Carries p R N x l' (r .head) (r .len) (n + r .comparisons) ww' wc' sw sc) (sym eb) (subst (λ (x : Level). Carries p R N E x (r .head) (r .len) (n + r .comparisons) ww' wc' sw sc) (sym el) on-next)
+
+  -- ---- the last bucket takes what comes
+  module _ (h : 5 ≤ i) where
+    last : i ≡ 5
+    last = omega (arith, v .within)
+
+    pub last-asks : MergeLast p b (part from len ww) (part from len wc) sw sc
+    last-asks = record {
+      modulus = v .modulus;
+      laid = v .laid;
+      lent = record { long = lc ∙ sym lw; reduced = v .canonical .reduced };
+      there = subst (Canonical compare p) (in-space b (v .laid) (v .slices)) (v .canon 5 (omega arith));
+      room = let k = ap (lenAt b) last in omega (arith, lw, parted, v .room, k);
+      words-long = v .slices .words-long;
+      coefs-long = v .slices .coefs-long;
+    }
+
+    pub ends : {sw' sc' : List ℕ} {b' : Buckets} {r : ℕ} → LastMerged p b F (lastAt b sw sc) sw' sc' b' r → (bucketsIn b' (ww ++ sw') (wc ++ sc') ≡ R) × (n + r ≡ N) × (n + r ≤ 50000) × Stands compare p b' (ww ++ sw') (wc ++ sc')
+    ends d =
+        let k : len + lenAt b 5 ≤ mostTerms = let e = ap (lenAt b) last in omega (arith, parted, v .room, e) in
+        let m = last-merged (v .modulus) (v .laid) (v .slices) (v .canon) F (v .canonical) (omega (arith, F-long, k)) d in
+        let c = ap (λ (x : ℕ). length (carryCompared compare p (capacity x) F (listFrom g x (6 - x)))) last in (
+          m .0 ∙ (ap (λ (x : ℕ). listFrom g 0 x ++ carry compare p (capacity x) F (listFrom g x (6 - x))) (sym last) ∙ v .lists),
+          omega (arith, m .1, c, v .count),
+          omega (arith, m .2, v .few, last),
+          m .3,
+        )

@@ -9,22 +9,22 @@ use Rattle.buckets.specs.declared.level.Level.{Level}
 use Rattle.buckets.specs.Levels.{levelAt, LevelFor}
 use Rattle.space.proofs.Starts.{next-capacity, cap-small, cap-last, next-start, start-end}
 
-pub start-is : (l : Level) → l ≡ levelAt (l .bucket) → l .start ≡ start (l .bucket)
-start-is l e = ap (λ (k : Level). k .start) e
+pub areas-at : (l : Level) → l ≡ levelAt (l .bucket) → l .zone ≡ 4 * start (l .bucket)
+areas-at l e = ap (λ (k : Level). k .zone) e
 
 pub cap-is : (l : Level) → l ≡ levelAt (l .bucket) → l .cap ≡ capacity (l .bucket)
 cap-is l e = ap (λ (k : Level). k .cap) e
 
-pub next-fits : (l : Level) → l ≡ levelAt (l .bucket) → l .bucket < 6 → l .start + l .cap ≤ bucketPlaces
-next-fits l e h = omega (arith, start-is l e, cap-is l e, next-start (l .bucket), start-end (l .bucket) h)
+pub next-fits : (l : Level) → l ≡ levelAt (l .bucket) → l .bucket < 6 → l .zone + l .cap * 4 ≤ 4 * bucketPlaces
+next-fits l e h = omega (arith, areas-at l e, cap-is l e, next-start (l .bucket), start-end (l .bucket) h)
 
 pub next-cap : (l : Level) → l ≡ levelAt (l .bucket) → l .bucket < 6 → l .cap * 4 ≤ 16384
 next-cap l e h = omega (arith, cap-is l e, cap-small (l .bucket) h)
 
-pub next-is : (l : Level) → l ≡ levelAt (l .bucket) → _≡_ {A = Level} (record { bucket = l .bucket + 1; start = l .start + l .cap; cap = l .cap * 4 }) (levelAt (suc (l .bucket)))
+pub next-is : (l : Level) → l ≡ levelAt (l .bucket) → _≡_ {A = Level} (record { bucket = l .bucket + 1; zone = l .zone + l .cap * 4; cap = l .cap * 4 }) (levelAt (suc (l .bucket)))
 next-is l e =
     let eb : l .bucket + 1 ≡ suc (l .bucket) = omega arith in
-    let es : l .start + l .cap ≡ start (suc (l .bucket)) = omega (arith, start-is l e, cap-is l e, next-start (l .bucket)) in
+    let es : l .zone + l .cap * 4 ≡ 4 * start (suc (l .bucket)) = omega (arith, areas-at l e, cap-is l e, next-start (l .bucket)) in
     let ec : l .cap * 4 ≡ capacity (suc (l .bucket)) = omega (arith, cap-is l e, next-capacity (l .bucket)) in
     cc
 
@@ -42,7 +42,7 @@ pub record Climbing (n : ℕ) (l : Level) : Type 0 where
   pub within : l .bucket < 6
   pub least : (j : ℕ) → j < l .bucket → capacity j < n
 
-pub climb-start : (n : ℕ) → Climbing n (record { bucket = 0; start = 0; cap = 4 })
+pub climb-start : (n : ℕ) → Climbing n (record { bucket = 0; zone = 0; cap = 4 })
 unfolding start capacity
 climb-start n = record { is = refl; within = omega arith; least = λ j h. absurd (let z : ⊥ = omega arith in z) }
 

@@ -1,4 +1,4 @@
-// A bucket by its number, with its start and its capacity.
+// A bucket by its number, with the place of its areas and its capacity.
 ghost use mathlib.Core.Path.{_≡_};
 ghost use Prim.Native.Nat.{suc, _<_, _≤_};
 ghost use Rattle.limits.specs.Limits.{mostTerms};
@@ -6,7 +6,7 @@ ghost use Rattle.buckets.specs.Levels.{levelAt, LevelFor};
 
 pub struct Level {
     pub bucket: usize,
-    pub start: usize,
+    pub zone: usize,
     pub cap: usize,
 }
 
@@ -19,7 +19,7 @@ impl Level {
         let cap = self.cap;
         Level {
             bucket: self.bucket + 1,
-            start: self.start + cap,
+            zone: self.zone + cap * 4,
             cap: cap * 4,
         }
     }
@@ -32,7 +32,7 @@ pub fn level_for(n: usize) -> Level
 {
     let mut l = Level {
         bucket: 0,
-        start: 0,
+        zone: 0,
         cap: 4,
     };
     while l.cap < n {

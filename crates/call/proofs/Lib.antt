@@ -3,3 +3,4 @@ pub mod OutputLaws
 pub mod OutcomeLaws
 pub mod Said
 pub mod AnswerLaws
+pub mod StandLaws

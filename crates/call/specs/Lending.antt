@@ -3,10 +3,9 @@ use Prim.Native.Nat.{ℕ, _-_, _≤_, Ordering}
 use mathlib.Core.Path.{_≡_}
 use mathlib.Core.List.{List}
 use lib.ListN.{length}
-use Rattle.limits.specs.Limits.{bucketPlaces, workPlaces}
 use Rattle.polynomial.specs.Terms.{Term, terms, Canonical}
 use Rattle.polynomial.specs.Opening.{partOf}
-use Rattle.space.specs.Space.{Buckets, listFrom, noBuckets}
+use Rattle.space.specs.Space.{Buckets, listFrom, noBuckets, Slices}
 
 -- "Polynomial k is handed on as that part of the slices"
 abbrev pub polynomial : (words coefs starts : List ℕ) → ℕ → List (Term ℕ)
@@ -26,14 +25,8 @@ pub record Output (places : ℕ) (ow oc : List ℕ) : Type 0 where
   pub same-long : length oc ≡ length ow
   pub fits : places ≤ length ow
 
-pub record WorkSpace (ww wc : List ℕ) : Type 0 where
-  pub words-long : length ww ≡ workPlaces
-  pub coefs-long : length wc ≡ workPlaces
-
 -- empty buckets, and spaces of the right sizes, with anything in them
 pub record Lent (b : Buckets) (bw bc ww wc ow oc : List ℕ) : Type 0 where
   pub none : b ≡ noBuckets
-  pub words-long : length bw ≡ bucketPlaces
-  pub coefs-long : length bc ≡ bucketPlaces
-  pub work : WorkSpace ww wc
+  pub slices : Slices ww wc bw bc
   pub same-long : length oc ≡ length ow

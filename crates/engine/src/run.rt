@@ -6,7 +6,7 @@ use operations::lead_operation;
 use operations::sum_operation;
 use polynomial::part::coefs_of;
 use polynomial::part::words_of;
-ghost use Rattle.monomial.specs.Words.{compareWords};
+ghost use Rattle.space.specs.Space.{spaces, Slices};
 ghost use Rattle.call.specs.Lending.{Lent};
 ghost use Rattle.run_outcome.specs.Runs.{operationOf};
 ghost use Rattle.operations.specs.States.{Operated};
@@ -30,8 +30,8 @@ pub fn operate<'a>(
     ow: &mut [u64],
     oc: &mut [u32],
 ) -> State
-    requires { ⌜ Operable (compareWords order) p (now words) (now coefs) (now starts) code k s (now b) (now bw) (now bc) (now ww) (now wc) (now ow) (now oc) ⌝ }
-    ensures { λ r. ⌜ Operated (compareWords order) p (operationOf (now (words .entry)) (now (coefs .entry)) (now (starts .entry)) code k) s (now (b .entry)) (now (bw .entry)) (now (bc .entry)) (now (ow .entry)) (now (oc .entry)) r (now (b .exit)) (now (bw .exit)) (now (bc .exit)) (now (ow .exit)) (now (oc .exit)) ⌝ }
+    requires { ⌜ Operable order p (now words) (now coefs) (now starts) code k s (spaces (now b) (now ww) (now wc) (now bw) (now bc)) (now ow) (now oc) × Slices (now ww) (now wc) (now bw) (now bc) ⌝ }
+    ensures { λ r. ⌜ Operated order p (operationOf (now (words .entry)) (now (coefs .entry)) (now (starts .entry)) code k) s (spaces (now (b .entry)) (now (ww .entry)) (now (wc .entry)) (now (bw .entry)) (now (bc .entry))) (now (ow .entry)) (now (oc .entry)) r (spaces (now (b .exit)) (now (ww .exit)) (now (wc .exit)) (now (bw .exit)) (now (bc .exit))) (now (ow .exit)) (now (oc .exit)) ⌝ }
 {
     if code == 1 {
         let fw = words_of(words, starts, k);
@@ -39,7 +39,7 @@ pub fn operate<'a>(
         return add_operation(order, p, s, b, fw, fc, bw, bc, ww, wc);
     }
     if code == 2 {
-        return lead_operation(order, p, s, b, bw, bc, ow, oc);
+        return lead_operation(order, p, s, b, bw, bc, ww, wc, ow, oc);
     }
     sum_operation(order, p, s, b, bw, bc, ww, wc, ow, oc)
 }
@@ -60,8 +60,8 @@ pub fn operate_all<'a>(
     ow: &mut [u64],
     oc: &mut [u32],
 ) -> State
-    requires { ⌜ Loaded (compareWords order) p (now words) (now coefs) (now starts) (now ops) × Lent (now b) (now bw) (now bc) (now ww) (now wc) (now ow) (now oc) ⌝ }
-    ensures { λ r. ⌜ RanAll (compareWords order) p (now (words .entry)) (now (coefs .entry)) (now (starts .entry)) (now (ops .entry)) (now (ow .entry)) (now (oc .entry)) r (now (b .exit)) (now (bw .exit)) (now (bc .exit)) (now (ow .exit)) (now (oc .exit)) ⌝ }
+    requires { ⌜ Loaded order p (now words) (now coefs) (now starts) (now ops) × Lent (now b) (now bw) (now bc) (now ww) (now wc) (now ow) (now oc) ⌝ }
+    ensures { λ r. ⌜ RanAll order p (now (words .entry)) (now (coefs .entry)) (now (starts .entry)) (now (ops .entry)) (now (ow .entry)) (now (oc .entry)) r (spaces (now (b .exit)) (now (ww .exit)) (now (wc .exit)) (now (bw .exit)) (now (bc .exit))) (now (ow .exit)) (now (oc .exit)) ⌝ }
 {
     let mut s = State::new();
     let mut i = 0;

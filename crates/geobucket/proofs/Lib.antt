@@ -8,4 +8,5 @@ pub mod Levels
 pub mod BoundLaws
 pub mod EventLaws
 pub mod LeadLaws
+pub mod Renaming
 mod Outcomes

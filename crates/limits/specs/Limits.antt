@@ -20,7 +20,7 @@ largestWeight = 16
 abbrev pub bucketPlaces : ℕ
 bucketPlaces = 5460
 
--- "The work space, 8,192 places for each": two halves, each for as many terms as can be held
+-- "The work space, 8,192 places for each": two areas for each of buckets 1 to 5, and room past them
 abbrev pub workPlaces : ℕ
 workPlaces = 8192
 

@@ -14,7 +14,7 @@ pub const LARGEST_WEIGHT: u32 = 16;
 // "The bucket space has 5,460 places for words and for coefficients": the six buckets' capacities.
 pub const BUCKET_PLACES: usize = 5460;
 
-// "The work space, 8,192 places for each": two halves, each for as many terms as can be held.
+// "The work space, 8,192 places for each": two areas for each of buckets 1 to 5, and room past them.
 pub const WORK_PLACES: usize = 8192;
 
 // "11: terms held + terms to add > 4,096", and the most terms that blocks hold.

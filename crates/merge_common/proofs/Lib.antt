@@ -1,5 +1,6 @@
 pub mod Lists
-pub mod State
 pub mod Steps
-pub mod Places
-pub mod Turns
+pub mod Joins
+pub mod State
+pub mod Shifts
+pub mod ReadBack

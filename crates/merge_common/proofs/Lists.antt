@@ -82,6 +82,10 @@ begun-reads l from to n o i b h out k =
     ap (λ (x : List ℕ). getD x (from + i) 0) (b .is)
     ∙ (getD-sets-other l to (take i q) (from + i) (⊎-elim (λ u. inl (omega arith)) (λ u. inr (omega arith)) out) ∙ sym (getD-part from n l i k))
 
+-- one more of what is moved within a list
+pub begun-on : (l : List ℕ) (from to n : ℕ) (o : List ℕ) (i : ℕ) → Begun (part from n l) l to o i → from + n ≤ length l → Apart from n to n → i < n → Begun (part from n l) l to (set o (to + i) (getD o (from + i) 0)) (i + 1)
+begun-on l from to n o i b h out k = begun-more (part from n l) l to o i (getD o (from + i) 0) b (omega (arith, length-part from n l h)) (begun-reads l from to n o i b h out k)
+
 -- a place of a list that each number of another makes
 pub getD-each : (f : ℕ → ℕ) (l : List ℕ) (i : ℕ) → i < length l → getD (map f l) i 0 ≡ f (getD l i 0)
 getD-each f [] i h = absurd (let z : ⊥ = omega arith in z)

@@ -1,25 +1,26 @@
 -- Steps of the merges, on plain numbers. Assumes nothing.
-use mathlib.Core.Path.{_≡_, refl, sym, ap, ap₂, _∙_, subst}
-use mathlib.Core.Bool.{Bool}
-use mathlib.Core.List.{List}
-use Prim.Native.Nat.{ℕ, zero, suc, _+_, _-_, _*_, _^_, _<_, _≤_}
+use mathlib.Core.Path.{_≡_, refl, sym, ap, ap₂, subst}
+use mathlib.Core.Bool.{Bool, true, false}
+use mathlib.Core.List.{List, [], _∷_, map}
+use Prim.Native.Nat.{ℕ, zero, suc, _+_, _-_, _*_, _^_, _<_, _≤_, compare}
 use native.Mathlib.Nat.{mul-one, mul-zero}
 use native.Mathlib.Omega.{arith}
 use lib.Dec.{ltb}
 use lib.ListN.{length, getD}
 use Rattle.monomial.specs.declared.order.Order.{Order}
-use Rattle.monomial.specs.Words.{compareWords, keyOf}
-use Rattle.polynomial.specs.Terms.{Term, term, terms}
+use Rattle.monomial.specs.declared.order.Order.the-variants.{DegLex}
+use Rattle.monomial.specs.Words.{keyOf, fromKey}
+use Rattle.monomial.proofs.KeyLaws.{word-of-key}
+use Rattle.polynomial.specs.Terms.{Term, term, terms, All}
 use Rattle.polynomial.specs.Opening.{isLarger}
 use Rattle.polynomial.proofs.OpeningLaws.{larger-key}
 use Rattle.polynomial.proofs.TermLists.{length-terms, term-at}
 use Rattle.merge_common.specs.Lent.{Poly, flag, chosen}
-use Rattle.merge_common.proofs.State.{all-at, flag-small}
 
 -- ---- the choice by a flag
-pub choose-fits : (f x : ℕ) → f ≤ 1 → (x * f ≤ x) × (x * (1 - f) ≤ x) × (x * f + x * (1 - f) ≡ x)
-choose-fits zero x h = (omega (arith, mul-zero x), omega (arith, mul-one x), omega (arith, mul-zero x, mul-one x))
-choose-fits (suc zero) x h = (omega (arith, mul-one x), omega (arith, mul-zero x), omega (arith, mul-zero x, mul-one x))
+pub choose-fits : (f x : ℕ) → f ≤ 1 → (x * f ≤ x) × (x * (1 - f) ≤ x)
+choose-fits zero x h = (omega (arith, mul-zero x), omega (arith, mul-one x))
+choose-fits (suc zero) x h = (omega (arith, mul-one x), omega (arith, mul-zero x))
 choose-fits (suc (suc f)) x h = absurd (let z : ⊥ = omega arith in z)
 
 pub choose-is : (f x y : ℕ) → f ≤ 1 → x * f + y * (1 - f) ≡ chosen f x y
@@ -34,14 +35,30 @@ choose-below f x y b h hx hy = subst (λ (n : ℕ). n < b) (sym (choose-is f x y
     go zero = hy
     go (suc g) = hx
 
--- ---- the larger lead, by keys
-pub larger-flag : (o : Order) (x y a b : ℕ) → x < 2 ^ 64 → y < 2 ^ 64 → a ≡ keyOf o y → b ≡ keyOf o x → flag (ltb a b) ≡ flag (isLarger (compareWords o x y))
-larger-flag o x y a b hx hy ea eb = ap flag (ap₂ ltb ea eb ∙ sym (larger-key o x y hx hy))
+-- ---- the larger key
+pub larger-flag : (x y : ℕ) → x < 2 ^ 64 → y < 2 ^ 64 → flag (ltb y x) ≡ flag (isLarger (compare x y))
+larger-flag x y hx hy = ap flag (sym (larger-key DegLex x y hx hy))
+
+-- the words of the keys of 64-bit words are these
+pub keys-back : (o : Order) (ws : List ℕ) → ((i : ℕ) → getD ws i 0 < 2 ^ 64) → map (fromKey o) (map (keyOf o) ws) ≡ ws
+keys-back o [] h = refl
+keys-back o (w ∷ ws) h = ap₂ (λ (x : ℕ) (y : List ℕ). x ∷ y) (word-of-key o w (h 0)) (keys-back o ws (λ i. h (suc i)))
+
+pub flag-small : (b : Bool) → flag b ≤ 1
+flag-small true = omega arith
+flag-small false = omega arith
 
 pub flag-is : (b : Bool) → (flag b ≡ flag b) × (flag b ≤ 1)
 flag-is b = (refl, flag-small b)
 
 -- ---- a coefficient of a lent polynomial
+
+-- what holds of each term holds of the one at a place
+all-at : (P : Term ℕ → Type 0) (ts : List (Term ℕ)) (i : ℕ) (d : Term ℕ) → All P ts → i < length ts → P (getD ts i d)
+all-at P [] i d a h = absurd (let z : ⊥ = omega arith in z)
+all-at P (t ∷ ts) zero d a h = a .0
+all-at P (t ∷ ts) (suc i) d a h = all-at P ts i d (a .1) (let k : i < length ts = omega arith in k)
+
 pub coef-within : (p : ℕ) (ws cs : List ℕ) → Poly p ws cs → (i : ℕ) → i < length ws → (0 < getD cs i 0) × (getD cs i 0 < p)
 coef-within p ws cs h i k =
     subst (λ (t : Term ℕ). (0 < t .coef) × (t .coef < p)) (term-at ws cs i (h .long))
@@ -60,13 +77,3 @@ chosen-none f x y h ne = let e : f ≡ 0 = omega arith in rw e
 pub chosen-below : (f c p : ℕ) → 0 < p → c < p → chosen f c 0 < p
 chosen-below zero c p h k = h
 chosen-below (suc f) c p h k = k
-
--- ---- the bounds that all loops keep: i and j terms are read, k is the next place, n comparisons are made
-pub record Bounds (la lb to lw lc i j k n l-ow l-oc : ℕ) : Type 0 where
-  pub in-a : i ≤ la
-  pub in-b : j ≤ lb
-  pub low : to ≤ k
-  pub place : k ≤ to + (i + j)
-  pub made : n ≤ i + j
-  pub words-len : l-ow ≡ lw
-  pub coefs-len : l-oc ≡ lc

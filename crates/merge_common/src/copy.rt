@@ -16,17 +16,6 @@ pub fn rest_words<'a>(a: &'a [u64], i: usize, b: &'a [u64], j: usize) -> &'a [u6
     &b[j..]
 }
 
-// The same for coefficients.
-pub fn rest_coefs<'a>(a: &'a [u32], i: usize, b: &'a [u32], j: usize) -> &'a [u32]
-    requires { ⌜ (i ≤ length (now a)) × (j ≤ length (now b)) ⌝ }
-    ensures { λ r. ⌜ now r ≡ restOf (drop i (now (a .entry))) (drop j (now (b .entry))) ⌝ }
-{
-    if i < a.len() {
-        return &a[i..];
-    }
-    &b[j..]
-}
-
 // Puts the words of src into dst from place `to` on.
 pub fn put_words(src: &[u64], dst: &mut [u64], to: usize)
     requires { ⌜ to + length (now src) ≤ length (now dst) ⌝ }
@@ -51,26 +40,16 @@ pub fn put_coefs(src: &[u32], dst: &mut [u32], to: usize)
     }
 }
 
-// Puts the n words from place `from` on also from `to` on, where the two places lie apart.
-pub fn move_words(s: &mut [u64], from: usize, to: usize, n: usize)
-    requires { ⌜ (from + n ≤ length (now s)) × (to + n ≤ length (now s)) × Apart from n to n ⌝ }
-    ensures { λ _. ⌜ now (s .exit) ≡ sets (now (s .entry)) to (part from n (now (s .entry))) ⌝ }
+// Puts the n terms from place `from` on also from `to` on, where the two places lie apart. They are
+// mostly few, so that words and coefficients go in one loop.
+pub fn move_terms(ww: &mut [u64], wc: &mut [u32], from: usize, to: usize, n: usize)
+    requires { ⌜ (from + n ≤ length (now ww)) × (to + n ≤ length (now ww)) × (from + n ≤ length (now wc)) × (to + n ≤ length (now wc)) × Apart from n to n ⌝ }
+    ensures { λ _. ⌜ (now (ww .exit) ≡ sets (now (ww .entry)) to (part from n (now (ww .entry)))) × (now (wc .exit) ≡ sets (now (wc .entry)) to (part from n (now (wc .entry)))) ⌝ }
 {
     let mut i = 0;
     while i < n {
-        s[to + i] = s[from + i];
-        i += 1;
-    }
-}
-
-// The same for coefficients.
-pub fn move_coefs(s: &mut [u32], from: usize, to: usize, n: usize)
-    requires { ⌜ (from + n ≤ length (now s)) × (to + n ≤ length (now s)) × Apart from n to n ⌝ }
-    ensures { λ _. ⌜ now (s .exit) ≡ sets (now (s .entry)) to (part from n (now (s .entry))) ⌝ }
-{
-    let mut i = 0;
-    while i < n {
-        s[to + i] = s[from + i];
+        ww[to + i] = ww[from + i];
+        wc[to + i] = wc[from + i];
         i += 1;
     }
 }

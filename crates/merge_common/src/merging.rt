@@ -1,27 +1,39 @@
 // What a merge makes, and the choice by flags, for the loops of all orders.
-use monomial::order::Order;
+use residue::arithmetic::add;
 ghost use mathlib.Core.Path.{_≡_};
 ghost use mathlib.Core.Bool.{not};
-ghost use Prim.Native.Nat.{_≤_};
+ghost use Prim.Native.Nat.{_<_, _≤_, compare};
 ghost use lib.Dec.{eqb};
-ghost use Rattle.monomial.specs.Words.{compareWords};
+ghost use Rattle.residue.specs.Modular.{Modulus};
 ghost use Rattle.polynomial.specs.Opening.{isLarger};
 ghost use Rattle.merge_common.specs.Lent.{flag, chosen};
+ghost use Rattle.merge_common.specs.Joining.{joined, joinedLast};
 
-// What a merge made: the terms of the result, and the comparisons.
-pub struct Merged {
+// Where a merge lies, and the comparisons.
+pub struct Placed {
+    pub head: usize,
     pub len: usize,
     pub comparisons: u64,
 }
 
-// 1 where the monomial x is larger than y, and else 0.
-pub fn larger(order: Order, x: u64, y: u64) -> usize
-    ensures { λ r. ⌜ (r ≡ flag (isLarger (compareWords order x y))) × (r ≤ 1) ⌝ }
-{
-    (order.key(y) < order.key(x)) as usize
+// What a turn makes of a term of each list: the term to store, how many of the left and of the
+// right list it is made of, and how many it is, none where like terms cancel.
+pub struct Joined {
+    pub word: u64,
+    pub coef: u32,
+    pub left: usize,
+    pub right: usize,
+    pub kept: usize,
 }
 
-// 1 where the two are the same monomial, and else 0.
+// 1 where the key x is larger than y, and else 0.
+pub fn larger(x: u64, y: u64) -> usize
+    ensures { λ r. ⌜ (r ≡ flag (isLarger (compare x y))) × (r ≤ 1) ⌝ }
+{
+    (y < x) as usize
+}
+
+// 1 where the two are the same key, and else 0.
 pub fn like(x: u64, y: u64) -> usize
     ensures { λ r. ⌜ (r ≡ flag (eqb x y)) × (r ≤ 1) ⌝ }
 {
@@ -50,4 +62,41 @@ pub fn choose_coef(f: usize, x: u32, y: u32) -> u32
 {
     let g = f as u32;
     x * g + y * (1 - g)
+}
+
+// The larger of two leads, or the sum of like ones, without a branch: x is larger for l, y is for m, and
+// the two are like for e.
+pub fn join(x: u64, c: u32, y: u64, d: u32, p: u32) -> Joined
+    requires { ⌜ Modulus p × (c < p) × (d < p) ⌝ }
+    ensures { λ r. ⌜ r ≡ joined x c y d p ⌝ }
+{
+    let l = larger(x, y);
+    let m = larger(y, x);
+    let e = like(x, y);
+    let coef = add(choose_coef(l + e, c, 0), choose_coef(m + e, d, 0), p);
+    Joined {
+        word: choose_word(m, y, x),
+        coef,
+        left: 1 - m,
+        right: 1 - l,
+        kept: not_zero(coef),
+    }
+}
+
+// The smaller of two last terms, or the sum of like ones, in the same way.
+pub fn join_last(x: u64, c: u32, y: u64, d: u32, p: u32) -> Joined
+    requires { ⌜ Modulus p × (c < p) × (d < p) ⌝ }
+    ensures { λ r. ⌜ r ≡ joinedLast x c y d p ⌝ }
+{
+    let l = larger(x, y);
+    let m = larger(y, x);
+    let e = like(x, y);
+    let coef = add(choose_coef(m + e, c, 0), choose_coef(l + e, d, 0), p);
+    Joined {
+        word: choose_word(l, y, x),
+        coef,
+        left: 1 - l,
+        right: 1 - m,
+        kept: not_zero(coef),
+    }
 }

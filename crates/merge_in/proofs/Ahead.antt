@@ -1,188 +1,170 @@
--- The loops that merge in place: the reading is ahead of the writing, so that the terms that are read stand as they stood. Assumes nothing.
-use mathlib.Core.Path.{_≡_, refl, sym, ap, _∙_, subst}
-use mathlib.Core.Bool.{not}
-use mathlib.Core.List.{List}
-use mathlib.Core.Logic.{_⊎_, inl, inr, ⊎-elim}
-use Prim.Native.Nat.{ℕ, _+_, _-_, _%_, _<_, _≤_}
+-- The loop that merges in place: the reading is ahead of the writing, so that the terms that are read stand as they stood. Assumes nothing.
+use mathlib.Core.Path.{_≡_, refl, sym, ap, ap₂, _∙_, subst}
+use mathlib.Core.List.{List, [], _∷_, _++_, append-nil}
+use mathlib.Core.Logic.{_⊎_, inr, ⊎-elim}
+use Prim.Native.Nat.{ℕ, zero, suc, _+_, _-_, _<_, _≤_, compare}
+use native.Mathlib.Numerals.{add-one}
 use native.Mathlib.Omega.{arith}
-use lib.Dec.{eqb}
-use lib.ListN.{length, take, drop, set, getD, length-map, length-drop}
-use lib.Seq.{sets, getD-set-other, getD-drop}
-use Rattle.monomial.specs.declared.order.Order.{Order}
-use Rattle.monomial.specs.Words.{compareWords}
-use Rattle.polynomial.specs.Terms.{Term, terms, words, coefs}
-use Rattle.polynomial.specs.Merge.{merge, mergeCount}
-use Rattle.merge_common.specs.Lent.{restOf, part, flag, chosen}
-use Rattle.merge_common.proofs.Lists.{rest-left, rest-right, part-from, length-part, getD-part, getD-sets-other}
-use Rattle.merge_common.proofs.State.{used-up, rest-words, rest-coefs, end-length, end-count}
-use Rattle.merge_common.proofs.Turns.{Going, going-start, Flags, addends, turn-by-flags}
-use Rattle.merge_in.specs.declared.in_place.Placed.{Placed}
+use lib.ListN.{length, drop, set, getD, length-append, length-drop, drop-of-length-le}
+use lib.Seq.{sets, append-snoc, drop-cons}
+use Rattle.polynomial.specs.Terms.{Term, term, terms, words, coefs}
+use Rattle.polynomial.specs.Merge.{keep, merge, mergeCount}
+use Rattle.polynomial.proofs.MergeLaws.{merge-nil, count-left, count-right}
+use Rattle.polynomial.proofs.TermLists.{lead-at, length-terms, words-terms, coefs-terms, map-drop}
+use Rattle.merge_common.specs.Lent.{part}
+use Rattle.merge_common.specs.Joining.{joined}
+use Rattle.merge_common.specs.declared.merging.Joined.{Joined}
+use Rattle.merge_common.proofs.Lists.{part-from, length-part, getD-part}
+use Rattle.merge_common.proofs.Steps.{coef-within}
+use Rattle.merge_common.proofs.Joins.{joined-small}
+use Rattle.merge_common.proofs.State.{Turn, turn}
 use Rattle.merge_in.specs.Placing.{Into, PlacedIn}
-use Rattle.merge_in.proofs.ReadBack.{put-read, gap-read}
+use Rattle.merge_in.proofs.Held.{Held, Lies, held-none, held-more, held-put, held-up}
 
--- the merge under way: the next term of f is the one at i, the other's next stands at place j, and the next is stored at place k; places in front of the room, and those from j on, are as they were
-pub record Ahead (order : Order) (p : ℕ) (fw fc sw₀ sc₀ : List ℕ) (h e : ℕ) (sw sc : List ℕ) (i j k n : ℕ) : Type 0 where
-  pub used : ℕ
-  pub at : j ≡ h + used
-  pub going : Going order p fw fc (part h (e - h) sw₀) (part h (e - h) sc₀) (h - length fw) sw₀ sc₀ sw sc i used k n
-  pub words-stay : (t : ℕ) → (t < h - length fw) ⊎ (j ≤ t) → getD sw t 0 ≡ getD sw₀ t 0
-  pub coefs-stay : (t : ℕ) → (t < h - length fw) ⊎ (j ≤ t) → getD sc t 0 ≡ getD sc₀ t 0
+-- the terms at the places from j up to e
+abbrev upTo : List ℕ → List ℕ → ℕ → ℕ → List (Term ℕ)
+upTo sw sc e j = terms (part j (e - j) sw) (part j (e - j) sc)
 
-pub ahead-start : (order : Order) (p : ℕ) (fw fc sw sc : List ℕ) (h e : ℕ) → Ahead order p fw fc sw sc h e sw sc 0 h (h - length fw) 0
-ahead-start order p fw fc sw sc h e = record {
-  used = 0;
-  at = omega arith;
-  going = going-start order p fw fc (part h (e - h) sw) (part h (e - h) sc) (h - length fw) sw sc;
-  words-stay = λ t u. refl;
-  coefs-stay = λ t u. refl;
-}
-
--- the bounds of the places
-pub record Places (lf h e lw lc i j k n l-sw l-sc : ℕ) : Type 0 where
-  pub in-f : i ≤ lf
+-- the merge under way: the next term of f is the one at i, the other's next stands at place j, and the next is stored at place k
+pub record Ahead (p : ℕ) (fw fc sw₀ sc₀ : List ℕ) (h e : ℕ) (sw sc : List ℕ) (i j k n : ℕ) : Type 0 where
+  pub done : List (Term ℕ)
+  pub at : h - length fw + length done ≡ k
+  pub whole : done ++ merge compare p (drop i (terms fw fc)) (upTo sw₀ sc₀ e j) ≡ merge compare p (terms fw fc) (upTo sw₀ sc₀ e h)
+  pub count : n + mergeCount compare (drop i (terms fw fc)) (upTo sw₀ sc₀ e j) ≡ mergeCount compare (terms fw fc) (upTo sw₀ sc₀ e h)
+  pub words-held : Held (λ t. t .mono) done (h - length fw) j sw₀ sw
+  pub coefs-held : Held (λ t. t .coef) done (h - length fw) j sc₀ sc
+  pub in-f : i ≤ length fw
   pub first : h ≤ j
   pub in-s : j ≤ e
-  pub low : h ≤ k + lf
-  pub behind : k + lf ≤ i + j
-  pub made : h + n ≤ i + j
-  pub words-len : l-sw ≡ lw
-  pub coefs-len : l-sc ≡ lc
+  pub behind : k + length fw ≤ i + j
+  pub counted : h + n ≤ i + j
 
--- a turn leaves fewer terms
-pub turn-less : (lf e i j l m q : ℕ) → i < lf → j < e → l + m + q ≡ 1 → (lf - (i + (1 - m))) + (e - (j + (1 - l))) < (lf - i) + (e - j)
-turn-less lf e i j l m q hi hj one = omega arith
+keep-before : (w c : ℕ) (ds ts : List (Term ℕ)) → (ds ++ keep w c []) ++ ts ≡ ds ++ keep w c ts
+unfolding keep
+keep-before w zero ds ts = ap (λ (l : List (Term ℕ)). l ++ ts) (append-nil ds)
+keep-before w (suc c) ds ts = append-snoc ds (term w (suc c)) ts
 
--- a store at place k, behind j
-stay-put : (l o : List ℕ) (low j j' k w : ℕ) → low ≤ k → k < j → j ≤ j' → ((t : ℕ) → (t < low) ⊎ (j ≤ t) → getD o t 0 ≡ getD l t 0) → (t : ℕ) → (t < low) ⊎ (j' ≤ t) → getD (set o k w) t 0 ≡ getD l t 0
-stay-put l o low j j' k w a b c s t u = getD-set-other o k t w 0 (λ q. ⊎-elim (λ v. let z : ⊥ = omega arith in z) (λ v. let z : ⊥ = omega arith in z) u) ∙ s t (⊎-elim (λ v. inl v) (λ v. inr (omega arith)) u)
+merge-left : (p : ℕ) (ys : List (Term ℕ)) → merge compare p [] ys ≡ ys
+unfolding merge
+merge-left p ys = refl
 
-module _ {order : Order} {p : ℕ} {fw fc sw₀ sc₀ : List ℕ} {h e : ℕ} {sw sc : List ℕ} {i j k n : ℕ} (pre : Into p fw fc sw₀ sc₀ h e) (s : Ahead order p fw fc sw₀ sc₀ h e sw sc i j k n) where
-  long-words : length (part h (e - h) sw₀) ≡ e - h
-  long-words = length-part h (e - h) sw₀ (omega (arith, pre .ends, pre .words-end))
+part-lead : (l : List ℕ) (a e : ℕ) → a < e → e ≤ length l → part a (e - a) l ≡ getD l a 0 ∷ part (a + 1) (e - (a + 1)) l
+part-lead l a e h k = let q : e - a ≡ suc (e - (a + 1)) = omega arith in rw (q, drop-cons l a 0 (omega arith), add-one)
 
-  long-coefs : length (part h (e - h) sc₀) ≡ e - h
-  long-coefs = length-part h (e - h) sc₀ (omega (arith, pre .ends, pre .coefs-end))
+module _ {p : ℕ} {fw fc sw₀ sc₀ : List ℕ} {h e : ℕ} (pre : Into p fw fc sw₀ sc₀ h e) where
+  pub ahead-start : Ahead p fw fc sw₀ sc₀ h e sw₀ sc₀ 0 h (h - length fw) 0
+  ahead-start = record {
+    done = [];
+    at = omega arith;
+    whole = refl;
+    count = omega arith;
+    words-held = held-none _ _ _ _;
+    coefs-held = held-none _ _ _ _;
+    in-f = omega arith;
+    first = omega arith;
+    in-s = pre .ends;
+    behind = omega (arith, pre .room);
+    counted = omega arith;
+  }
 
-  pub places : Places (length fw) h e (length sw₀) (length sc₀) i j k n (length sw) (length sc)
-  places = omega (arith, s .at, s .going .bounds, long-words, pre .room, pre .ends)
+  module _ {sw sc : List ℕ} {i j k n : ℕ} (s : Ahead p fw fc sw₀ sc₀ h e sw sc i j k n) where
+    abbrev F : List (Term ℕ)
+    F = terms fw fc
 
-  module _ (hi : i < length fw) (hj : j < e) where
-    here : s .used < length (part h (e - h) sw₀)
-    here = omega (arith, s .at, long-words)
+    abbrev G : ℕ → List (Term ℕ)
+    G a = upTo sw₀ sc₀ e a
 
-    y-stays : getD (part h (e - h) sw₀) (s .used) 0 ≡ getD sw j 0
-    y-stays = getD-part h (e - h) sw₀ (s .used) (omega (arith, s .at)) ∙ (ap (λ (m : ℕ). getD sw₀ m 0) (sym (s .at)) ∙ sym (s .words-stay j (inr (omega arith))))
+    -- ---- a turn
+    module _ (hi : i < length fw) (hj : j < e) where
+      pub x-within : (0 < getD fc i 0) × (getD fc i 0 < p)
+      x-within = coef-within p fw fc (pre .lent) i hi
 
-    yc-stays : getD (part h (e - h) sc₀) (s .used) 0 ≡ getD sc j 0
-    yc-stays = getD-part h (e - h) sc₀ (s .used) (omega (arith, s .at)) ∙ (ap (λ (m : ℕ). getD sc₀ m 0) (sym (s .at)) ∙ sym (s .coefs-stay j (inr (omega arith))))
+      pub y-within : (0 < getD sc j 0) × (getD sc j 0 < p)
+      y-within =
+          let a : h + (j - h) ≡ j = omega (arith, s .first) in
+          subst (λ (v : ℕ). (0 < v) × (v < p)) (getD-part h (e - h) sc₀ (j - h) (omega (arith, s .first)) ∙ (ap (λ (m : ℕ). getD sc₀ m 0) a ∙ sym (s .coefs-held .stay j (inr (omega arith)))))
+          (coef-within p (part h (e - h) sw₀) (part h (e - h) sc₀) (pre .there) (j - h) (omega (arith, s .first, length-part h (e - h) sw₀ (omega (arith, pre .ends, pre .words-end)))))
 
-    pub addends-ahead : {l m q u v : ℕ} → Flags order (getD fw i 0) (getD sw j 0) l m q → u ≡ chosen (l + q) (getD fc i 0) 0 → v ≡ chosen (m + q) (getD sc j 0) 0 → (u < p) × (v < p)
-    addends-ahead f eu ev = addends (pre .lent) (pre .there) (s .going) hi here refl refl y-stays yc-stays f eu ev
+      y-lead : G j ≡ term (getD sw j 0) (getD sc j 0) ∷ G (j + 1)
+      y-lead =
+          ap₂ terms (part-lead sw₀ j e hj (pre .words-end)) (part-lead sc₀ j e hj (pre .coefs-end))
+          ∙ sym (ap₂ (λ (a b : ℕ). term a b ∷ G (j + 1)) (s .words-held .stay j (inr (omega arith))) (s .coefs-held .stay j (inr (omega arith))))
 
-    pub turn-ahead : {l m q u v c z w : ℕ} → Flags order (getD fw i 0) (getD sw j 0) l m q → u ≡ chosen (l + q) (getD fc i 0) 0 → v ≡ chosen (m + q) (getD sc j 0) 0 → c ≡ (u + v) % p → z ≡ flag (not (eqb c 0)) → z ≤ 1 → w ≡ chosen m (getD sw j 0) (getD fw i 0)
-        → Ahead order p fw fc sw₀ sc₀ h e (set sw k w) (set sc k c) (i + (1 - m)) (j + (1 - l)) (k + z) (n + 1)
-    turn-ahead {l = l} {c = c} {w = w} f eu ev ec ez hz ew = record {
-      used = s .used + (1 - l);
-      at = omega (arith, s .at);
-      going = turn-by-flags (pre .lent) (pre .there) (s .going) hi here refl refl y-stays yc-stays f eu ev ec ez hz ew;
-      words-stay = stay-put sw₀ sw (h - length fw) j (j + (1 - l)) k w (omega (arith, places)) (omega (arith, places)) (omega arith) (s .words-stay);
-      coefs-stay = stay-put sc₀ sc (h - length fw) j (j + (1 - l)) k c (omega (arith, places)) (omega (arith, places)) (omega arith) (s .coefs-stay);
+      module _ {t : Joined} (q : t ≡ joined (getD fw i 0) (getD fc i 0) (getD sw j 0) (getD sc j 0) p) where
+        turned : Turn p (λ a. drop a F) G i j t
+        turned = turn p (λ a. drop a F) G i j (getD fw i 0) (getD fc i 0) (getD sw j 0) (getD sc j 0) (lead-at fw fc i (pre .lent .long) hi) y-lead (x-within .0) (y-within .0) q
+
+        -- it leaves fewer terms
+        pub turn-less : (length fw - (i + t .left)) + (e - (j + t .right)) < (length fw - i) + (e - j)
+        turn-less = omega (arith, turned .some)
+
+        pub turn-ahead : Ahead p fw fc sw₀ sc₀ h e (set sw k (t .word)) (set sc k (t .coef)) (i + t .left) (j + t .right) (k + t .kept) (n + 1)
+        turn-ahead =
+            let u = turned in
+            let b = joined-small _ _ _ _ _ q in
+            let o : k < j = omega (arith, s .behind) in
+            record {
+              done = s .done ++ keep (t .word) (t .coef) [];
+              at = omega (arith, s .at, u .kept, length-append (s .done) (keep (t .word) (t .coef) []));
+              whole = keep-before (t .word) (t .coef) (s .done) _ ∙ (ap (λ (l : List (Term ℕ)). s .done ++ l) (sym (u .whole)) ∙ s .whole);
+              count = omega (arith, u .count, s .count);
+              words-held = held-more (s .words-held) (s .at) (j + t .right) (t .word) o (omega arith) (t .word) (t .coef) refl (omega (arith, pre .words-end));
+              coefs-held = held-more (s .coefs-held) (s .at) (j + t .right) (t .coef) o (omega arith) (t .word) (t .coef) refl (omega (arith, pre .coefs-end));
+              in-f = omega arith;
+              first = omega (arith, s .first);
+              in-s = omega arith;
+              behind = omega (arith, s .behind, u .some);
+              counted = omega (arith, s .counted, u .some);
+            }
+
+    -- ---- at the end, the whole merge lies from `head` on
+    placed : (head len : ℕ) {sw' sc' : List ℕ} → mergeCount compare (drop i F) (G j) ≡ 0 → len ≡ length (merge compare p F (G h)) → h - length fw ≤ head → head + len ≤ e
+        → Lies (λ t. t .mono) (merge compare p F (G h)) head (h - length fw) e sw₀ sw' → Lies (λ t. t .coef) (merge compare p F (G h)) head (h - length fw) e sc₀ sc'
+        → PlacedIn compare p F (G h) (h - length fw) e sw₀ sc₀ sw' sc' (record { head = head; len = len; comparisons = n })
+    placed head len {sw'} {sc'} none el lo hi w c = record {
+      len-is = el;
+      from-low = lo;
+      to-end = hi;
+      words-are = ap (λ (m : ℕ). part head m sw') el ∙ w .are;
+      coefs-are = ap (λ (m : ℕ). part head m sc') el ∙ c .are;
+      words-else = w .stay;
+      coefs-else = c .stay;
+      count-is = omega (arith, s .count, none);
     }
 
-  -- ---- after the loop
-  abbrev left : List (Term ℕ)
-  left = merge (compareWords order) p (drop i (terms fw fc)) (drop (s .used) (terms (part h (e - h) sw₀) (part h (e - h) sc₀)))
-
-  abbrev whole : List (Term ℕ)
-  whole = merge (compareWords order) p (terms fw fc) (terms (part h (e - h) sw₀) (part h (e - h) sc₀))
-
-  module _ (end : (length fw ≤ i) ⊎ (e ≤ j)) where
-    used : (length fw ≤ i) ⊎ (length (part h (e - h) sw₀) ≤ s .used)
-    used = ⊎-elim (λ u. inl u) (λ u. inr (omega (arith, s .at, long-words))) end
-
-    left-words : restOf (drop i fw) (drop (s .used) (part h (e - h) sw₀)) ≡ words left
-    left-words = rest-words fw fc (part h (e - h) sw₀) (part h (e - h) sc₀) i (s .used) (pre .lent .long) (pre .there .long) used (compareWords order) p
-
-    left-coefs : restOf (drop i fc) (drop (s .used) (part h (e - h) sc₀)) ≡ coefs left
-    left-coefs = rest-coefs fw fc (part h (e - h) sw₀) (part h (e - h) sc₀) i (s .used) (pre .lent .long) (pre .there .long) used (compareWords order) p
-
-    counted : n ≡ mergeCount (compareWords order) (terms fw fc) (terms (part h (e - h) sw₀) (part h (e - h) sc₀))
-    counted = end-count (s .going .state) (used-up fw fc (part h (e - h) sw₀) (part h (e - h) sc₀) i (s .used) (pre .lent .long) (pre .there .long) used)
-
-    -- a place outside stays through one more run of stores
-    outside : (l o o' : List ℕ) (a : ℕ) (vs : List ℕ) → o' ≡ sets o a vs → h - length fw ≤ a → a + length vs ≤ e → ((t : ℕ) → (t < h - length fw) ⊎ (j ≤ t) → getD o t 0 ≡ getD l t 0) → (t : ℕ) → (t < h - length fw) ⊎ (e ≤ t) → getD o' t 0 ≡ getD l t 0
-    outside l o o' a vs eo lo hi stay t u =
-        ap (λ (x : List ℕ). getD x t 0) eo
-        ∙ (getD-sets-other o a vs t (⊎-elim (λ v. inl (omega arith)) (λ v. inr (omega arith)) u) ∙ stay t (⊎-elim (λ v. inl v) (λ v. inr (omega (arith, places))) u))
-
     -- the rest of f is put
-    module _ (more : i < length fw) where
-      rest-is : take (length fw - i) (drop i fw) ≡ words left
-      rest-is = part-from fw i ∙ (sym (rest-left fw (drop (s .used) (part h (e - h) sw₀)) i more) ∙ left-words)
+    left-words : part i (length fw - i) fw ≡ words (drop i F)
+    left-words = part-from fw i ∙ sym (map-drop (λ t. t .mono) i F ∙ ap (drop i) (words-terms fw fc (pre .lent .long)))
 
-      rest-coefs-is : take (length fc - i) (drop i fc) ≡ coefs left
-      rest-coefs-is = part-from fc i ∙ (sym (rest-left fc (drop (s .used) (part h (e - h) sc₀)) i (omega (arith, pre .lent .long))) ∙ left-coefs)
+    left-coefs : part i (length fc - i) fc ≡ coefs (drop i F)
+    left-coefs = part-from fc i ∙ sym (map-drop (λ t. t .coef) i F ∙ ap (drop i) (coefs-terms fw fc (pre .lent .long)))
 
-      rest-long : length left ≡ length fw - i
-      rest-long = sym (length-map left (λ t. t .mono)) ∙ (ap length (sym rest-is ∙ part-from fw i) ∙ length-drop i fw)
-
-      pub put-rest : {sw' sc' : List ℕ} {len : ℕ} → sw' ≡ sets sw k (take (length fw - i) (drop i fw)) → sc' ≡ sets sc k (take (length fc - i) (drop i fc)) → len ≡ k + length (take (length fw - i) (drop i fw)) - (h - length fw)
-          → PlacedIn (compareWords order) p (terms fw fc) (terms (part h (e - h) sw₀) (part h (e - h) sc₀)) (h - length fw) e sw₀ sc₀ sw' sc' (record { head = h - length fw; len = len; comparisons = n })
-      put-rest {sw'} {sc'} {len} ew ec el =
-          let q = s .going .state in
-          let b = places in
-          let lw : length (take (length fw - i) (drop i fw)) ≡ length left = ap length rest-is ∙ length-map left (λ t. t .mono) in
-          let lc : length (take (length fc - i) (drop i fc)) ≡ length left = ap length rest-coefs-is ∙ length-map left (λ t. t .coef) in
-          let room : k + length left ≤ e = omega (arith, rest-long) in
-          let len-is : len ≡ length whole = omega (arith, end-length q) in
-          record {
-            len-is = len-is;
-            from-low = omega arith;
-            to-end = omega (arith, end-length q);
-            words-are = ap (λ (m : ℕ). part (h - length fw) m sw') len-is ∙ put-read (λ t. t .mono) sw₀ sw (h - length fw) k (q .done) left whole (q .past-words) (q .words-are) (q .at) (q .whole) (b .words-len) sw' (take (length fw - i) (drop i fw)) ew rest-is (omega (arith, pre .words-end));
-            coefs-are = ap (λ (m : ℕ). part (h - length fw) m sc') len-is ∙ put-read (λ t. t .coef) sc₀ sc (h - length fw) k (q .done) left whole (q .past-coefs) (q .coefs-are) (q .at) (q .whole) (b .coefs-len) sc' (take (length fc - i) (drop i fc)) ec rest-coefs-is (omega (arith, pre .coefs-end));
-            words-else = outside sw₀ sw sw' k (take (length fw - i) (drop i fw)) ew (omega arith) (omega arith) (s .words-stay);
-            coefs-else = outside sc₀ sc sc' k (take (length fc - i) (drop i fc)) ec (omega arith) (omega arith) (s .coefs-stay);
-            count-is = counted;
-          }
+    pub put-rest : (length fw ≤ i) ⊎ (e ≤ j) → i < length fw → {sw' sc' : List ℕ} {len : ℕ} → sw' ≡ sets sw k (part i (length fw - i) fw) → sc' ≡ sets sc k (part i (length fc - i) fc) → len ≡ k + length (part i (length fw - i) fw) - (h - length fw)
+        → PlacedIn compare p F (G h) (h - length fw) e sw₀ sc₀ sw' sc' (record { head = h - length fw; len = len; comparisons = n })
+    put-rest end more {sw'} {sc'} {len} ew ec el =
+        let ej : e ≤ j = ⊎-elim (λ u. let z : ⊥ = omega arith in absurd z) (λ u. u) end in
+        let z : e - j ≡ 0 = omega arith in
+        let none : G j ≡ [] = rw z in
+        let whole : s .done ++ drop i F ≡ merge compare p F (G h) = ap (λ (l : List (Term ℕ)). s .done ++ l) (sym (ap (merge compare p (drop i F)) none ∙ merge-nil compare p (drop i F))) ∙ s .whole in
+        let long : length (drop i F) ≡ length fw - i = length-drop i F ∙ ap (λ (m : ℕ). m - i) (length-terms fw fc (pre .lent .long)) in
+        let lw = ap length (part-from fw i) ∙ length-drop i fw in
+        let size : length (merge compare p F (G h)) ≡ length (s .done) + length (drop i F) = ap length (sym whole) ∙ length-append (s .done) (drop i F) in
+        let len-is : len ≡ length (merge compare p F (G h)) = omega (arith, s .at) in
+        placed (h - length fw) len (ap (mergeCount compare (drop i F)) none ∙ count-right compare (drop i F)) len-is (omega arith) (omega (arith, s))
+        (held-put (s .words-held) (s .at) e (s .in-s) (drop i F) _ whole _ ew left-words (omega (arith, s)) (pre .words-end))
+        (held-put (s .coefs-held) (s .at) e (s .in-s) (drop i F) _ whole _ ec left-coefs (omega (arith, s)) (pre .coefs-end))
 
     -- the other's terms stay, and the stored ones are moved up to them
-    module _ (none : length fw ≤ i) where
-      stay-is : drop (s .used) (part h (e - h) sw₀) ≡ words left
-      stay-is = sym (rest-right fw (drop (s .used) (part h (e - h) sw₀)) i none) ∙ left-words
-
-      stay-coefs-is : drop (s .used) (part h (e - h) sc₀) ≡ coefs left
-      stay-coefs-is = sym (rest-right fc (drop (s .used) (part h (e - h) sc₀)) i (omega (arith, pre .lent .long))) ∙ left-coefs
-
-      stay-long : length left ≡ e - j
-      stay-long = omega (arith, length-map left (λ t. t .mono), ap length stay-is, length-drop (s .used) (part h (e - h) sw₀), long-words, s .at)
-
-      stands : (l o rs : List ℕ) → drop (s .used) (part h (e - h) l) ≡ rs → ((t : ℕ) → (t < h - length fw) ⊎ (j ≤ t) → getD o t 0 ≡ getD l t 0) → (t : ℕ) → t < length left → getD o (j + t) 0 ≡ getD rs t 0
-      stands l o rs er stay t b =
-          let a : h + (s .used + t) ≡ j + t = omega (arith, s .at) in
-          stay (j + t) (inr (omega arith))
-          ∙ sym (ap (λ (x : List ℕ). getD x t 0) (sym er) ∙ (getD-drop (s .used) (part h (e - h) l) t 0 ∙ (getD-part h (e - h) l (s .used + t) (omega (arith, stay-long, s .at, places)) ∙ ap (λ (m : ℕ). getD l m 0) a)))
-
-      pub gap-closed : {sw' sc' : List ℕ} {head : ℕ} → head ≡ h - length fw + (j - k) → sw' ≡ sets sw head (part (h - length fw) (k - (h - length fw)) sw) → sc' ≡ sets sc head (part (h - length fw) (k - (h - length fw)) sc)
-          → PlacedIn (compareWords order) p (terms fw fc) (terms (part h (e - h) sw₀) (part h (e - h) sc₀)) (h - length fw) e sw₀ sc₀ sw' sc' (record { head = head; len = e - head; comparisons = n })
-      gap-closed {sw'} {sc'} {head} eh ew ec =
-          let q = s .going .state in
-          let b = places in
-          let up : k ≤ j = omega (arith, none) in
-          let lw : length (part (h - length fw) (k - (h - length fw)) sw) ≡ k - (h - length fw) = length-part (h - length fw) (k - (h - length fw)) sw (omega (arith, pre .words-end)) in
-          let lc : length (part (h - length fw) (k - (h - length fw)) sc) ≡ k - (h - length fw) = length-part (h - length fw) (k - (h - length fw)) sc (omega (arith, pre .coefs-end)) in
-          let len-is : e - head ≡ length whole = omega (arith, end-length q, stay-long) in
-          record {
-            len-is = len-is;
-            from-low = omega arith;
-            to-end = omega arith;
-            words-are = ap (λ (m : ℕ). part head m sw') len-is ∙ gap-read (λ t. t .mono) sw₀ sw (h - length fw) k (q .done) left whole (q .past-words) (q .words-are) (q .at) (q .whole) (b .words-len) sw' j head up eh ew (omega (arith, pre .words-end, stay-long)) (stands sw₀ sw (words left) stay-is (s .words-stay));
-            coefs-are = ap (λ (m : ℕ). part head m sc') len-is ∙ gap-read (λ t. t .coef) sc₀ sc (h - length fw) k (q .done) left whole (q .past-coefs) (q .coefs-are) (q .at) (q .whole) (b .coefs-len) sc' j head up eh ec (omega (arith, pre .coefs-end, stay-long)) (stands sc₀ sc (coefs left) stay-coefs-is (s .coefs-stay));
-            words-else = outside sw₀ sw sw' head (part (h - length fw) (k - (h - length fw)) sw) ew (omega arith) (omega arith) (s .words-stay);
-            coefs-else = outside sc₀ sc sc' head (part (h - length fw) (k - (h - length fw)) sc) ec (omega arith) (omega arith) (s .coefs-stay);
-            count-is = counted;
-          }
-
--- what the loop of an order made is what the merge in that order asks
-pub in-order : {order order' : Order} {p : ℕ} {f g : List (Term ℕ)} {low e : ℕ} {sw sc sw' sc' : List ℕ} {r : Placed} → order ≡ order' → PlacedIn (compareWords order') p f g low e sw sc sw' sc' r → PlacedIn (compareWords order) p f g low e sw sc sw' sc' r
-in-order {p = p} {f = f} {g = g} {low = low} {e = e} {sw = sw} {sc = sc} {sw' = sw'} {sc' = sc'} {r = r} q m = subst (λ (o : Order). PlacedIn (compareWords o) p f g low e sw sc sw' sc' r) (sym q) m
+    pub gap-closed : length fw ≤ i → {sw' sc' : List ℕ} {head : ℕ} → head ≡ h - length fw + (j - k) → sw' ≡ sets sw head (part (h - length fw) (k - (h - length fw)) sw) → sc' ≡ sets sc head (part (h - length fw) (k - (h - length fw)) sc)
+        → PlacedIn compare p F (G h) (h - length fw) e sw₀ sc₀ sw' sc' (record { head = head; len = e - head; comparisons = n })
+    gap-closed end {sw'} {sc'} {head} eh ew ec =
+        let none : drop i F ≡ [] = drop-of-length-le F {i = i} (omega (arith, length-terms fw fc (pre .lent .long))) in
+        let whole : s .done ++ G j ≡ merge compare p F (G h) = ap (λ (l : List (Term ℕ)). s .done ++ l) (sym (ap (λ (l : List (Term ℕ)). merge compare p l (G j)) none ∙ merge-left p (G j))) ∙ s .whole in
+        let lw : length (part j (e - j) sw₀) ≡ e - j = length-part j (e - j) sw₀ (omega (arith, s .in-s, pre .words-end)) in
+        let lc : length (part j (e - j) sc₀) ≡ e - j = length-part j (e - j) sc₀ (omega (arith, s .in-s, pre .coefs-end)) in
+        let long : length (G j) ≡ e - j = length-terms (part j (e - j) sw₀) (part j (e - j) sc₀) (lc ∙ sym lw) ∙ lw in
+        let size : length (merge compare p F (G h)) ≡ length (s .done) + length (G j) = ap length (sym whole) ∙ length-append (s .done) (G j) in
+        let len-is : e - head ≡ length (merge compare p F (G h)) = omega (arith, s) in
+        placed head (e - head) (ap (λ (l : List (Term ℕ)). mergeCount compare l (G j)) none ∙ count-left compare (G j)) len-is (omega arith) (omega (arith, s))
+        (held-up (s .words-held) (s .at) e (s .in-s) (G j) _ whole head eh ew (ap (λ (m : ℕ). part j m sw₀) long ∙ sym (words-terms (part j (e - j) sw₀) (part j (e - j) sc₀) (lc ∙ sym lw))) (omega (arith, s)) (omega (arith, s)) (pre .words-end))
+        (held-up (s .coefs-held) (s .at) e (s .in-s) (G j) _ whole head eh ec (ap (λ (m : ℕ). part j m sc₀) long ∙ sym (coefs-terms (part j (e - j) sw₀) (part j (e - j) sc₀) (lc ∙ sym lw))) (omega (arith, s)) (omega (arith, s)) (pre .coefs-end))

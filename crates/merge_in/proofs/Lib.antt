@@ -1,3 +1,2 @@
-pub mod Shifts
-pub mod ReadBack
+pub mod Held
 pub mod Ahead

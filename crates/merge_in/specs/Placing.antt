@@ -8,7 +8,7 @@ use Rattle.residue.specs.Modular.{Modulus}
 use Rattle.polynomial.specs.Terms.{Term, words, coefs}
 use Rattle.polynomial.specs.Merge.{merge, mergeCount}
 use Rattle.merge_common.specs.Lent.{Poly, part}
-use Rattle.merge_in.specs.declared.in_place.Placed.{Placed}
+use Rattle.merge_common.specs.declared.merging.Placed.{Placed}
 
 -- a lent polynomial f, and one at places h up to e of a space, with as many places in front of it as f has terms
 pub record Into (p : ℕ) (fw fc sw sc : List ℕ) (h e : ℕ) : Type 0 where

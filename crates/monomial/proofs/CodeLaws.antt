@@ -2,7 +2,7 @@
 use mathlib.Core.Path.{_≡_, refl, sym, ap, ap₂, _∙_, subst}
 use mathlib.Core.Bool.{Bool, false}
 use mathlib.Core.List.{List, [], _∷_, reverse}
-use Prim.Native.Nat.{ℕ, zero, suc, _+_, _-_, _*_, _/_, _%_, _^_, _<_, _≤_, zero-le, compare}
+use Prim.Native.Nat.{ℕ, zero, suc, _+_, _-_, _*_, _/_, _%_, _^_, _<_, _≤_, min, zero-le, compare}
 use native.Mathlib.Nat.{mul-pos, zero-mul, mod-eq-of-lt, div-div-eq-div-mul, mul-le-mul}
 use native.Mathlib.Numerals.{add-one}
 use native.Mathlib.Omega.{arith}
@@ -17,7 +17,7 @@ use Rattle.monomial.specs.declared.order.Order.the-variants.{Lex, DegLex
 use Rattle.monomial.specs.declared.order.Comparison.the-variants.{Smaller, Same, Larger}
 use Rattle.monomial.specs.Exponents.{weighted, orderBy, orderOf}
 use Rattle.monomial.specs.Layout.{bytes, ofBytes, six, upward, lowBit, wordOf, fields, Below, below, inLayout, beyondBits, WeightsFit}
-use Rattle.monomial.specs.Words.{low, high, compareWords, keyOf, answer, Packed, dividesWord}
+use Rattle.monomial.specs.Words.{low, high, compareWords, keyOf, fromKey, answer, Packed, dividesWord}
 use Rattle.monomial.proofs.Comparing.{lt-compare, eq-compare, gt-compare}
 use Rattle.monomial.proofs.Places.{length-each, below-reverse, below-true, below-upward, length-upward, weighted-zeros, upward-upward, weighted-upward, weighted-enough, true-below}
 use Rattle.monomial.proofs.ByteLaws.{length-bytes, bytes-below, ofBytes-bytes, bytes-of, tops, tops-clear, tops-set, apart, apart-sum, apart-below, apart-full, full, ofBytes-drop, ofBytes-take, zero-bytes}
@@ -48,6 +48,16 @@ key-rev o w h =
     (ap (λ (n : ℕ). bitXor n (2 ^ 48 - 1)) (let e : w ≡ high w * 2 ^ 48 + low w = omega arith in e)
     ∙ (xor-block 48 (high w) 0 (low w) (2 ^ 48 - 1) (omega arith) (lit< tt)
     ∙ ap₂ (λ (i j : ℕ). i * 2 ^ 48 + j) (xor-zero-r (high w)) (inverted (low w) (omega arith))))
+
+pub word-lex : (o : Order) (k : ℕ) → k < 2 ^ 64 → o ≡ Lex → k % 65536 * 2 ^ 48 + k / 65536 ≡ fromKey o k
+word-lex o k h e =
+    let m : min (k / 2 ^ 16) (2 ^ 48 - 1) ≡ k / 65536 = omega arith in
+    let r : k - k / 65536 * 2 ^ 16 ≡ k % 65536 = omega arith in
+    rw e (sym (ap (λ (n : ℕ). (k - n * 2 ^ 16) * 2 ^ 48 + n) m ∙ ap (λ (n : ℕ). n * 2 ^ 48 + k / 65536) r))
+
+-- the word of a key of dp is had as its key is
+pub word-rev : (o : Order) (k : ℕ) → o ≡ DegRevLex → bitXor k (2 ^ 48 - 1) ≡ fromKey o k
+word-rev o k h = key-rev DegRevLex k refl ∙ rw h
 
 -- ---- the comparison of two words, by their keys
 module _ (o : Order) (x y a b : ℕ) (hx : x < 2 ^ 64) (hy : y < 2 ^ 64) (ea : a ≡ keyOf o x) (eb : b ≡ keyOf o y) where
@@ -301,4 +311,10 @@ pub key-fits : (w : ℕ) → w < 2 ^ 64 → w % 2 ^ 48 * 65536 + w / 2 ^ 48 < 2 
 key-fits w h = fits (w % 2 ^ 48) (w / 2 ^ 48) (omega arith) (omega arith)
   where
     fits : (r q : ℕ) → r < 2 ^ 48 → q < 65536 → r * 65536 + q < 2 ^ 64
+    fits r q hr hq = omega arith
+
+pub word-fits : (k : ℕ) → k < 2 ^ 64 → k % 65536 * 2 ^ 48 + k / 65536 < 2 ^ 64
+word-fits k h = fits (k % 65536) (k / 65536) (omega arith) (omega arith)
+  where
+    fits : (r q : ℕ) → r < 65536 → q < 2 ^ 48 → r * 2 ^ 48 + q < 2 ^ 64
     fits r q hr hq = omega arith

@@ -1,15 +1,15 @@
 -- Comparing words is comparing exponents, in each order, and comparing keys is comparing words. Assumes nothing.
 use mathlib.Core.Path.{_≡_, refl, sym, ap, ap₂, _∙_}
 use mathlib.Core.List.{List, [], _∷_, _++_, reverse}
-use Prim.Native.Nat.{ℕ, _+_, _-_, _*_, _^_, _<_, _≤_, compare, Ordering, Ordering·lt, Ordering·eq, Ordering·gt}
+use Prim.Native.Nat.{ℕ, _+_, _-_, _*_, _/_, _^_, _<_, _≤_, min, compare, Ordering, Ordering·lt, Ordering·eq, Ordering·gt}
 use native.Mathlib.Omega.{arith}
 use lib.ListN.{length, replicate}
 use Rattle.monomial.specs.declared.order.Order.{Order}
 use Rattle.monomial.specs.declared.order.Order.the-variants.{Lex, DegLex, DegRevLex}
 use Rattle.monomial.specs.Exponents.{weighted, orElse, lex, revLex, compareIn}
 use Rattle.monomial.specs.Layout.{ofBytes, six, upward, wordOf, exponents, Below, Layout}
-use Rattle.monomial.specs.Words.{low, high, compareWords, keyOf}
-use Rattle.monomial.proofs.Comparing.{carried, compare-digits, eq-compare}
+use Rattle.monomial.specs.Words.{low, high, compareWords, keyOf, fromKey}
+use Rattle.monomial.proofs.Comparing.{Tri, less, same, more, tri, carried, compare-digits, lt-compare, eq-compare, gt-compare}
 use Rattle.monomial.proofs.OrderLaws.{exponents-order, words-order, lex-same, rev-like}
 use Rattle.monomial.proofs.Places.{length-upward, below-upward, below-true, true-below, Below-more}
 use Rattle.monomial.proofs.ByteLaws.{compare-bytes, revLex-top, lex-top}
@@ -100,3 +100,49 @@ key-compare DegRevLex x y h k =
 -- each key is one-to-one on all 64-bit words
 pub key-one-to-one : (o : Order) (x y : ℕ) → x < 2 ^ 64 → y < 2 ^ 64 → keyOf o x ≡ keyOf o y → x ≡ y
 key-one-to-one o x y h k e = words-order o .same x y (sym (key-compare o x y h k) ∙ eq-compare e)
+
+-- ---- words of keys
+low-is : (q r : ℕ) → r < 2 ^ 48 → low (q * 2 ^ 48 + r) ≡ r
+low-is q r h = omega arith
+
+high-is : (q r : ℕ) → r < 2 ^ 48 → high (q * 2 ^ 48 + r) ≡ q
+high-is q r h = omega arith
+
+-- the fields of a key of lp, and what is left for its degree: the fields are the larger ones, or like and the rest is
+lex-parts : (j k a b : ℕ) → a ≡ min (j / 2 ^ 16) (2 ^ 48 - 1) → b ≡ min (k / 2 ^ 16) (2 ^ 48 - 1) → orElse (compare a b) (compare (j - a * 2 ^ 16) (k - b * 2 ^ 16)) ≡ compare j k
+lex-parts j k a b ea eb = by (tri a b)
+  where
+    by : Tri a b → orElse (compare a b) (compare (j - a * 2 ^ 16) (k - b * 2 ^ 16)) ≡ compare j k
+    by (less l e) = rw e (sym (lt-compare (omega arith)))
+    by (same l e) = rw e (carried j k (j - a * 2 ^ 16) (k - b * 2 ^ 16) (λ m. omega arith) (λ m. omega arith) (λ m. omega arith))
+    by (more l e) = rw e (sym (gt-compare (omega arith)))
+
+-- comparing the words of keys is comparing the keys, whatever numbers they are
+pub from-key-compare : (o : Order) (j k : ℕ) → compareWords o (fromKey o j) (fromKey o k) ≡ compare j k
+from-key-compare Lex j k =
+    let a = min (j / 2 ^ 16) (2 ^ 48 - 1) in
+    let b = min (k / 2 ^ 16) (2 ^ 48 - 1) in
+    ap₂ orElse (ap₂ compare (low-is (j - a * 2 ^ 16) a (omega arith)) (low-is (k - b * 2 ^ 16) b (omega arith))) (ap₂ compare (high-is (j - a * 2 ^ 16) a (omega arith)) (high-is (k - b * 2 ^ 16) b (omega arith)))
+    ∙ lex-parts j k a b refl refl
+from-key-compare DegLex j k = refl
+from-key-compare DegRevLex j k =
+    let a = 2 ^ 48 - 1 - low j in
+    let b = 2 ^ 48 - 1 - low k in
+    ap₂ orElse (ap₂ compare (high-is (high j) a (omega arith)) (high-is (high k) b (omega arith)))
+    (ap₂ compare (low-is (high k) b (omega arith)) (low-is (high j) a (omega arith)) ∙ carried (low j) (low k) b a (λ l. omega arith) (λ l. omega arith) (λ l. omega arith))
+    ∙ sym (by-parts j k)
+
+-- a word of 64 bits is the word of its key
+pub word-of-key : (o : Order) (w : ℕ) → w < 2 ^ 64 → fromKey o (keyOf o w) ≡ w
+word-of-key Lex w h = back (low w) (high w) w (omega arith) (omega arith) (omega arith)
+  where
+    back : (l d w : ℕ) → l < 2 ^ 48 → d < 2 ^ 16 → w ≡ d * 2 ^ 48 + l → fromKey Lex (l * 2 ^ 16 + d) ≡ w
+    back l d w hl hd e =
+        let m : min ((l * 2 ^ 16 + d) / 2 ^ 16) (2 ^ 48 - 1) ≡ l = omega arith in
+        let r : l * 2 ^ 16 + d - l * 2 ^ 16 ≡ d = omega arith in
+        ap (λ (n : ℕ). (l * 2 ^ 16 + d - n * 2 ^ 16) * 2 ^ 48 + n) m ∙ (ap (λ (n : ℕ). n * 2 ^ 48 + l) r ∙ sym e)
+word-of-key DegLex w h = refl
+word-of-key DegRevLex w h = back (low w) (high w) w (omega arith) (omega arith)
+  where
+    back : (l d w : ℕ) → l < 2 ^ 48 → w ≡ d * 2 ^ 48 + l → fromKey DegRevLex (d * 2 ^ 48 + (2 ^ 48 - 1 - l)) ≡ w
+    back l d w hl e = omega (arith, low-is d (2 ^ 48 - 1 - l) (omega arith), high-is d (2 ^ 48 - 1 - l) (omega arith))

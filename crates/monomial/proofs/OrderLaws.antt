@@ -180,3 +180,7 @@ pub one-least : (o : Order) (vs α : List ℕ) → Positive vs → length α ≤
 one-least Lex vs α g f = lex-least α
 one-least DegLex vs α g f = least-by-degree (lex (one (length α)) α) vs α g f
 one-least DegRevLex vs α g f = least-by-degree (revLex (one (length α)) α) vs α g f
+
+-- so are numbers, as keys are compared
+pub numbers-order : TotalOrder ℕ compare
+numbers-order = words-order DegLex

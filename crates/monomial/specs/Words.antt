@@ -1,5 +1,5 @@
 -- What is done with words: comparison and divisibility, as operations on numbers. The theorems of `proofs/` say that on words of the layout they are those on exponents. Assumes nothing.
-use Prim.Native.Nat.{ℕ, _+_, _-_, _*_, _/_, _%_, _^_, _<_, compare, Ordering, Ordering·lt, Ordering·eq, Ordering·gt}
+use Prim.Native.Nat.{ℕ, _+_, _-_, _*_, _/_, _%_, _^_, _<_, min, compare, Ordering, Ordering·lt, Ordering·eq, Ordering·gt}
 use mathlib.Core.Bool.{Bool}
 use Rattle.monomial.specs.declared.order.Order.{Order}
 use Rattle.monomial.specs.declared.order.Order.the-variants.{Lex, DegLex, DegRevLex}
@@ -26,6 +26,12 @@ abbrev pub keyOf : Order → ℕ → ℕ
 keyOf Lex w = low w * 2 ^ 16 + high w
 keyOf DegLex w = w
 keyOf DegRevLex w = high w * 2 ^ 48 + (2 ^ 48 - 1 - low w)
+
+-- The word that has a key (theorem `word-of-key`). It keeps the order of any numbers, not only of those of 64 bits (theorem `from-key-compare`); for lp the least with 2 ^ 48 - 1 sees to that.
+abbrev pub fromKey : Order → ℕ → ℕ
+fromKey Lex k = (k - min (k / 2 ^ 16) (2 ^ 48 - 1) * 2 ^ 16) * 2 ^ 48 + min (k / 2 ^ 16) (2 ^ 48 - 1)
+fromKey DegLex k = k
+fromKey DegRevLex k = high k * 2 ^ 48 + (2 ^ 48 - 1 - low k)
 
 abbrev pub answer : Ordering → Comparison
 answer Ordering·lt = Smaller

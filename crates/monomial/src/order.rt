@@ -1,7 +1,7 @@
 // The three orders, and the comparison of two words.
 ghost use mathlib.Core.Path.{_≡_};
 ghost use Rattle.monomial.specs.Exponents.{orderOf};
-ghost use Rattle.monomial.specs.Words.{keyOf, compareWords, answer};
+ghost use Rattle.monomial.specs.Words.{keyOf, fromKey, compareWords, answer};
 
 // The orders by their numbers in document 01: 1 = lp, 2 = Dp, 3 = dp.
 pub enum Order {
@@ -40,6 +40,17 @@ impl Order {
             Order::Lex => w % 0x1_0000_0000_0000 * 0x1_0000 + w / 0x1_0000_0000_0000,
             Order::DegLex => w,
             Order::DegRevLex => w ^ 0xffff_ffff_ffff,
+        }
+    }
+
+    // The word that has the key k.
+    pub fn word(self, k: u64) -> u64
+        ensures { λ r. ⌜ r ≡ fromKey self k ⌝ }
+    {
+        match self {
+            Order::Lex => k % 0x1_0000 * 0x1_0000_0000_0000 + k / 0x1_0000,
+            Order::DegLex => k,
+            Order::DegRevLex => k ^ 0xffff_ffff_ffff,
         }
     }
 

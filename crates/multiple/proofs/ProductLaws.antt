@@ -2,7 +2,7 @@
 use mathlib.Core.Path.{_≡_, refl, sym, ap, ap₂, _∙_}
 use mathlib.Core.Bool.{Bool, true, false, not, _&&_, _||_}
 use mathlib.Core.List.{List, [], _∷_, map}
-use Prim.Native.Nat.{ℕ, zero, suc, _+_, _*_, _/_, _%_, _<_, _≤_}
+use Prim.Native.Nat.{ℕ, zero, suc, _+_, _*_, _/_, _%_, _^_, _<_, _≤_}
 use native.Mathlib.Numerals.{add-one}
 use native.Mathlib.Decide.{decLe}
 use native.Mathlib.Omega.{arith}
@@ -15,8 +15,10 @@ use Rattle.residue.specs.declared.factor.Factor.{Factor}
 use Rattle.residue.specs.Share.{Prepared}
 use Rattle.monomial.specs.Exponents.{product}
 use Rattle.monomial.specs.Layout.{bytes, Below, below}
-use Rattle.monomial.specs.Words.{Packed}
+use Rattle.monomial.specs.declared.order.Order.{Order}
+use Rattle.monomial.specs.Words.{keyOf, fromKey, Packed}
 use Rattle.monomial.proofs.ByteLaws.{bytes-add, tops, tops-clear}
+use Rattle.monomial.proofs.KeyLaws.{word-of-key}
 use Rattle.polynomial.specs.Terms.{terms, words, coefs}
 use Rattle.polynomial.specs.Multiple.{multiple}
 use Rattle.merge_common.specs.Lent.{Poly}
@@ -129,13 +131,27 @@ coefs-multiple p c q [] (k ∷ cs) e = absurd (let z : ⊥ = omega arith in z)
 coefs-multiple p c q (w ∷ ws) [] e = absurd (let z : ⊥ = omega arith in z)
 coefs-multiple p c q (w ∷ ws) (k ∷ cs) e = ap (λ (l : List ℕ). (c * k % p) ∷ l) (coefs-multiple p c q ws cs (let h : length cs ≡ length ws = omega arith in h))
 
+-- the keys of the products, and the words of these keys
+keys-products : (o : Order) (q : ℕ) (ws : List ℕ) → map (keyOf o) (map (λ w. q + w) ws) ≡ map (λ w. keyOf o (q + w)) ws
+keys-products o q [] = refl
+keys-products o q (w ∷ ws) = ap (λ (l : List ℕ). keyOf o (q + w) ∷ l) (keys-products o q ws)
+
+products-back : (o : Order) (q : ℕ) (ws : List ℕ) → Packed q → AllPacked ws → map (fromKey o) (map (keyOf o) (map (λ w. q + w) ws)) ≡ map (λ w. q + w) ws
+products-back o q [] hq h = refl
+products-back o q (w ∷ ws) hq h =
+    let k : q + w < 2 ^ 64 = omega (arith, hq .room, h .0 .room) in
+    ap₂ (λ (x : ℕ) (y : List ℕ). x ∷ y) (word-of-key o (q + w) k) (products-back o q ws hq (h .1))
+
 -- what the two loops ask and put makes the multiple
 module _ {f : Factor} {q : ℕ} {ws cs : List ℕ} {to : ℕ} {ow oc : List ℕ} (m : Multiplicands f q ws cs to ow oc) where
   pub scalable : Prepared f × Below (f .prime) cs × (to + length cs ≤ length oc)
   scalable = (m .prepared, poly-below (f .prime) ws cs (m .poly), omega (arith, m .poly .long, m .coefs-room))
 
-  pub multiplied : {ow' oc' : List ℕ} → ow' ≡ sets ow to (map (λ w. q + w) ws) → oc' ≡ sets oc to (map (λ c. f .value * c % f .prime) cs) → Multiplied (f .prime) (f .value) q ws cs to ow oc ow' oc'
-  multiplied ew ec = record {
-    words-are = ew ∙ ap (sets ow to) (sym (words-multiple (f .prime) (f .value) q ws cs (m .poly .long)));
-    coefs-are = ec ∙ ap (sets oc to) (sym (coefs-multiple (f .prime) (f .value) q ws cs (m .poly .long)));
-  }
+  pub multiplied : (o : Order) {ow' oc' : List ℕ} → ow' ≡ sets ow to (map (λ w. keyOf o (q + w)) ws) → oc' ≡ sets oc to (map (λ c. f .value * c % f .prime) cs) → Multiplied o (f .prime) (f .value) q ws cs to ow oc ow' oc'
+  multiplied o ew ec =
+      let e = words-multiple (f .prime) (f .value) q ws cs (m .poly .long) in
+      record {
+        words-are = ew ∙ ap (sets ow to) (sym (ap (map (keyOf o)) e ∙ keys-products o q ws));
+        coefs-are = ec ∙ ap (sets oc to) (sym (coefs-multiple (f .prime) (f .value) q ws cs (m .poly .long)));
+        back = ap (λ (l : List ℕ). map (fromKey o) (map (keyOf o) l)) e ∙ (products-back o q ws (m .monomial) (m .packed) ∙ sym e);
+      }

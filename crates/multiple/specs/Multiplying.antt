@@ -2,14 +2,15 @@
 use Prim.Native.Nat.{ℕ, _+_, _≤_}
 use mathlib.Core.Path.{_≡_}
 use mathlib.Core.Bool.{Bool, false, not, _||_}
-use mathlib.Core.List.{List, [], _∷_}
+use mathlib.Core.List.{List, [], _∷_, map}
 use lib.ListN.{length}
 use lib.Seq.{sets}
 use Rattle.residue.specs.declared.factor.Factor.{Factor}
 use Rattle.residue.specs.Share.{Prepared}
 use Rattle.monomial.specs.Exponents.{product}
 use Rattle.monomial.specs.Layout.{bytes, below}
-use Rattle.monomial.specs.Words.{Packed}
+use Rattle.monomial.specs.declared.order.Order.{Order}
+use Rattle.monomial.specs.Words.{keyOf, fromKey, Packed}
 use Rattle.polynomial.specs.Terms.{terms, words, coefs}
 use Rattle.polynomial.specs.Multiple.{multiple}
 use Rattle.merge_common.specs.Lent.{Poly}
@@ -32,7 +33,8 @@ pub record Multiplicands (f : Factor) (q : ℕ) (ws cs : List ℕ) (to : ℕ) (o
   pub words-room : to + length ws ≤ length ow
   pub coefs-room : to + length ws ≤ length oc
 
--- the multiple by f·q was put from place `to` on; all else is as it was
-pub record Multiplied (p c q : ℕ) (ws cs : List ℕ) (to : ℕ) (ow oc ow' oc' : List ℕ) : Type 0 where
-  pub words-are : ow' ≡ sets ow to (words (multiple (λ x y. x + y) p c q (terms ws cs)))
+-- the multiple by f·q was put from place `to` on, with keys for words; all else is as it was
+pub record Multiplied (o : Order) (p c q : ℕ) (ws cs : List ℕ) (to : ℕ) (ow oc ow' oc' : List ℕ) : Type 0 where
+  pub words-are : ow' ≡ sets ow to (map (keyOf o) (words (multiple (λ x y. x + y) p c q (terms ws cs))))
   pub coefs-are : oc' ≡ sets oc to (coefs (multiple (λ x y. x + y) p c q (terms ws cs)))
+  pub back : map (fromKey o) (map (keyOf o) (words (multiple (λ x y. x + y) p c q (terms ws cs)))) ≡ words (multiple (λ x y. x + y) p c q (terms ws cs))

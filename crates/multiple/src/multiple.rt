@@ -1,4 +1,5 @@
 // The multiple of a lent polynomial by a term.
+use monomial::order::Order;
 use monomial::word::TOPS;
 use residue::factor::Factor;
 ghost use mathlib.Core.Path.{_≡_};
@@ -9,7 +10,7 @@ ghost use lib.Seq.{sets};
 ghost use Rattle.residue.specs.Modular.{product};
 ghost use Rattle.residue.specs.Share.{Prepared};
 ghost use Rattle.monomial.specs.Layout.{Below};
-ghost use Rattle.monomial.specs.Words.{Packed};
+ghost use Rattle.monomial.specs.Words.{keyOf, Packed};
 ghost use Rattle.multiple.specs.Multiplying.{AllPacked, anyOver, Multiplicands, Multiplied};
 
 // Whether a product of the monomial q with one of the words has an exponent over 127. No field of a
@@ -28,9 +29,10 @@ pub fn any_over(q: u64, words: &[u64]) -> bool
     seen & TOPS != 0
 }
 
-// Puts the polynomial times factor·q into the output from place `to` on: a loop for the words and one
-// for the coefficients, so that each makes several at once.
+// Puts the polynomial times factor·q, as keys and coefficients, into the output from place `to` on: a
+// loop for the keys and one for the coefficients, so that each makes several at once.
 pub fn put_multiple(
+    order: Order,
     factor: Factor,
     q: u64,
     words: &[u64],
@@ -40,20 +42,20 @@ pub fn put_multiple(
     to: usize,
 )
     requires { ⌜ Multiplicands factor q (now words) (now coefs) to (now ow) (now oc) ⌝ }
-    ensures { λ _. ⌜ Multiplied (factor .prime) (factor .value) q (now (words .entry)) (now (coefs .entry)) to (now (ow .entry)) (now (oc .entry)) (now (ow .exit)) (now (oc .exit)) ⌝ }
+    ensures { λ _. ⌜ Multiplied order (factor .prime) (factor .value) q (now (words .entry)) (now (coefs .entry)) to (now (ow .entry)) (now (oc .entry)) (now (ow .exit)) (now (oc .exit)) ⌝ }
 {
-    put_products(q, words, ow, to);
+    put_products(order, q, words, ow, to);
     put_scaled(factor, coefs, oc, to);
 }
 
-// Puts the products of the monomial q with the words.
-fn put_products(q: u64, words: &[u64], ow: &mut [u64], to: usize)
+// Puts the keys of the products of the monomial q with the words.
+fn put_products(order: Order, q: u64, words: &[u64], ow: &mut [u64], to: usize)
     requires { ⌜ Packed q × AllPacked (now words) × (to + length (now words) ≤ length (now ow)) ⌝ }
-    ensures { λ _. ⌜ now (ow .exit) ≡ sets (now (ow .entry)) to (map (λ w. q + w) (now (words .entry))) ⌝ }
+    ensures { λ _. ⌜ now (ow .exit) ≡ sets (now (ow .entry)) to (map (λ w. keyOf order (q + w)) (now (words .entry))) ⌝ }
 {
     let mut i = 0;
     while i < words.len() {
-        ow[to + i] = q + words[i];
+        ow[to + i] = order.key(q + words[i]);
         i += 1;
     }
 }

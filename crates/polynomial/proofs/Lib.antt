@@ -5,3 +5,5 @@ pub mod TermLists
 pub mod OpeningLaws
 pub mod CheckingLaws
 pub mod StartLaws
+pub mod Renaming
+pub mod TwoEnded

@@ -10,6 +10,10 @@ pub record Term (A : Type 0) : Type 0 where
 abbrev pub term : {A : Type 0} → A → ℕ → Term A
 term m c = record { mono = m; coef = c }
 
+-- each monomial under another name
+abbrev pub renamed : {A B : Type 0} → (A → B) → List (Term A) → List (Term B)
+renamed f ts = map (λ t. term (f (t .mono)) (t .coef)) ts
+
 -- ---- polynomials as they are lent: a slice of words and a slice of coefficients
 
 -- the terms of the two slices, as many as the shorter has

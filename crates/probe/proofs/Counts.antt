@@ -1,14 +1,15 @@
--- The comparisons of a candidate. Assumes nothing.
-use mathlib.Core.Path.{_≡_, refl, ap, _∙_}
+-- The comparisons of a candidate, and the spaces at return in an order by its number. Assumes nothing.
+use mathlib.Core.Path.{_≡_, refl, ap, subst, _∙_}
 use mathlib.Core.List.{List}
-use Prim.Native.Nat.{ℕ, Ordering}
+use Prim.Native.Nat.{ℕ}
 use lib.ListN.{length}
-use Rattle.polynomial.specs.Terms.{Term}
+use Rattle.monomial.specs.declared.order.Order.{Order}
+use Rattle.monomial.specs.Words.{compareWords}
 use Rattle.geobucket.specs.Search.{Lead, none, lead, search}
-use Rattle.space.specs.Space.{Buckets}
+use Rattle.space.specs.Space.{Spaces, wordsIn, AtReturn}
 use Rattle.search.specs.declared.candidate.Candidate.{Candidate}
 use Rattle.search.specs.Candidates.{candidateOf}
-use Rattle.search.specs.Searching.{FindDone, TakeDone}
+use Rattle.search.specs.Searching.{Found, Taken}
 
 count-of : (a : Lead ℕ) (n : ℕ) (c : Candidate) → c ≡ candidateOf a n → c .count ≡ n
 count-of a n c e = ap (λ (x : Candidate). x .count) e ∙ by a
@@ -17,8 +18,13 @@ count-of a n c e = ap (λ (x : Candidate). x .count) e ∙ by a
     by none = refl
     by (lead at t) = refl
 
-pub found-count : {cmp : ℕ → ℕ → Ordering} {p : ℕ} {bs : List (List (Term ℕ))} {b : Buckets} {sw sc : List ℕ} {c : Candidate} → FindDone cmp p bs b sw sc c → c .count ≡ length (search cmp p bs .pairs)
-found-count {cmp = cmp} {p = p} {bs = bs} {c = c} f = count-of (search cmp p bs .answer) (length (search cmp p bs .pairs)) c (f .candidate-is)
+module _ {o : Order} {p : ℕ} {x x' : Spaces} {c : Candidate} where
+  pub found-count : Found o p x x' c → c .count ≡ length (search (compareWords o) p (wordsIn o x) .pairs)
+  found-count f = count-of (search (compareWords o) p (wordsIn o x) .answer) (length (search (compareWords o) p (wordsIn o x) .pairs)) c (f .candidate-is)
 
-pub taken-count : {cmp : ℕ → ℕ → Ordering} {p : ℕ} {bs : List (List (Term ℕ))} {b : Buckets} {sw sc : List ℕ} {c : Candidate} → TakeDone cmp p bs b sw sc c → c .count ≡ length (search cmp p bs .pairs)
-taken-count {cmp = cmp} {p = p} {bs = bs} {c = c} f = count-of (search cmp p bs .answer) (length (search cmp p bs .pairs)) c (f .candidate-is)
+  pub taken-count : Taken o p x x' c → c .count ≡ length (search (compareWords o) p (wordsIn o x) .pairs)
+  taken-count f = count-of (search (compareWords o) p (wordsIn o x) .answer) (length (search (compareWords o) p (wordsIn o x) .pairs)) c (f .candidate-is)
+
+-- what is said in an order is said in its equal
+pub returned-in : {o o' : Order} (x : Spaces) {sw sc ww wc : List ℕ} → o ≡ o' → AtReturn (wordsIn o x) sw sc ww wc → AtReturn (wordsIn o' x) sw sc ww wc
+returned-in x {sw} {sc} {ww} {wc} e h = subst (λ (o : Order). AtReturn (wordsIn o x) sw sc ww wc) e h

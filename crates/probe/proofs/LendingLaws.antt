@@ -1,4 +1,4 @@
--- The tests before a polynomial is checked or a part of it is read, the merge in an order by its number, and the multiple by a prepared factor. Assumes nothing.
+-- The tests before a polynomial is checked or a part of it is read, and the multiple by a prepared factor. Assumes nothing.
 use mathlib.Core.Path.{_≡_, refl, sym}
 use mathlib.Core.Bool.{true, false, _&&_}
 use mathlib.Core.List.{List, [], _∷_}
@@ -12,13 +12,10 @@ use Rattle.residue.specs.declared.factor.Factor.{Factor}
 use Rattle.residue.specs.Share.{FactorOf}
 use Rattle.residue.proofs.Shoup.{prepared}
 use Rattle.monomial.specs.declared.order.Order.{Order}
-use Rattle.monomial.specs.Words.{compareWords}
 use Rattle.monomial.proofs.Places.{and-both}
 use Rattle.polynomial.specs.declared.setting.Setting.{Setting}
 use Rattle.polynomial.specs.Settings.{settingOf, Testable}
-use Rattle.polynomial.specs.Terms.{Term}
 use Rattle.polynomial.specs.Opening.{Within}
-use Rattle.merge_common.specs.Merging.{Made}
 use Rattle.multiple.specs.Multiplying.{Multiplicands, Multiplied}
 use Rattle.probe.specs.Answers.{weightsFit}
 use Rattle.probe.specs.Lending.{checkable, partThere, Factors}
@@ -85,10 +82,6 @@ getD-within [] i d e h = absurd (let z : ⊥ = omega arith in z)
 getD-within (x ∷ l) zero d e h = refl
 getD-within (x ∷ l) (suc i) d e h = getD-within l i d e (omega arith)
 
--- what is said in an order is said in its equal
-pub made-in : {o o' : Order} {p : ℕ} {f g : List (Term ℕ)} {to : ℕ} {ow oc ow' oc' : List ℕ} {len n : ℕ} → o ≡ o' → Made (compareWords o) p f g to ow oc ow' oc' len n → Made (compareWords o') p f g to ow oc ow' oc' len n
-made-in e m = rw e at m
-
 module _ (p v q : ℕ) (f : Factor) (ws cs : List ℕ) (to : ℕ) (ow oc : List ℕ) (k : FactorOf p v f) where
   pub multiplicands : Factors p v q ws cs to ow oc → Multiplicands f q ws cs to ow oc
   multiplicands h = record {
@@ -100,5 +93,5 @@ module _ (p v q : ℕ) (f : Factor) (ws cs : List ℕ) (to : ℕ) (ow oc : List 
     coefs-room = h .coefs-room;
   }
 
-  pub multiplied : {ow' oc' : List ℕ} → Multiplied (f .prime) (f .value) q ws cs to ow oc ow' oc' → Multiplied p v q ws cs to ow oc ow' oc'
-  multiplied h = rw (k .prime-is, k .value-is) at h
+  pub multiplied : {o o' : Order} {ow' oc' : List ℕ} → o ≡ o' → Multiplied o (f .prime) (f .value) q ws cs to ow oc ow' oc' → Multiplied o' p v q ws cs to ow oc ow' oc'
+  multiplied e h = rw (e, k .prime-is, k .value-is) at h

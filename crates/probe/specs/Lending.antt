@@ -1,4 +1,4 @@
--- The tests before a polynomial is checked or a part of it is read, and what its multiple asks. Assumes nothing.
+-- The tests before a polynomial is checked or a part of it is read, what its merge returns, and what its multiple asks. Assumes nothing.
 use Prim.Native.Nat.{ℕ, _+_, _<_, _≤_}
 use mathlib.Core.Bool.{Bool, _&&_}
 use mathlib.Core.List.{List}
@@ -9,8 +9,10 @@ use Rattle.residue.specs.Modular.{Modulus}
 use Rattle.monomial.specs.Words.{Packed}
 use Rattle.polynomial.specs.Checking.{Carried}
 use Rattle.merge_common.specs.Lent.{Poly}
+use Rattle.merge_common.specs.declared.merging.Placed.{Placed}
 use Rattle.multiple.specs.Multiplying.{AllPacked}
 use Rattle.probe.specs.declared.polynomials.CheckNumbers.{CheckNumbers}
+use Rattle.probe.specs.declared.polynomials.Places.{Places}
 use Rattle.probe.specs.Answers.{weightsFit}
 
 -- at most 6 variables, six weights up to 16, and as many coefficients as words
@@ -27,6 +29,10 @@ checkNumbers s = numbers (s .stop) (s .late) (s .seen) (s .last)
 -- polynomial k has both starts, which rise and end within the slice
 unfoldable pub partThere : List ℕ → ℕ → ℕ → Bool
 partThere starts k len = ltb (k + 1) (length starts) && (leb (getD starts k 0) (getD starts (k + 1) 0) && leb (getD starts (k + 1) 0) len)
+
+-- where a merge lies, from what is returned
+abbrev pub placed : Places → Placed
+placed r = record { head = r .head; len = r .len; comparisons = r .comparisons }
 
 -- a polynomial modulo p, a term c·q, and room for the multiple from place `to` on
 pub record Factors (p c q : ℕ) (ws cs : List ℕ) (to : ℕ) (ow oc : List ℕ) : Type 0 where

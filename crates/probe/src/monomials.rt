@@ -21,7 +21,7 @@ ghost use lib.ListN.{length, getD};
 ghost use Rattle.limits.specs.Limits.{largestWeight};
 ghost use Rattle.monomial.specs.Exponents.{orderOf};
 ghost use Rattle.monomial.specs.Layout.{wordOf, fields, inLayout};
-ghost use Rattle.monomial.specs.Words.{keyOf, compareWords, answer, dividesWord};
+ghost use Rattle.monomial.specs.Words.{keyOf, fromKey, compareWords, answer, dividesWord};
 ghost use Rattle.probe.specs.Answers.{packed, comparisonNumber, weightsFit};
 
 const REFUSED: u64 = 0xffff_ffff_ffff_ffff;
@@ -31,6 +31,14 @@ pub extern "C" fn probe_key(order: u32, w: u64) -> u64
     ensures { λ r. ⌜ r ≡ keyOf (orderOf order) w ⌝ }
 {
     order_of(order).key(w)
+}
+
+// The word that has a key.
+#[no_mangle]
+pub extern "C" fn probe_word(order: u32, key: u64) -> u64
+    ensures { λ r. ⌜ r ≡ fromKey (orderOf order) key ⌝ }
+{
+    order_of(order).word(key)
 }
 
 // 0 where x is smaller than y, 1 where they are the same, 2 where x is larger.

@@ -1,11 +1,10 @@
 // Polynomials in lent slices: their opening check, whole and part by part, starts and parts, their
 // merge, and the multiple by a term. An order is its number, 1 to 3; any other number counts as 3.
-// The merges and the multiple ask what the functions that they call ask: whoever calls them tests it
+// The merge and the multiple ask what the functions that they call ask: whoever calls them tests it
 // first.
 use crate::weights::weights_fit;
 use limits::LARGEST_WEIGHT;
-use merge_by_order::merging::merge;
-use merge_by_order::within::merge_within;
+use merge_areas::merge_areas;
 use monomial::order::order_of;
 use multiple::multiple::any_over;
 use multiple::multiple::put_multiple;
@@ -19,17 +18,18 @@ use polynomial::starts::starts_good;
 use residue::factor::Factor;
 ghost use mathlib.Core.Path.{_≡_};
 ghost use mathlib.Core.Bool.{cond, false};
+ghost use Prim.Native.Nat.{_+_, compare};
 ghost use lib.ListN.{length, getD};
 ghost use Rattle.monomial.specs.Exponents.{orderOf};
-ghost use Rattle.monomial.specs.Words.{Packed, compareWords};
+ghost use Rattle.monomial.specs.Words.{Packed};
 ghost use Rattle.polynomial.specs.Settings.{settingOf};
 ghost use Rattle.polynomial.specs.Terms.{terms};
 ghost use Rattle.polynomial.specs.Opening.{polynomialRefusal, startsGood, partOf};
 ghost use Rattle.polynomial.specs.Checking.{polynomialOn};
 ghost use Rattle.merge_common.specs.Lent.{part};
-ghost use Rattle.merge_common.specs.Merging.{Sides, Within, Made};
+ghost use Rattle.merge_areas.specs.Areas.{Areas, MergedIn};
 ghost use Rattle.multiple.specs.Multiplying.{AllPacked, anyOver, Multiplied};
-ghost use Rattle.probe.specs.Lending.{checkable, numbers, checkNumbers, partThere, Factors};
+ghost use Rattle.probe.specs.Lending.{checkable, numbers, checkNumbers, partThere, placed, Factors};
 
 const NO_WORD: u64 = 0xffff_ffff_ffff_ffff;
 
@@ -37,9 +37,10 @@ const NO_COEF: u32 = 0xffff_ffff;
 
 const NOT_CHECKED: u32 = 0xffff_ffff;
 
-// What a merge made: the terms of the result, and the comparisons.
+// Where a merge lies, and the comparisons.
 #[repr(C)]
-pub struct Counts {
+pub struct Places {
+    pub head: usize,
     pub len: usize,
     pub comparisons: u64,
 }
@@ -183,44 +184,25 @@ fn coef_at(coefs: &[u32], i: usize) -> u32
     if i < coefs.len() { coefs[i] } else { NO_COEF }
 }
 
+// Merges the n terms at place a with the m terms at place b, both not empty, with keys for words, to the
+// places from `to` up to to + n + m, where the result ends.
 #[no_mangle]
-pub extern "C" fn probe_merge<'a>(
-    order: u32,
-    p: u32,
-    aw: &'a [u64],
-    ac: &'a [u32],
-    bw: &'a [u64],
-    bc: &'a [u32],
-    ow: &mut [u64],
-    oc: &mut [u32],
-) -> Counts
-    requires { ⌜ Sides p (now aw) (now ac) (now bw) (now bc) (now ow) (now oc) ⌝ }
-    ensures { λ r. ⌜ Made (compareWords (orderOf order)) p (terms (now (aw .entry)) (now (ac .entry))) (terms (now (bw .entry)) (now (bc .entry))) 0 (now (ow .entry)) (now (oc .entry)) (now (ow .exit)) (now (oc .exit)) (r .len) (r .comparisons) ⌝ }
-{
-    let made = merge(order_of(order), p, aw, ac, bw, bc, ow, oc);
-    Counts {
-        len: made.len,
-        comparisons: made.comparisons,
-    }
-}
-
-#[no_mangle]
-pub extern "C" fn probe_merge_within(
-    order: u32,
+pub extern "C" fn probe_merge_areas(
     p: u32,
     ww: &mut [u64],
     wc: &mut [u32],
-    from: usize,
-    len: usize,
+    a: usize,
+    n: usize,
+    b: usize,
+    m: usize,
     to: usize,
-    bw: &[u64],
-    bc: &[u32],
-) -> Counts
-    requires { ⌜ Within p (now ww) (now wc) from len to (now bw) (now bc) ⌝ }
-    ensures { λ r. ⌜ Made (compareWords (orderOf order)) p (terms (part from len (now (ww .entry))) (part from len (now (wc .entry)))) (terms (now (bw .entry)) (now (bc .entry))) to (now (ww .entry)) (now (wc .entry)) (now (ww .exit)) (now (wc .exit)) (r .len) (r .comparisons) ⌝ }
+) -> Places
+    requires { ⌜ Areas p (now ww) (now wc) a n b m to ⌝ }
+    ensures { λ r. ⌜ MergedIn compare p (terms (part a n (now (ww .entry))) (part a n (now (wc .entry)))) (terms (part b m (now (ww .entry))) (part b m (now (wc .entry)))) to (to + (n + m)) (now (ww .entry)) (now (wc .entry)) (now (ww .exit)) (now (wc .exit)) (placed r) ⌝ }
 {
-    let made = merge_within(order_of(order), p, ww, wc, from, len, to, bw, bc);
-    Counts {
+    let made = merge_areas(p, ww, wc, a, n, b, m, to);
+    Places {
+        head: made.head,
         len: made.len,
         comparisons: made.comparisons,
     }
@@ -235,9 +217,10 @@ pub extern "C" fn probe_any_over(q: u64, words: &[u64]) -> bool
     any_over(q, words)
 }
 
-// Puts the polynomial times c·q modulo p into the output from place `to` on.
+// Puts the polynomial times c·q modulo p, with keys for words, into the output from place `to` on.
 #[no_mangle]
 pub extern "C" fn probe_put_multiple(
+    order: u32,
     p: u32,
     c: u32,
     q: u64,
@@ -248,7 +231,16 @@ pub extern "C" fn probe_put_multiple(
     to: usize,
 )
     requires { ⌜ Factors p c q (now words) (now coefs) to (now ow) (now oc) ⌝ }
-    ensures { λ _. ⌜ Multiplied p c q (now (words .entry)) (now (coefs .entry)) to (now (ow .entry)) (now (oc .entry)) (now (ow .exit)) (now (oc .exit)) ⌝ }
+    ensures { λ _. ⌜ Multiplied (orderOf order) p c q (now (words .entry)) (now (coefs .entry)) to (now (ow .entry)) (now (oc .entry)) (now (ow .exit)) (now (oc .exit)) ⌝ }
 {
-    put_multiple(Factor::new(c, p), q, words, coefs, ow, oc, to);
+    put_multiple(
+        order_of(order),
+        Factor::new(c, p),
+        q,
+        words,
+        coefs,
+        ow,
+        oc,
+        to,
+    );
 }

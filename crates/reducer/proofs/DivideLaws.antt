@@ -17,26 +17,30 @@ use Rattle.monomial.specs.Words.{compareWords, Packed, dividesWord}
 use Rattle.monomial.specs.Layout.{Below}
 use Rattle.monomial.proofs.LayoutLaws.{layout-packed}
 use Rattle.polynomial.specs.Terms.{Term, term, terms, All, Canonical}
-use Rattle.polynomial.specs.Multiple.{multiple}
 use Rattle.polynomial.specs.Opening.{partOf, Within}
 use Rattle.polynomial.proofs.StartLaws.{part-long}
 use Rattle.multiple.specs.Multiplying.{AllPacked, anyOver}
 use Rattle.geobucket.specs.Buckets.{held}
-use Rattle.space.specs.Space.{Buckets, bucketsIn, heldIn, dropped}
-use Rattle.space.proofs.SpaceLaws.{held-lens}
+use Rattle.space.specs.Space.{Buckets, heldIn, dropped, Spaces, wordsIn}
+use Rattle.space.proofs.InWords.{held-is as held-places}
 use Rattle.refusal.specs.declared.Refusal.the-variants.{TooManyTerms, ExponentOver}
 use Rattle.call.specs.declared.state.State.{State}
 use Rattle.call.specs.States.{counted, brought, finishedOne, halted}
 use Rattle.search.specs.declared.candidate.Candidate.{Candidate}
-use Rattle.buckets.specs.Adding.{AddDone}
+use Rattle.search.specs.Searching.{without}
+use Rattle.buckets.specs.Adding.{Added}
 use Rattle.division.specs.Divisors.{Valid}
 use Rattle.division.specs.Steps.{anyTooLarge, overWord}
-use Rattle.division.proofs.TailLaws.{multiplier-good, Added, tail-added}
+use Rattle.division.proofs.TailLaws.{multiplier-good, Added as Addable, tail-added}
 use Rattle.division.proofs.WordOperations.{word-operations}
 use Rattle.divisors.specs.Divisors.{leadWord, leadCoef, inOne, inverseIn, Inverting, Multiplying}
 use Rattle.reducer.specs.Divisors.{OfLayout}
-use Rattle.reducer.specs.Dividing.{TailAddition, TailAdded, tailOf, Dividing, toAdd, DividedTo, over, many, divided, Divided}
+use Rattle.reducer.specs.Dividing.{timesTail, TailAddition, TailAdded, tailOf, Dividing, toAdd, DividedTo, over, many, divided, Divided}
 use Rattle.divisors.proofs.InverseLaws.{multiplying}
+
+-- the same places, with the buckets elsewhere
+abbrev pub placed : Buckets → Spaces → Spaces
+placed b x = record { places = b; keys = x .keys; coefs = x .coefs }
 
 -- ---- `anyOver` of words is `anyTooLarge` of terms
 pub over-terms : (q : ℕ) (ws cs : List ℕ) → length cs ≡ length ws → anyTooLarge overWord q (terms ws cs) ≡ anyOver q ws
@@ -65,7 +69,7 @@ part-cons starts k l w rises = by (getD starts (k + 1) 0 - getD starts k 0) (let
 pub from-one : (l : List ℕ) → 1 ≤ length l → take (length l - 1) (drop 1 l) ≡ drop 1 l
 from-one l h = take-all (length l - 1) (drop 1 l) (omega (arith, length-drop 1 l))
 
-module _ {o : Order} {p : ℕ} {words coefs starts : List ℕ} {k : ℕ} {s : State} {lead : Candidate} {inverses : List ℕ} {b : Buckets} {bw bc ww wc mw mc : List ℕ} (a : Dividing o p words coefs starts k s lead inverses b bw bc ww wc mw mc) where
+module _ {o : Order} {p : ℕ} {words coefs starts : List ℕ} {k : ℕ} {s : State} {lead : Candidate} {inverses : List ℕ} {x : Spaces} (a : Dividing o p words coefs starts k s lead inverses x) where
   -- ---- the divisor
   pub words-part : Within starts k (length words)
   words-part = a .checked .parts k (a .high)
@@ -130,28 +134,28 @@ module _ {o : Order} {p : ℕ} {words coefs starts : List ℕ} {k : ℕ} {s : St
   multiplier-small = multiplier-good p (lead .coef) (leadCoef coefs starts k) (a .checked .prime) (a .coef-pos) (a .coef-small) (valid .canonical .reduced .0 .0) (valid .canonical .reduced .0 .1) .1
 
   -- ---- the terms held, less the lead
-  pub held-is : held (bucketsIn b bw bc) ≡ heldIn b
-  held-is = held-lens b (a .stands .laid) bw bc (a .stands .words-long) (a .stands .coefs-long)
+  pub held-is : held (wordsIn o x) ≡ heldIn (x .places)
+  held-is = held-places o (a .stands)
 
   -- ---- the multiple of the tail is added
-  module _ (none : anyOver q (tailOf starts k words) ≡ false) (few : held (bucketsIn (dropped b (lead .bucket)) bw bc) + length (tailOf starts k words) ≤ mostTerms) where
+  module _ (none : anyOver q (tailOf starts k words) ≡ false) (few : held (wordsIn o (without (lead .bucket) x)) + length (tailOf starts k words) ≤ mostTerms) where
     none-large : anyTooLarge overWord q tail ≡ false
     none-large = over-terms q (tailOf starts k words) (tailOf starts k coefs) tail-long ∙ none
 
-    pub to-add : Added (compareWords o) p (OfLayout o (a .checked .weights)) (term (lead .word) (lead .coef)) (toAdd o p words coefs starts k s lead b bw bc)
+    pub to-add : Addable (compareWords o) p (OfLayout o (a .checked .weights)) (term (lead .word) (lead .coef)) (toAdd o p words coefs starts k s lead x)
     to-add = tail-added (compareWords o) dividesWord _-_ _+_ overWord (OfLayout o (a .checked .weights)) (word-operations o 6 (a .checked .weights) (omega arith)) p (a .checked .prime) (term (lead .word) (lead .coef)) divisorLead tail (a .of-layout) (a .coef-pos) (a .coef-small) valid (a .fits) none-large
 
-    module _ {q' : ℕ} (eq : q' ≡ q) {tw tc : List ℕ} (etw : tw ≡ tailOf starts k words) (etc : tc ≡ tailOf starts k coefs) {v : ℕ} (ev : v ≡ multiplier) {f : Factor} (ef : FactorOf p v f) {r : State} (er : r ≡ finishedOne s) {b₁ : Buckets} (eb₁ : b₁ ≡ dropped b (lead .bucket)) where
-      made : multiple (λ x y. x + y) (f .prime) (f .value) q' (terms tw tc) ≡ toAdd o p words coefs starts k s lead b bw bc
+    module _ {q' : ℕ} (eq : q' ≡ q) {tw tc : List ℕ} (etw : tw ≡ tailOf starts k words) (etc : tc ≡ tailOf starts k coefs) {v : ℕ} (ev : v ≡ multiplier) {f : Factor} (ef : FactorOf p v f) {r : State} (er : r ≡ finishedOne s) {b₁ : Buckets} (eb₁ : b₁ ≡ dropped (x .places) (lead .bucket)) where
+      made : timesTail f q' tw tc ≡ toAdd o p words coefs starts k s lead x
       made = rw (ef .prime-is, ef .value-is, ev, eq, etw, etc) refl
 
-      pub tail-addition : TailAddition (compareWords o) p f q' tw tc r b₁ bw bc ww wc mw mc
+      pub tail-addition : TailAddition o p f q' tw tc r (placed b₁ x)
       tail-addition =
-          subst (λ (x : State). TailAddition (compareWords o) p f q' tw tc x b₁ bw bc ww wc mw mc) (sym er)
-          (subst (λ (x : Buckets). TailAddition (compareWords o) p f q' tw tc (finishedOne s) x bw bc ww wc mw mc) (sym eb₁)
+          subst (λ (y : State). TailAddition o p f q' tw tc y (placed b₁ x)) (sym er)
+          (subst (λ (y : Buckets). TailAddition o p f q' tw tc (finishedOne s) (placed y x)) (sym eb₁)
           (record {
             stands = a .rest;
-            multiplicands = record {
+            times = record {
               prepared = record {
                 modulus = subst Modulus (sym (ef .prime-is)) (a .checked .modulus);
                 below = omega (arith, ef .value-is, ef .prime-is, ev, multiplier-small);
@@ -160,21 +164,18 @@ module _ {o : Order} {p : ℕ} {words coefs starts : List ℕ} {k : ℕ} {s : St
               poly = rw (ef .prime-is, etw, etc) (record { long = tail-long; reduced = valid .canonical .reduced .1 });
               monomial = subst Packed (sym eq) quotient-packed;
               packed = subst AllPacked (sym etw) tail-packed;
-              words-room = omega (arith, ap length etw, few, a .scratch-words);
-              coefs-room = omega (arith, ap length etw, few, a .scratch-coefs);
             };
             canonical = subst (Canonical (compareWords o) p) (sym made) (to-add .canonical);
             room = omega (arith, ap length etw, few);
-            work = a .work;
             few-comparisons = a .few-comparisons;
             few-brought = a .few-brought;
           }))
 
-      pub divided-done : {s' : State} {b' : Buckets} {bw' bc' : List ℕ} → TailAdded (compareWords o) p f q' tw tc r b₁ bw bc s' b' bw' bc' → DividedTo o p words coefs starts k s lead b bw bc s' b' bw' bc'
-      divided-done {s'} {b'} {bw'} {bc'} d =
+      pub divided-done : {s' : State} {x' : Spaces} → TailAdded o p f q' tw tc r (placed b₁ x) s' x' → DividedTo o p words coefs starts k s lead x s' x'
+      divided-done {s'} {x'} d =
           divided none few (d .comparisons)
-          (subst (λ (x : List (Term ℕ)). AddDone (compareWords o) p (dropped b (lead .bucket)) x bw bc bw' bc' b' (d .comparisons)) made (subst (λ (x : Buckets). AddDone (compareWords o) p x (multiple (λ x y. x + y) (f .prime) (f .value) q' (terms tw tc)) bw bc bw' bc' b' (d .comparisons)) eb₁ (d .done)))
-          (d .is ∙ ap₂ (λ (x : State) (n : ℕ). brought (counted x (d .comparisons)) n) er (ap length etw))
+          (subst (λ (l : List (Term ℕ)). Added o p (without (lead .bucket) x) l x' (d .comparisons)) made (subst (λ (y : Buckets). Added o p (placed y x) (timesTail f q' tw tc) x' (d .comparisons)) eb₁ (d .done)))
+          (d .is ∙ ap₂ (λ (y : State) (n : ℕ). brought (counted y (d .comparisons)) n) er (ap length etw))
 
 -- ---- the part that is the divisor, as it is handed on
 module _ {x : ℕ} {l gs : List ℕ} (cons : l ≡ x ∷ drop 1 l) (e : gs ≡ l) where
@@ -188,7 +189,7 @@ module _ {x : ℕ} {l gs : List ℕ} (cons : l ≡ x ∷ drop 1 l) (e : gs ≡ l
   part-tail = from-one gs part-some ∙ ap (drop 1) e
 
 -- ---- the tests, as the code makes them
-module _ {o : Order} {p : ℕ} {words coefs starts : List ℕ} {k : ℕ} {s : State} {lead : Candidate} {inverses : List ℕ} {b : Buckets} {bw bc ww wc mw mc : List ℕ} (a : Dividing o p words coefs starts k s lead inverses b bw bc ww wc mw mc) where
+module _ {o : Order} {p : ℕ} {words coefs starts : List ℕ} {k : ℕ} {s : State} {lead : Candidate} {inverses : List ℕ} {x : Spaces} (a : Dividing o p words coefs starts k s lead inverses x) where
   module _ {q' : ℕ} (eq : q' ≡ lead .word - leadWord words starts k) {tw : List ℕ} (etw : tw ≡ tailOf starts k words) where
     pub any-asks : Packed q' × AllPacked tw
     any-asks = (subst Packed (sym eq) (quotient-packed a), subst AllPacked (sym etw) (tail-packed a))
@@ -197,20 +198,20 @@ module _ {o : Order} {p : ℕ} {words coefs starts : List ℕ} {k : ℕ} {s : St
     is-over : t ≡ anyOver (lead .word - leadWord words starts k) (tailOf starts k words)
     is-over = eb ∙ ap₂ anyOver eq etw
 
-    pub over-done : t ≡ true → {s' : State} → s' ≡ halted s ExponentOver → Divided o p words coefs starts k s lead b bw bc s' inverses b bw bc
-    over-done h e = record { kept = a .kept; done = over (sym is-over ∙ h) e refl refl refl }
+    pub over-done : t ≡ true → {s' : State} → s' ≡ halted s ExponentOver → Divided o p words coefs starts k s lead x s' inverses x
+    over-done h e = record { kept = a .kept; done = over (sym is-over ∙ h) e refl }
 
-    module _ (no : t ≡ false) {n : ℕ} (en : n ≡ heldIn b) where
+    module _ (no : t ≡ false) {n : ℕ} (en : n ≡ heldIn (x .places)) where
       pub not-over : anyOver (lead .word - leadWord words starts k) (tailOf starts k words) ≡ false
       not-over = sym is-over ∙ no
 
-      pub many-done : mostTerms < n - 1 + length tw → {s' : State} → s' ≡ halted s TooManyTerms → Divided o p words coefs starts k s lead b bw bc s' inverses b bw bc
-      many-done h e = record { kept = a .kept; done = many not-over (let z : mostTerms < held (bucketsIn (dropped b (lead .bucket)) bw bc) + length (tailOf starts k words) = omega (arith, a .one-less, held-is a, ap length etw) in z) e refl refl refl }
+      pub many-done : mostTerms < n - 1 + length tw → {s' : State} → s' ≡ halted s TooManyTerms → Divided o p words coefs starts k s lead x s' inverses x
+      many-done h e = record { kept = a .kept; done = many not-over (let z : mostTerms < held (wordsIn o (without (lead .bucket) x)) + length (tailOf starts k words) = omega (arith, a .one-less, held-is a, ap length etw) in z) e refl }
 
-      pub few-held : n - 1 + length tw ≤ mostTerms → held (bucketsIn (dropped b (lead .bucket)) bw bc) + length (tailOf starts k words) ≤ mostTerms
+      pub few-held : n - 1 + length tw ≤ mostTerms → held (wordsIn o (without (lead .bucket) x)) + length (tailOf starts k words) ≤ mostTerms
       few-held h = omega (arith, a .one-less, held-is a, ap length etw)
 
-  module _ {n : ℕ} (en : n ≡ heldIn b) where
+  module _ {n : ℕ} (en : n ≡ heldIn (x .places)) where
     pub held-some : 1 ≤ n
     held-some = omega (arith, a .one-less, held-is a)
 
@@ -218,15 +219,15 @@ module _ {o : Order} {p : ℕ} {words coefs starts : List ℕ} {k : ℕ} {s : St
     held-few = omega (arith, a .room, held-is a)
 
   -- ---- −c divided by the lead coefficient
-  module _ {x : ℕ} (ex : x ≡ negative p (lead .coef)) {i : ℕ} (ei : i ≡ inOne p (inverseOf p (leadCoef coefs starts k))) where
-    asked : Multiplying p x i × (inverseIn p i ≡ inverseOf p (leadCoef coefs starts k))
-    asked = multiplying (a .checked .modulus) (inverse-below p (leadCoef coefs starts k) (a .checked .prime) (valid a .canonical .reduced .0 .0) (valid a .canonical .reduced .0 .1)) (omega (arith, ex, negative-below p pos (lead .coef))) ei
+  module _ {v : ℕ} (ev : v ≡ negative p (lead .coef)) {i : ℕ} (ei : i ≡ inOne p (inverseOf p (leadCoef coefs starts k))) where
+    asked : Multiplying p v i × (inverseIn p i ≡ inverseOf p (leadCoef coefs starts k))
+    asked = multiplying (a .checked .modulus) (inverse-below p (leadCoef coefs starts k) (a .checked .prime) (valid a .canonical .reduced .0 .0) (valid a .canonical .reduced .0 .1)) (omega (arith, ev, negative-below p pos (lead .coef))) ei
       where
         pos : 0 < p
         pos = omega (arith, a .checked .modulus .two)
 
-    pub factor-asks : Multiplying p x i
+    pub factor-asks : Multiplying p v i
     factor-asks = asked .0
 
-    pub multiplier-is : product p x (inverseIn p i) ≡ product p (negative p (lead .coef)) (inverseOf p (leadCoef coefs starts k))
-    multiplier-is = ap₂ (product p) ex (asked .1)
+    pub multiplier-is : product p v (inverseIn p i) ≡ product p (negative p (lead .coef)) (inverseOf p (leadCoef coefs starts k))
+    multiplier-is = ap₂ (product p) ev (asked .1)

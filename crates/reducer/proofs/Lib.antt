@@ -2,5 +2,6 @@ pub mod BeginLaws
 pub mod TailLaws
 pub mod DivideLaws
 pub mod FirstLaws
+pub mod LeadLaws
 pub mod StepLaws
 pub mod ReduceLaws

@@ -17,12 +17,12 @@ use Rattle.geobucket.specs.Buckets.{empty, held, Good, add, addCompared}
 use Rattle.geobucket.specs.Events as events
 use Rattle.geobucket.proofs.AddLaws.{adds}
 use Rattle.geobucket.proofs.EventLaws.{room-six}
-use Rattle.space.specs.Space.{Buckets, bucketsIn, noBuckets}
-use Rattle.space.proofs.SpaceLaws.{lists-none, stands-none}
+use Rattle.space.specs.Space.{Buckets, Slices, Spaces, spaces, wordsIn, Standing}
+use Rattle.space.proofs.InWords.{good-words}
 use Rattle.refusal.specs.declared.Refusal.the-variants.{TooManyTerms}
 use Rattle.call.specs.declared.state.State.{State}
 use Rattle.call.specs.States.{begun, counted, brought, halted, goesOn}
-use Rattle.call.specs.Lending.{polynomial, divisorsOf, Addend, Lent, WorkSpace}
+use Rattle.call.specs.Lending.{polynomial, divisorsOf, Addend, Lent}
 use Rattle.division.specs.Choice.{chosen}
 use Rattle.division.specs.Divisors.{AllOf}
 use Rattle.division.specs.Steps.{overWord, stepsFrom, reductionOfWords}
@@ -31,7 +31,7 @@ use Rattle.division.proofs.Endings.{begins, begins-not}
 use Rattle.divisors.specs.Divisors.{KeptLeads, Inverses}
 use Rattle.reducer.specs.Divisors.{OfLayout}
 use Rattle.reducer.specs.Stepping.{Ended, Going, Reaches, Sound, Stepping, Stepped, Beginning, Begun, refused, added, Reducible, Reduced}
-use Rattle.reducer.proofs.BeginLaws.{held-none}
+use Rattle.reducer.proofs.BeginLaws.{held-none, none-held, none-standing}
 use Rattle.reducer.proofs.StepLaws.{false-true, of-every}
 
 -- the steps that may still come
@@ -39,15 +39,13 @@ abbrev pub leftBy : Bool → ℕ → ℕ
 leftBy true n = suc n
 leftBy false n = 0
 
-pub record Turning (o : Order) (p : ℕ) (words coefs starts : List ℕ) (limit : ℕ) (ow₀ oc₀ : List ℕ) (b : Buckets) (bw bc ww wc ow oc inverses mw mc : List ℕ) (s : State) : Type 0 where
-  pub sound : Sound o p words coefs starts limit s b bw bc ow oc
+pub record Turning (o : Order) (p : ℕ) (words coefs starts : List ℕ) (limit : ℕ) (ow₀ oc₀ : List ℕ) (x : Spaces) (ww wc bw bc ow oc inverses : List ℕ) (s : State) : Type 0 where
+  pub sound : Sound o p words coefs starts limit s x ow oc
   pub kept : Inverses p coefs starts inverses
-  pub work : WorkSpace ww wc
-  pub scratch-words : length mw ≡ mostTerms
-  pub scratch-coefs : length mc ≡ mostTerms
+  pub slices : Slices ww wc bw bc
   pub out-long : length ow ≡ length ow₀
   pub coefs-out-long : length oc ≡ length oc₀
-  pub reaches : Reaches o p (divisorsOf words coefs starts) (length ow₀) limit s b bw bc ow oc (reductionOfWords o p (divisorsOf words coefs starts) (length ow₀) limit (polynomial words coefs starts 0))
+  pub reaches : Reaches o p (divisorsOf words coefs starts) (length ow₀) limit s x ow oc (reductionOfWords o p (divisorsOf words coefs starts) (length ow₀) limit (polynomial words coefs starts 0))
   pub words-past : drop (s .places) ow ≡ drop (s .places) ow₀
   pub coefs-past : drop (s .places) oc ≡ drop (s .places) oc₀
 
@@ -71,26 +69,30 @@ module _ {o : Order} {p : ℕ} {words coefs starts : List ℕ} {limit : ℕ} (a 
     }
 
     module _ {b : Buckets} {bw bc ww wc ow oc : List ℕ} (l : Lent b bw bc ww wc ow oc) where
-      pub beginning : Beginning p b bw bc ww wc
-      beginning = record { none = l .none; modulus = a .checked .modulus; words-long = l .words-long; coefs-long = l .coefs-long; work = l .work }
+      pub beginning : Beginning p b
+      beginning = record { none = l .none; modulus = a .checked .modulus }
 
-      module _ {inverses mw mc ww' wc' : List ℕ} (i : Inverses p coefs starts inverses) (lmw : length mw ≡ mostTerms) (lmc : length mc ≡ mostTerms) (lw : length ww' ≡ length ww) (lc : length wc' ≡ length wc) where
-        pub turn-start : {s : State} {b' : Buckets} {bw' bc' : List ℕ} → Begun (compareWords o) p (terms fw fc) bw bc s b' bw' bc' → Turning o p words coefs starts limit ow oc b' bw' bc' ww' wc' ow oc inverses mw mc s
-        turn-start {s} {b'} {bw'} {bc'} d = by d
+      module _ {inverses ww' wc' bw' bc' : List ℕ} (i : Inverses p coefs starts inverses) (q' : Slices ww' wc' bw' bc') where
+        pub turn-start : {s : State} {x' : Spaces} → Begun o p (terms fw fc) (spaces b ww wc bw bc) s x' → Turning o p words coefs starts limit ow oc x' ww' wc' bw' bc' ow oc inverses s
+        turn-start {s} {x'} d = by d
           where
             gs : List (List (Term ℕ))
             gs = divisorsOf words coefs starts
 
+            none : wordsIn o (spaces b ww wc bw bc) ≡ empty
+            none = none-held (l .none) (l .slices) o
+
+            stands : Standing p (spaces b ww wc bw bc)
+            stands = none-standing (l .none) (l .slices) (a .checked .modulus)
+
             f-is : terms fw fc ≡ polynomial words coefs starts 0
             f-is = ap₂ terms ew ec
 
-            from : (x : State) (b' : Buckets) (bw' bc' : List ℕ) → Sound o p words coefs starts limit x b' bw' bc' ow oc → Reaches o p (divisorsOf words coefs starts) (length ow) limit x b' bw' bc' ow oc (reductionOfWords o p (divisorsOf words coefs starts) (length ow) limit (polynomial words coefs starts 0)) → Turning o p words coefs starts limit ow oc b' bw' bc' ww' wc' ow oc inverses mw mc x
-            from x b' bw' bc' s r = record {
+            from : (x : State) (y : Spaces) → Sound o p words coefs starts limit x y ow oc → Reaches o p (divisorsOf words coefs starts) (length ow) limit x y ow oc (reductionOfWords o p (divisorsOf words coefs starts) (length ow) limit (polynomial words coefs starts 0)) → Turning o p words coefs starts limit ow oc y ww' wc' bw' bc' ow oc inverses x
+            from x y s r = record {
               sound = s;
               kept = i;
-              work = record { words-long = lw ∙ l .work .words-long; coefs-long = lc ∙ l .work .coefs-long };
-              scratch-words = lmw;
-              scratch-coefs = lmc;
+              slices = q';
               out-long = refl;
               coefs-out-long = refl;
               reaches = r;
@@ -98,17 +100,17 @@ module _ {o : Order} {p : ℕ} {words coefs starts : List ℕ} {limit : ℕ} (a 
               coefs-past = refl;
             }
 
-            by : Begun (compareWords o) p (terms fw fc) bw bc s b' bw' bc' → Turning o p words coefs starts limit ow oc b' bw' bc' ww' wc' ow oc inverses mw mc s
-            by (refused h es eb ebw ebc) =
+            by : Begun o p (terms fw fc) (spaces b ww wc bw bc) s x' → Turning o p words coefs starts limit ow oc x' ww' wc' bw' bc' ow oc inverses s
+            by (refused h es ex) =
                 let x : State = halted begun TooManyTerms in
-                rw (eb, ebw, ebc)
-                (subst (λ (y : State). Turning o p words coefs starts limit ow oc noBuckets bw bc ww' wc' ow oc inverses mw mc y) (sym es)
-                (from x noBuckets bw bc
+                rw ex
+                (subst (λ (y : State). Turning o p words coefs starts limit ow oc (spaces b ww wc bw bc) ww' wc' bw' bc' ow oc inverses y) (sym es)
+                (from x (spaces b ww wc bw bc)
                 (record {
                   checked = a .checked;
-                  stands = stands-none (compareWords o) p bw bc (a .checked .modulus) (l .words-long) (l .coefs-long);
-                  room = omega (arith, ap held (lists-none bw bc), held-none);
-                  of-layout = subst (AllOf (λ b. All (λ t. OfLayout o (a .checked .weights) (t .mono)) b)) (sym (lists-none bw bc)) (of-every (OfLayout o (a .checked .weights)) empty (every-none (OfLayout o (a .checked .weights))));
+                  stands = stands;
+                  room = omega (arith, ap held (none), held-none);
+                  of-layout = subst (AllOf (λ b. All (λ t. OfLayout o (a .checked .weights) (t .mono)) b)) (sym (none)) (of-every (OfLayout o (a .checked .weights)) empty (every-none (OfLayout o (a .checked .weights))));
                   output = record { same-long = l .same-long; fits = omega arith };
                   few-leads = omega arith;
                   few-places = omega arith;
@@ -119,21 +121,20 @@ module _ {o : Order} {p : ℕ} {words coefs starts : List ℕ} {limit : ℕ} (a 
                 (record {
                   going = λ q. absurd (false-true q);
                   ended = λ q.
-                      subst (Ended x noBuckets bw bc ow oc) (sym (begins-not (compareWords o) (chosen dividesWord gs) _-_ _+_ overWord p (length ow) limit (polynomial words coefs starts 0) (subst (λ (g : List (Term ℕ)). mostTerms < length g) f-is h)))
-                      (record { stop-is = refl; leads-are = refl; remainder-is = refl; counts = record { buckets-are = lists-none bw bc; comparisons-are = refl; brought-are = refl } });
+                      subst (Ended o x (spaces b ww wc bw bc) ow oc) (sym (begins-not (compareWords o) (chosen dividesWord gs) _-_ _+_ overWord p (length ow) limit (polynomial words coefs starts 0) (subst (λ (g : List (Term ℕ)). mostTerms < length g) f-is h)))
+                      (record { stop-is = refl; leads-are = refl; remainder-is = refl; counts = record { buckets-are = none; comparisons-are = refl; brought-are = refl } });
                 })))
             by (added h n e es) =
                 let f = terms fw fc in
                 let valid = a .checked .valid 0 (omega (arith, a .checked .some)) in
-                let none = lists-none bw bc in
-                let lists : bucketsIn b' bw' bc' ≡ add (compareWords o) p f empty = e .lists-are ∙ ap (add (compareWords o) p f) none in
+                let lists : wordsIn o x' ≡ add (compareWords o) p f empty = e .lists-are ∙ ap (add (compareWords o) p f) none in
                 let x : State = brought (counted begun n) (length f) in
-                subst (λ (y : State). Turning o p words coefs starts limit ow oc b' bw' bc' ww' wc' ow oc inverses mw mc y) (sym es)
-                (from x b' bw' bc'
+                subst (λ (y : State). Turning o p words coefs starts limit ow oc x' ww' wc' bw' bc' ow oc inverses y) (sym es)
+                (from x x'
                 (record {
                   checked = a .checked;
                   stands = e .stands;
-                  room = omega (arith, ap held lists, adds (compareWords o) p (words-order o) (omega (arith, a .checked .modulus .two)) f empty (omega (arith, room-six {A = ℕ} empty refl, held-none)) (addend .canonical) (subst (Good (compareWords o) p 4) none (stands-none (compareWords o) p bw bc (a .checked .modulus) (l .words-long) (l .coefs-long) .good)) .size, held-none);
+                  room = omega (arith, ap held lists, adds (compareWords o) p (words-order o) (omega (arith, a .checked .modulus .two)) f empty (omega (arith, room-six {A = ℕ} empty refl, held-none)) (addend .canonical) (subst (Good (compareWords o) p 4) none (good-words o {x = spaces b ww wc bw bc} stands)) .size, held-none);
                   of-layout = subst (AllOf (λ b. All (λ t. OfLayout o (a .checked .weights) (t .mono)) b)) (sym lists) (of-every (OfLayout o (a .checked .weights)) _ (add-every (OfLayout o (a .checked .weights)) (compareWords o) p f empty (subst (All (λ t. OfLayout o (a .checked .weights) (t .mono))) (sym f-is) (valid .are)) (every-none (OfLayout o (a .checked .weights)))));
                   output = record { same-long = l .same-long; fits = omega arith };
                   few-leads = omega arith;
@@ -159,39 +160,34 @@ module _ {o : Order} {p : ℕ} {words coefs starts : List ℕ} {limit : ℕ} (a 
                 }))
 
   -- ---- in a turn
-  module _ {ow₀ oc₀ : List ℕ} {b : Buckets} {bw bc ww wc ow oc inverses mw mc : List ℕ} {s : State} (v : Turning o p words coefs starts limit ow₀ oc₀ b bw bc ww wc ow oc inverses mw mc s) where
+  module _ {ow₀ oc₀ : List ℕ} {x : Spaces} {ww wc bw bc ow oc inverses : List ℕ} {s : State} (v : Turning o p words coefs starts limit ow₀ oc₀ x ww wc bw bc ow oc inverses s) where
     module _ (more : goesOn (s .course) ≡ true) where
-      pub turn-asks : {leads : List ℕ} → KeptLeads words starts leads → Stepping o p words coefs starts leads limit s inverses b bw bc ww wc mw mc ow oc
+      pub turn-asks : {leads : List ℕ} → KeptLeads words starts leads → Stepping o p words coefs starts leads limit s inverses x ow oc
       turn-asks l = record {
         few-steps = a .few-steps;
         more = more;
         sound = v .sound;
         leads-kept = l;
         kept = v .kept;
-        work = v .work;
-        scratch-words = v .scratch-words;
-        scratch-coefs = v .scratch-coefs;
       }
 
-      module _ {s' : State} {inverses' : List ℕ} {b' : Buckets} {bw' bc' ow' oc' : List ℕ} (d : Stepped o p words coefs starts limit s b bw bc ow oc s' inverses' b' bw' bc' ow' oc') where
-        past : {i j : ℕ} (x y : List ℕ) → i ≤ j → drop i x ≡ drop i y → drop j x ≡ drop j y
-        past {i} {j} x y le e =
+      module _ {s' : State} {inverses' : List ℕ} {x' : Spaces} {ow' oc' : List ℕ} (d : Stepped o p words coefs starts limit s x ow oc s' inverses' x' ow' oc') where
+        past : {i j : ℕ} (l m : List ℕ) → i ≤ j → drop i l ≡ drop i m → drop j l ≡ drop j m
+        past {i} {j} l m le e =
             let z : i + (j - i) ≡ j = omega arith in
-            ap (λ (n : ℕ). drop n x) (sym z) ∙ (sym (drop-drop (j - i) i x) ∙ (ap (drop (j - i)) e ∙ (drop-drop (j - i) i y ∙ ap (λ (n : ℕ). drop n y) z)))
+            ap (λ (n : ℕ). drop n l) (sym z) ∙ (sym (drop-drop (j - i) i l) ∙ (ap (drop (j - i)) e ∙ (drop-drop (j - i) i m ∙ ap (λ (n : ℕ). drop n m) z)))
 
-        pub turn-on : {ww' wc' mw' mc' : List ℕ} → length ww' ≡ length ww → length wc' ≡ length wc → length mw' ≡ length mw → length mc' ≡ length mc → length ow' ≡ length ow → length oc' ≡ length oc → Turning o p words coefs starts limit ow₀ oc₀ b' bw' bc' ww' wc' ow' oc' inverses' mw' mc' s'
-        turn-on lw lc lmw lmc low loc = record {
+        pub turn-on : {ww' wc' bw' bc' : List ℕ} → length ww' ≡ length ww → length wc' ≡ length wc → length bw' ≡ length bw → length bc' ≡ length bc → length ow' ≡ length ow → length oc' ≡ length oc → Turning o p words coefs starts limit ow₀ oc₀ x' ww' wc' bw' bc' ow' oc' inverses' s'
+        turn-on lw lc lbw lbc low loc = record {
           sound = d .sound;
           kept = d .kept;
-          work = record { words-long = lw ∙ v .work .words-long; coefs-long = lc ∙ v .work .coefs-long };
-          scratch-words = lmw ∙ v .scratch-words;
-          scratch-coefs = lmc ∙ v .scratch-coefs;
+          slices = record { work-words = lw ∙ v .slices .work-words; work-coefs = lc ∙ v .slices .work-coefs; words-long = lbw ∙ v .slices .words-long; coefs-long = lbc ∙ v .slices .coefs-long };
           out-long = low ∙ v .out-long;
           coefs-out-long = loc ∙ v .coefs-out-long;
           reaches =
               let R = reductionOfWords o p (divisorsOf words coefs starts) (length ow₀) limit (polynomial words coefs starts 0) in
-              let g = subst (λ (n : ℕ). Going o p (divisorsOf words coefs starts) n limit s b bw bc ow oc R) (sym (v .out-long)) (v .reaches .going more) in
-              subst (λ (n : ℕ). Reaches o p (divisorsOf words coefs starts) n limit s' b' bw' bc' ow' oc' R) (v .out-long) (d .reaches R g);
+              let g = subst (λ (n : ℕ). Going o p (divisorsOf words coefs starts) n limit s x ow oc R) (sym (v .out-long)) (v .reaches .going more) in
+              subst (λ (n : ℕ). Reaches o p (divisorsOf words coefs starts) n limit s' x' ow' oc' R) (v .out-long) (d .reaches R g);
           words-past = d .words-past ∙ past ow ow₀ (d .longer) (v .words-past);
           coefs-past = d .coefs-past ∙ past oc oc₀ (d .longer) (v .coefs-past);
         }
@@ -203,7 +199,7 @@ module _ {o : Order} {p : ℕ} {words coefs starts : List ℕ} {limit : ℕ} (a 
             by true e = let q = d .further e in omega (arith, q .0, q .1)
             by false e = omega arith
 
-    pub turn-end : goesOn (s .course) ≡ false → Reduced o p words coefs starts limit ow₀ oc₀ s b bw bc ow oc
+    pub turn-end : goesOn (s .course) ≡ false → Reduced o p words coefs starts limit ow₀ oc₀ s x ow oc
     turn-end e = record {
       stands = v .sound .stands;
       output = v .sound .output;

@@ -20,11 +20,11 @@ use Rattle.multiple.specs.Multiplying.{anyOver}
 use Rattle.geobucket.specs.Buckets.{held, add, addCompared, Canon}
 use Rattle.geobucket.specs.Search.{Lead, none, lead, search, withLead}
 use Rattle.geobucket.specs.Events as events
-use Rattle.geobucket.proofs.SearchLaws.{Within, Fewer, Leads as LeadOf, Finds, search-within, finds}
+use Rattle.geobucket.proofs.SearchLaws.{Fewer, Leads as LeadOf, Finds}
 use Rattle.geobucket.proofs.AddLaws.{adds}
-use Rattle.geobucket.proofs.EventLaws.{good-canon, room-six}
-use Rattle.space.specs.Space.{Buckets, bucketsIn, dropped}
-use Rattle.space.proofs.SpaceLaws.{from-long}
+use Rattle.geobucket.proofs.EventLaws.{room-six}
+use Rattle.space.specs.Space.{Buckets, Spaces, wordsIn}
+use Rattle.space.proofs.InWords.{six-words, good-words}
 use Rattle.refusal.specs.declared.Refusal.the-variants.{NoOutput, TooManyTerms, ExponentOver, StepLimit}
 use Rattle.call.specs.declared.state.Course.{Course}
 use Rattle.call.specs.declared.state.Course.the-variants.{Finished, Refused}
@@ -34,16 +34,15 @@ use Rattle.call.specs.Counts.{Counts}
 use Rattle.call.proofs.OutputLaws.{written-long, grown, grown-output, words-past, coefs-past}
 use Rattle.search.specs.declared.candidate.Candidate.{Candidate}
 use Rattle.search.specs.Candidates.{candidateOf}
-use Rattle.search.specs.Searching.{FindDone, TakeDone}
-use Rattle.search.proofs.FindLaws.{shrunk-long}
-use Rattle.search.proofs.TakeLaws.{Has, the-lead, removal-asks, take-lead}
-use Rattle.buckets.specs.Adding.{AddDone}
+use Rattle.search.specs.Searching.{Found, Taken, without}
+use Rattle.search.proofs.TakeLaws.{Has}
+use Rattle.buckets.specs.Adding.{Added}
 use Rattle.division.specs.Divisors.{AllOf}
 use Rattle.division.specs.Choice.{unfit, fits, chosen}
 use Rattle.division.specs.Division.{tailMultiple}
 use Rattle.division.specs.Steps.{Reduction, anyTooLarge, stoppedBy, stepsFrom, overWord}
 use Rattle.division.proofs.HeldTerms.{Every, OfLead, add-every, search-every}
-use Rattle.division.proofs.TailLaws.{Added}
+use Rattle.division.proofs.TailLaws.{Added as Addable}
 use Rattle.division.proofs.Lasts.{with-every}
 use Rattle.division.proofs.WholeLaws.{left-none, left-held}
 use Rattle.division.proofs.StepLaws.{step-none, step-limit, step-kept, step-full, step-large, step-many, step-divided}
@@ -52,8 +51,9 @@ use Rattle.call.specs.Lending.{divisorsOf}
 use Rattle.reducer.specs.Divisors.{OfLayout}
 use Rattle.reducer.specs.Dividing.{Dividing, DividedTo, over, many, divided, Divided, tailOf}
 use Rattle.reducer.specs.Stepping.{Searched, no-lead, no-step, one-step, Keeping, Kept, full, put, remainderIn, Ended, Sound, Stepping, Stepped}
-use Rattle.reducer.proofs.DivideLaws.{over-terms, tail-long, to-add}
+use Rattle.reducer.proofs.DivideLaws.{placed, over-terms, tail-long, to-add}
 use Rattle.reducer.proofs.FirstLaws.{leads-there, fit-none, fit-some}
+use Rattle.reducer.proofs.LeadLaws.{words-canon, finds-lead, no-answer, the-lead}
 
 pub false-true : false ≡ true → ⊥
 false-true e = let z : _≡_ {A = ℕ} 0 1 = ap (λ (b : Bool). elim b [ true ↦ 1 | false ↦ 0 ]) e in let q : ⊥ = omega arith in q
@@ -70,17 +70,17 @@ of-every P [] a = tt
 of-every P (b ∷ bs) a = (a .0, of-every P bs (a .1))
 
 -- ---- the search
-pub searches : {o : Order} {p : ℕ} {words coefs starts leads : List ℕ} {limit : ℕ} {s : State} {inverses : List ℕ} {b₀ : Buckets} {bw bc ww wc mw mc ow oc : List ℕ} → Stepping o p words coefs starts leads limit s inverses b₀ bw bc ww wc mw mc ow oc → {b : Buckets} {bc' : List ℕ} {k : Candidate} → FindDone (compareWords o) p (bucketsIn b₀ bw bc) b bw bc' k → Countable (s .comparisons) (k .count)
+pub searches : {o : Order} {p : ℕ} {words coefs starts leads : List ℕ} {limit : ℕ} {s : State} {inverses : List ℕ} {x₀ : Spaces} {ow oc : List ℕ} → Stepping o p words coefs starts leads limit s inverses x₀ ow oc → {x₁ : Spaces} {k : Candidate} → Found o p x₀ x₁ k → Countable (s .comparisons) (k .count)
 searches a d = omega (arith, a .sound .few-comparisons (a .more), a .sound .few-leads, a .few-steps, d .few)
 
 -- ---- once the lead was searched for
-module _ {o : Order} {p : ℕ} {words coefs starts leads : List ℕ} {limit : ℕ} {s : State} {inverses : List ℕ} {b₀ : Buckets} {bw bc ww wc mw mc ow oc : List ℕ} (a : Stepping o p words coefs starts leads limit s inverses b₀ bw bc ww wc mw mc ow oc)
-    {b : Buckets} {bc' : List ℕ} {k : Candidate} (d : FindDone (compareWords o) p (bucketsIn b₀ bw bc) b bw bc' k) {t : State} (et : t ≡ counted s (k .count)) where
+module _ {o : Order} {p : ℕ} {words coefs starts leads : List ℕ} {limit : ℕ} {s : State} {inverses : List ℕ} {x₀ : Spaces} {ow oc : List ℕ} (a : Stepping o p words coefs starts leads limit s inverses x₀ ow oc)
+    {x₁ : Spaces} {k : Candidate} (d : Found o p x₀ x₁ k) {t : State} (et : t ≡ counted s (k .count)) where
   abbrev cmp : ℕ → ℕ → Ordering
   cmp = compareWords o
 
   abbrev bs : List (List (Term ℕ))
-  bs = bucketsIn b₀ bw bc
+  bs = wordsIn o x₀
 
   O : TotalOrder ℕ (compareWords o)
   O = words-order o
@@ -88,26 +88,23 @@ module _ {o : Order} {p : ℕ} {words coefs starts leads : List ℕ} {limit : �
   pos : 0 < p
   pos = omega (arith, a .sound .checked .modulus .two)
 
-  canon : Canon (compareWords o) p (bucketsIn b₀ bw bc)
-  canon = good-canon cmp p 4 bs (a .sound .stands .good)
+  canon : Canon (compareWords o) p (wordsIn o x₀)
+  canon = words-canon o (a .sound .stands)
 
-  six : length (bucketsIn b₀ bw bc) ≡ 6
-  six = from-long _ 0 6
+  found : Finds (compareWords o) p (wordsIn o x₀) (search (compareWords o) p (wordsIn o x₀))
+  found = finds-lead (a .sound .stands) d
 
-  found : Finds (compareWords o) p (bucketsIn b₀ bw bc) (search (compareWords o) p (bucketsIn b₀ bw bc))
-  found = finds cmp p O pos bs canon
-
-  every : OfLead (OfLayout o (a .sound .checked .weights)) (search (compareWords o) p (bucketsIn b₀ bw bc) .answer) × Every (OfLayout o (a .sound .checked .weights)) (search (compareWords o) p (bucketsIn b₀ bw bc) .buckets)
+  every : OfLead (OfLayout o (a .sound .checked .weights)) (search (compareWords o) p (wordsIn o x₀) .answer) × Every (OfLayout o (a .sound .checked .weights)) (search (compareWords o) p (wordsIn o x₀) .buckets)
   every = search-every (OfLayout o (a .sound .checked .weights)) cmp p bs (every-of (OfLayout o (a .sound .checked .weights)) bs (a .sound .of-layout))
 
-  left-few : held (withLead (search (compareWords o) p (bucketsIn b₀ bw bc) .answer) (search (compareWords o) p (bucketsIn b₀ bw bc) .buckets)) ≤ mostTerms
+  left-few : held (withLead (search (compareWords o) p (wordsIn o x₀) .answer) (search (compareWords o) p (wordsIn o x₀) .buckets)) ≤ mostTerms
   left-few = by (search cmp p bs .answer) refl
     where
       by : (x : Lead ℕ) → search cmp p bs .answer ≡ x → held (withLead (search cmp p bs .answer) (search cmp p bs .buckets)) ≤ mostTerms
       by none e = omega (arith, left-none cmp p O pos bs canon e)
       by (lead at u) e = let f : held (search cmp p bs .buckets) < held bs = subst (λ (x : Lead ℕ). Fewer cmp p x (search cmp p bs .buckets) bs) e (found .fewer) in omega (arith, left-held cmp p O pos bs canon at u e, a .sound .room)
 
-  count-is : k .count ≡ length (search (compareWords o) p (bucketsIn b₀ bw bc) .pairs)
+  count-is : k .count ≡ length (search (compareWords o) p (wordsIn o x₀) .pairs)
   count-is = ap (λ (x : Candidate). x .count) (d .candidate-is) ∙ by (search cmp p bs .answer) (length (search cmp p bs .pairs))
     where
       by : (x : Lead ℕ) (n : ℕ) → candidateOf x n .count ≡ n
@@ -115,7 +112,7 @@ module _ {o : Order} {p : ℕ} {words coefs starts leads : List ℕ} {limit : �
       by (lead at u) n = refl
 
   -- ---- the step ends the reduction with the lead left where it is
-  halted-sound : (r : Course) → goesOn r ≡ false → Sound o p words coefs starts limit (turned (counted s (k .count)) r) b bw bc' ow oc
+  halted-sound : (r : Course) → goesOn r ≡ false → Sound o p words coefs starts limit (turned (counted s (k .count)) r) x₁ ow oc
   halted-sound r off = record {
     checked = a .sound .checked;
     stands = d .stands;
@@ -129,9 +126,9 @@ module _ {o : Order} {p : ℕ} {words coefs starts leads : List ℕ} {limit : �
     few-brought = λ e. absurd (false-true (sym off ∙ e));
   }
 
-  halted-ended : (r : Course) (R : Reduction ℕ) (w : events.Work ℕ) → Counts s b₀ bw bc w → stoppedBy (compareWords o) p (stopOf r) (s .finished) (remainderIn s ow oc) w ≡ R → Ended (turned (counted s (k .count)) r) b bw bc' ow oc R
+  halted-ended : (r : Course) (R : Reduction ℕ) (w : events.Work ℕ) → Counts o s x₀ w → stoppedBy (compareWords o) p (stopOf r) (s .finished) (remainderIn s ow oc) w ≡ R → Ended o (turned (counted s (k .count)) r) x₁ ow oc R
   halted-ended r R w c e =
-      subst (Ended (turned (counted s (k .count)) r) b bw bc' ow oc) e
+      subst (Ended o (turned (counted s (k .count)) r) x₁ ow oc) e
       (record {
         stop-is = refl;
         leads-are = refl;
@@ -143,10 +140,10 @@ module _ {o : Order} {p : ℕ} {words coefs starts leads : List ℕ} {limit : �
         };
       })
 
-  halted-step : (r : Course) → goesOn r ≡ false → ((w : events.Work ℕ) → Counts s b₀ bw bc w → stepsFrom (compareWords o) (chosen dividesWord (divisorsOf words coefs starts)) _-_ _+_ overWord p (length ow) (limit - s .finished) (s .finished) (remainderIn s ow oc) w ≡ stoppedBy (compareWords o) p (stopOf r) (s .finished) (remainderIn s ow oc) w)
-      → {s' : State} → s' ≡ turned t r → {inverses' : List ℕ} → Inverses p coefs starts inverses' → Stepped o p words coefs starts limit s b₀ bw bc ow oc s' inverses' b bw bc' ow oc
+  halted-step : (r : Course) → goesOn r ≡ false → ((w : events.Work ℕ) → Counts o s x₀ w → stepsFrom (compareWords o) (chosen dividesWord (divisorsOf words coefs starts)) _-_ _+_ overWord p (length ow) (limit - s .finished) (s .finished) (remainderIn s ow oc) w ≡ stoppedBy (compareWords o) p (stopOf r) (s .finished) (remainderIn s ow oc) w)
+      → {s' : State} → s' ≡ turned t r → {inverses' : List ℕ} → Inverses p coefs starts inverses' → Stepped o p words coefs starts limit s x₀ ow oc s' inverses' x₁ ow oc
   halted-step r off steps {s'} es {inverses'} i =
-      subst (λ (x : State). Stepped o p words coefs starts limit s b₀ bw bc ow oc x inverses' b bw bc' ow oc) (sym (es ∙ ap (λ (x : State). turned x r) et))
+      subst (λ (x : State). Stepped o p words coefs starts limit s x₀ ow oc x inverses' x₁ ow oc) (sym (es ∙ ap (λ (x : State). turned x r) et))
       (record {
         sound = halted-sound r off;
         kept = i;
@@ -161,34 +158,21 @@ module _ {o : Order} {p : ℕ} {words coefs starts leads : List ℕ} {limit : �
       })
 
   -- ---- zero was found
-  answer-none : k .bucket ≡ 6 → search (compareWords o) p (bucketsIn b₀ bw bc) .answer ≡ none
-  answer-none h = by (search cmp p bs .answer) refl
-    where
-      long : length (search cmp p bs .buckets) ≡ 6
-      long = shrunk-long (search cmp p bs .buckets) bs (found .short) ∙ six
-
-      by : (x : Lead ℕ) → search cmp p bs .answer ≡ x → search cmp p bs .answer ≡ none
-      by none e = e
-      by (lead at u) e =
-          let w : at < length (search cmp p bs .buckets) = subst (λ (x : Lead ℕ). Within cmp p x (search cmp p bs .buckets)) e (search-within cmp p bs) in
-          let q : k .bucket ≡ at = ap (λ (x : Candidate). x .bucket) (d .candidate-is ∙ ap (λ (x : Lead ℕ). candidateOf x (length (search cmp p bs .pairs))) e) in
-          absurd (let z : ⊥ = omega (arith, w, long, q) in z)
-
-  pub zero-step : k .bucket ≡ 6 → {s' : State} → s' ≡ closed t → Stepped o p words coefs starts limit s b₀ bw bc ow oc s' inverses b bw bc' ow oc
+  pub zero-step : k .bucket ≡ 6 → {s' : State} → s' ≡ closed t → Stepped o p words coefs starts limit s x₀ ow oc s' inverses x₁ ow oc
   zero-step h es =
       halted-step Finished refl
-      (λ w c. step-none cmp (chosen dividesWord (divisorsOf words coefs starts)) _-_ _+_ overWord p (length ow) (limit - s .finished) (s .finished) (remainderIn s ow oc) w (ap (λ (x : List (List (Term ℕ))). search cmp p x .answer) (sym (c .buckets-are)) ∙ answer-none h))
+      (λ w c. step-none cmp (chosen dividesWord (divisorsOf words coefs starts)) _-_ _+_ overWord p (length ow) (limit - s .finished) (s .finished) (remainderIn s ow oc) w (ap (λ (x : List (List (Term ℕ))). search cmp p x .answer) (sym (c .buckets-are)) ∙ no-answer (a .sound .stands) d h))
       es (a .kept)
 
   -- ---- a lead was found
   module _ (ne : k .bucket ≡ 6 → ⊥) where
-    L : Has (search (compareWords o) p (bucketsIn b₀ bw bc) .answer)
-    L = the-lead O canon six d ne
+    L : Has (search (compareWords o) p (wordsIn o x₀) .answer)
+    L = the-lead (a .sound .stands) d ne
 
-    in-work : (w : events.Work ℕ) → Counts s b₀ bw bc w → search (compareWords o) p (w .buckets) .answer ≡ lead (L .at) (L .term)
+    in-work : (w : events.Work ℕ) → Counts o s x₀ w → search (compareWords o) p (w .buckets) .answer ≡ lead (L .at) (L .term)
     in-work w c = ap (λ (x : List (List (Term ℕ))). search cmp p x .answer) (sym (c .buckets-are)) ∙ L .is
 
-    candidate : k ≡ candidateOf (lead (L .at) (L .term)) (length (search (compareWords o) p (bucketsIn b₀ bw bc) .pairs))
+    candidate : k ≡ candidateOf (lead (L .at) (L .term)) (length (search (compareWords o) p (wordsIn o x₀) .pairs))
     candidate = d .candidate-is ∙ ap (λ (x : Lead ℕ). candidateOf x (length (search cmp p bs .pairs))) (L .is)
 
     word-is : k .word ≡ L .term .mono
@@ -200,20 +184,20 @@ module _ {o : Order} {p : ℕ} {words coefs starts leads : List ℕ} {limit : �
     term-is : term (k .word) (k .coef) ≡ L .term
     term-is = ap₂ (λ (m c : ℕ). term m c) word-is coef-is
 
-    reduced : LeadOf (compareWords o) p (lead (L .at) (L .term)) (search (compareWords o) p (bucketsIn b₀ bw bc) .buckets)
+    reduced : LeadOf (compareWords o) p (lead (L .at) (L .term)) (search (compareWords o) p (wordsIn o x₀) .buckets)
     reduced = subst (λ (x : Lead ℕ). LeadOf cmp p x (search cmp p bs .buckets)) (L .is) (found .leads)
 
     word-layout : OfLayout o (a .sound .checked .weights) (k .word)
     word-layout = subst (OfLayout o (a .sound .checked .weights)) (sym word-is) (subst (OfLead (OfLayout o (a .sound .checked .weights))) (L .is) (every .0))
 
-    fewer : held (search (compareWords o) p (bucketsIn b₀ bw bc) .buckets) < held (bucketsIn b₀ bw bc)
+    fewer : held (search (compareWords o) p (wordsIn o x₀) .buckets) < held (wordsIn o x₀)
     fewer = subst (λ (x : Lead ℕ). Fewer cmp p x (search cmp p bs .buckets) bs) (L .is) (found .fewer)
 
-    taken : TakeDone (compareWords o) p (bucketsIn b₀ bw bc) (dropped b (k .bucket)) bw bc' k
-    taken = take-lead O canon six d ne refl
+    taken : Taken o p x₀ (without (k .bucket) x₁) k
+    taken = d .removed ne
 
     -- no step is left
-    pub limit-step : t .finished ≡ limit → {s' : State} → s' ≡ halted t StepLimit → Stepped o p words coefs starts limit s b₀ bw bc ow oc s' inverses b bw bc' ow oc
+    pub limit-step : t .finished ≡ limit → {s' : State} → s' ≡ halted t StepLimit → Stepped o p words coefs starts limit s x₀ ow oc s' inverses x₁ ow oc
     limit-step h es =
         let h' : s .finished ≡ limit = ap (λ (x : State). x .finished) (sym et) ∙ h in
         let none-left : limit - s .finished ≡ 0 = omega arith in
@@ -240,7 +224,7 @@ module _ {o : Order} {p : ℕ} {words coefs starts leads : List ℕ} {limit : �
 
       -- ---- the lead is divided by divisor i
       module _ {i : ℕ} (f : FirstFit words starts (k .word) i) where
-        pub divide-asks : i + 1 < length starts → Dividing o p words coefs starts i t k inverses b bw bc' ww wc mw mc
+        pub divide-asks : i + 1 < length starts → Dividing o p words coefs starts i t k inverses x₁
         divide-asks high =
             record {
               checked = a .sound .checked;
@@ -249,29 +233,26 @@ module _ {o : Order} {p : ℕ} {words coefs starts leads : List ℕ} {limit : �
               fits = f .here high;
               stands = d .stands;
               room = omega (arith, ap held (d .lists-are), left-few);
-              removal = removal-asks O canon six d ne;
+              removal = d .removal ne;
               rest = taken .stands;
-              one-less = ap held (d .lists-are) ∙ (left-held cmp p O pos bs canon (L .at) (L .term) (L .is) ∙ (let z : suc (held (search cmp p bs .buckets)) ≡ held (bucketsIn (dropped b (k .bucket)) bw bc') + 1 = omega (arith, ap held (taken .lists-are)) in z));
+              one-less = ap held (d .lists-are) ∙ (left-held cmp p O pos bs canon (L .at) (L .term) (L .is) ∙ (let z : suc (held (search cmp p bs .buckets)) ≡ held (wordsIn o (without (k .bucket) x₁)) + 1 = omega (arith, ap held (taken .lists-are)) in z));
               of-layout = word-layout;
               coef-pos = omega (arith, coef-is, reduced .0);
               coef-small = omega (arith, coef-is, reduced .1);
               kept = a .kept;
-              work = a .work;
-              scratch-words = a .scratch-words;
-              scratch-coefs = a .scratch-coefs;
               few-leads = subst (λ (x : State). x .finished < 10000000000000) (sym et) (omega (arith, few, a .few-steps));
               few-comparisons = subst (λ (x : State). x .comparisons < 2000000000000000000) (sym et) (omega (arith, few, a .few-steps, a .sound .few-comparisons (a .more), d .few));
               few-brought = subst (λ (x : State). x .brought < 2000000000000000000) (sym et) (omega (arith, few, a .few-steps, a .sound .few-brought (a .more)));
             }
 
-        pub keep-asks : Keeping t k b ow oc
+        pub keep-asks : Keeping t k (x₁ .places) ow oc
         keep-asks =
-            subst (λ (x : State). Keeping x k b ow oc) (sym et)
-            (record { removal = removal-asks O canon six d ne; few-leads = omega (arith, few, a .few-steps); given-are = a .sound .given-are; few-places = a .sound .few-places; output = a .sound .output })
+            subst (λ (x : State). Keeping x k (x₁ .places) ow oc) (sym et)
+            (record { removal = d .removal ne; few-leads = omega (arith, few, a .few-steps); given-are = a .sound .given-are; few-places = a .sound .few-places; output = a .sound .output })
 
         -- the definition finds the same divisor
         module _ (high : i + 1 < length starts) where
-          D : Dividing o p words coefs starts i t k inverses b bw bc' ww wc mw mc
+          D : Dividing o p words coefs starts i t k inverses x₁
           D = divide-asks high
 
           g : Term ℕ
@@ -289,7 +270,7 @@ module _ {o : Order} {p : ℕ} {words coefs starts leads : List ℕ} {limit : �
           large-is : anyTooLarge overWord (L .term .mono - leadWord words starts i) (terms (tailOf starts i words) (tailOf starts i coefs)) ≡ anyOver (k .word - leadWord words starts i) (tailOf starts i words)
           large-is = over-terms (L .term .mono - leadWord words starts i) (tailOf starts i words) (tailOf starts i coefs) (tail-long D) ∙ ap (λ (m : ℕ). anyOver (m - leadWord words starts i) (tailOf starts i words)) (sym word-is)
 
-          rest-is : (w : events.Work ℕ) → Counts s b₀ bw bc w → search (compareWords o) p (w .buckets) .buckets ≡ bucketsIn (dropped b (k .bucket)) bw bc'
+          rest-is : (w : events.Work ℕ) → Counts o s x₀ w → search (compareWords o) p (w .buckets) .buckets ≡ wordsIn o (without (k .bucket) x₁)
           rest-is w c = ap (λ (x : List (List (Term ℕ))). search cmp p x .buckets) (sym (c .buckets-are)) ∙ sym (taken .lists-are)
 
           -- where a step is left
@@ -299,16 +280,16 @@ module _ {o : Order} {p : ℕ} {words coefs starts leads : List ℕ} {limit : �
           at-more : (w : events.Work ℕ) {x : Reduction ℕ} → Steps (suc (limit - suc (s .finished))) (s .finished) (remainderIn s ow oc) w ≡ x → Steps (limit - s .finished) (s .finished) (remainderIn s ow oc) w ≡ x
           at-more w e = ap (λ (m : ℕ). Steps m (s .finished) (remainderIn s ow oc) w) one-left ∙ e
 
-          divided-to : {inverses' : List ℕ} → Inverses p coefs starts inverses' → {bw' bc'' : List ℕ} {b' : Buckets} {m : ℕ}
-              → anyOver (k .word - leadWord words starts i) (tailOf starts i words) ≡ false → held (bucketsIn (dropped b (k .bucket)) bw bc') + length (tailOf starts i words) ≤ mostTerms
-              → AddDone (compareWords o) p (dropped b (k .bucket)) (tailMultiple _-_ _+_ p (L .term) (term (leadWord words starts i) (leadCoef coefs starts i)) (terms (tailOf starts i words) (tailOf starts i coefs))) bw bc' bw' bc'' b' m
-              → Added (compareWords o) p (OfLayout o (a .sound .checked .weights)) (L .term) (tailMultiple _-_ _+_ p (L .term) (term (leadWord words starts i) (leadCoef coefs starts i)) (terms (tailOf starts i words) (tailOf starts i coefs)))
-              → Stepped o p words coefs starts limit s b₀ bw bc ow oc (brought (counted (finishedOne (counted s (k .count))) m) (length (tailOf starts i words))) inverses' b' bw' bc'' ow oc
-          divided-to i' {bw'} {bc''} {b'} {m} no-over small e u = record {
+          divided-to : {inverses' : List ℕ} → Inverses p coefs starts inverses' → {x' : Spaces} {m : ℕ}
+              → anyOver (k .word - leadWord words starts i) (tailOf starts i words) ≡ false → held (wordsIn o (without (k .bucket) x₁)) + length (tailOf starts i words) ≤ mostTerms
+              → Added o p (without (k .bucket) x₁) (tailMultiple _-_ _+_ p (L .term) (term (leadWord words starts i) (leadCoef coefs starts i)) (terms (tailOf starts i words) (tailOf starts i coefs))) x' m
+              → Addable (compareWords o) p (OfLayout o (a .sound .checked .weights)) (L .term) (tailMultiple _-_ _+_ p (L .term) (term (leadWord words starts i) (leadCoef coefs starts i)) (terms (tailOf starts i words) (tailOf starts i coefs)))
+              → Stepped o p words coefs starts limit s x₀ ow oc (brought (counted (finishedOne (counted s (k .count))) m) (length (tailOf starts i words))) inverses' x' ow oc
+          divided-to i' {x'} {m} no-over small e u = record {
             sound = record {
               checked = a .sound .checked;
               stands = e .stands;
-              room = omega (arith, ap held (e .lists-are), adds cmp p O pos h cs (omega (arith, room-six cs (from-long _ 0 6), h-long)) (u .canonical) (taken .stands .good) .size, h-long);
+              room = omega (arith, ap held (e .lists-are), adds cmp p O pos h cs (omega (arith, room-six cs (six-words o (without (k .bucket) x₁)), h-long)) (u .canonical) (good-words o (taken .stands)) .size, h-long);
               of-layout = subst (AllOf (λ b. All (λ t. OfLayout o (a .sound .checked .weights) (t .mono)) b)) (sym (e .lists-are)) (of-every (OfLayout o (a .sound .checked .weights)) _ (add-every (OfLayout o (a .sound .checked .weights)) cmp p h cs (u .are) (subst (Every (OfLayout o (a .sound .checked .weights))) (sym (taken .lists-are)) (every .1))));
               output = a .sound .output;
               few-leads = omega (arith, few);
@@ -340,38 +321,38 @@ module _ {o : Order} {p : ℕ} {words coefs starts leads : List ℕ} {limit : �
               h = tailMultiple _-_ _+_ p (L .term) (term (leadWord words starts i) (leadCoef coefs starts i)) (terms (tailOf starts i words) (tailOf starts i coefs))
 
               cs : List (List (Term ℕ))
-              cs = bucketsIn (dropped b (k .bucket)) bw bc'
+              cs = wordsIn o (without (k .bucket) x₁)
 
               h-long : length (tailMultiple _-_ _+_ p (L .term) (term (leadWord words starts i) (leadCoef coefs starts i)) (terms (tailOf starts i words) (tailOf starts i coefs))) ≡ length (tailOf starts i words)
               h-long = length-multiple _+_ p _ _ (terms (tailOf starts i words) (tailOf starts i coefs)) ∙ tail-is
 
-              pairs-are : (w : events.Work ℕ) (c : Counts s b₀ bw bc w) → s .comparisons + k .count + m ≡ length ((w .pairs ++ search cmp p (w .buckets) .pairs) ++ addCompared cmp p h (search cmp p (w .buckets) .buckets))
+              pairs-are : (w : events.Work ℕ) (c : Counts o s x₀ w) → s .comparisons + k .count + m ≡ length ((w .pairs ++ search cmp p (w .buckets) .pairs) ++ addCompared cmp p h (search cmp p (w .buckets) .buckets))
               pairs-are w c =
                   let x : s .comparisons ≡ length (w .pairs) = c .comparisons-are in
                   let y : k .count ≡ length (search cmp p (w .buckets) .pairs) = count-is ∙ ap (λ (x : List (List (Term ℕ))). length (search cmp p x .pairs)) (c .buckets-are) in
                   let z : m ≡ length (addCompared cmp p h (search cmp p (w .buckets) .buckets)) = e .count-is ∙ ap (λ (x : List (List (Term ℕ))). length (addCompared cmp p h x)) (sym (rest-is w c)) in
                   omega (arith, x, y, z, length-append (w .pairs) (search cmp p (w .buckets) .pairs), length-append (w .pairs ++ search cmp p (w .buckets) .pairs) (addCompared cmp p h (search cmp p (w .buckets) .buckets)))
 
-          pub divided-step : {s' : State} {inverses' : List ℕ} {b' : Buckets} {bw' bc'' : List ℕ} → Divided o p words coefs starts i t k b bw bc' s' inverses' b' bw' bc'' → Stepped o p words coefs starts limit s b₀ bw bc ow oc s' inverses' b' bw' bc'' ow oc
+          pub divided-step : {s' : State} {inverses' : List ℕ} {x' : Spaces} → Divided o p words coefs starts i t k x₁ s' inverses' x' → Stepped o p words coefs starts limit s x₀ ow oc s' inverses' x' ow oc
           unfolding D divide-asks
-          divided-step {s'} {inverses'} {b'} {bw'} {bc''} v = by (v .done)
+          divided-step {s'} {inverses'} {x'} v = by (v .done)
             where
-              by : DividedTo o p words coefs starts i t k b bw bc' s' b' bw' bc'' → Stepped o p words coefs starts limit s b₀ bw bc ow oc s' inverses' b' bw' bc'' ow oc
-              by (over h es eb ew ec) =
-                  rw (eb, ew, ec)
+              by : DividedTo o p words coefs starts i t k x₁ s' x' → Stepped o p words coefs starts limit s x₀ ow oc s' inverses' x' ow oc
+              by (over h es ex) =
+                  rw ex
                   (halted-step (Refused ExponentOver) refl
                   (λ w c. at-more w (step-large cmp (chosen dividesWord (divisorsOf words coefs starts)) _-_ _+_ overWord p (length ow) (limit - suc (s .finished)) (s .finished) (remainderIn s ow oc) w (L .at) (L .term) (in-work w c) i (term (leadWord words starts i) (leadCoef coefs starts i)) (terms (tailOf starts i words) (tailOf starts i coefs)) fit (large-is ∙ h)))
                   es (v .kept))
-              by (many h l es eb ew ec) =
-                  rw (eb, ew, ec)
+              by (many h l es ex) =
+                  rw ex
                   (halted-step (Refused TooManyTerms) refl
                   (λ w c. at-more w (step-many cmp (chosen dividesWord (divisorsOf words coefs starts)) _-_ _+_ overWord p (length ow) (limit - suc (s .finished)) (s .finished) (remainderIn s ow oc) w (L .at) (L .term) (in-work w c) i (term (leadWord words starts i) (leadCoef coefs starts i)) (terms (tailOf starts i words) (tailOf starts i coefs)) fit (large-is ∙ h) (omega (arith, ap held (rest-is w c), tail-is))))
                   es (v .kept))
               by (divided h l m e es) =
-                  subst (λ (x : State). Stepped o p words coefs starts limit s b₀ bw bc ow oc x inverses' b' bw' bc'' ow oc) (sym (es ∙ ap (λ (x : State). brought (counted (finishedOne x) m) (length (tailOf starts i words))) et))
+                  subst (λ (x : State). Stepped o p words coefs starts limit s x₀ ow oc x inverses' x' ow oc) (sym (es ∙ ap (λ (x : State). brought (counted (finishedOne x) m) (length (tailOf starts i words))) et))
                   (divided-to (v .kept) h l
-                  (subst (λ (x : Term ℕ). AddDone cmp p (dropped b (k .bucket)) (tailMultiple _-_ _+_ p x (term (leadWord words starts i) (leadCoef coefs starts i)) (terms (tailOf starts i words) (tailOf starts i coefs))) bw bc' bw' bc'' b' m) term-is e)
-                  (subst (λ (x : Term ℕ). Added cmp p (OfLayout o (a .sound .checked .weights)) x (tailMultiple _-_ _+_ p x (term (leadWord words starts i) (leadCoef coefs starts i)) (terms (tailOf starts i words) (tailOf starts i coefs)))) term-is (to-add D h l)))
+                  (subst (λ (x : Term ℕ). Added o p (without (k .bucket) x₁) (tailMultiple _-_ _+_ p x (term (leadWord words starts i) (leadCoef coefs starts i)) (terms (tailOf starts i words) (tailOf starts i coefs))) x' m) term-is e)
+                  (subst (λ (x : Term ℕ). Addable cmp p (OfLayout o (a .sound .checked .weights)) x (tailMultiple _-_ _+_ p x (term (leadWord words starts i) (leadCoef coefs starts i)) (terms (tailOf starts i words) (tailOf starts i coefs)))) term-is (to-add D h l)))
 
         -- ---- the lead goes to the remainder
         module _ (low : length starts ≤ i + 1) where
@@ -381,13 +362,13 @@ module _ {o : Order} {p : ℕ} {words coefs starts leads : List ℕ} {limit : �
           at-next : (w : events.Work ℕ) {x : Reduction ℕ} → stepsFrom (compareWords o) (chosen dividesWord (divisorsOf words coefs starts)) _-_ _+_ overWord p (length ow) (suc (limit - suc (s .finished))) (s .finished) (remainderIn s ow oc) w ≡ x → stepsFrom (compareWords o) (chosen dividesWord (divisorsOf words coefs starts)) _-_ _+_ overWord p (length ow) (limit - s .finished) (s .finished) (remainderIn s ow oc) w ≡ x
           at-next w e = ap (λ (m : ℕ). stepsFrom cmp (chosen dividesWord (divisorsOf words coefs starts)) _-_ _+_ overWord p (length ow) m (s .finished) (remainderIn s ow oc) w) one-left ∙ e
 
-          pub kept-step : {s' : State} {b' : Buckets} {ow' oc' : List ℕ} → Kept t k b ow oc s' b' ow' oc' → Stepped o p words coefs starts limit s b₀ bw bc ow oc s' inverses b' bw bc' ow' oc'
+          pub kept-step : {s' : State} {b' : Buckets} {ow' oc' : List ℕ} → Kept t k (x₁ .places) ow oc s' b' ow' oc' → Stepped o p words coefs starts limit s x₀ ow oc s' inverses (placed b' x₁) ow' oc'
           kept-step {s'} {b'} {ow'} {oc'} v = by v
             where
               terms-same : t .places ≡ s .places
               terms-same = ap (λ (x : State). x .places) et
 
-              put-to : s .places < length ow → Stepped o p words coefs starts limit s b₀ bw bc ow oc (gave (finishedOne (counted s (k .count))) 1 1) inverses (dropped b (k .bucket)) bw bc' (set ow (s .places) (k .word)) (set oc (s .places) (k .coef))
+              put-to : s .places < length ow → Stepped o p words coefs starts limit s x₀ ow oc (gave (finishedOne (counted s (k .count))) 1 1) inverses (without (k .bucket) x₁) (set ow (s .places) (k .word)) (set oc (s .places) (k .coef))
               put-to h =
                   let out = a .sound .output in
                   let x = k .word ∷ [] in
@@ -430,7 +411,7 @@ module _ {o : Order} {p : ℕ} {words coefs starts leads : List ℕ} {limit : �
                       → stepsFrom (compareWords o) (chosen dividesWord (divisorsOf words coefs starts)) _-_ _+_ overWord p (length ow) (limit - (s .finished + 1)) (s .finished + 1) r (events.removed (compareWords o) p w) ≡ R
                   place-at R w er e = ap₂ (λ (n : ℕ) (r : List (Term ℕ)). stepsFrom cmp (chosen dividesWord (divisorsOf words coefs starts)) _-_ _+_ overWord p (length ow) (limit - n) n r (events.removed cmp p w)) (add-one (s .finished)) er ∙ e
 
-              by : Kept t k b ow oc s' b' ow' oc' → Stepped o p words coefs starts limit s b₀ bw bc ow oc s' inverses b' bw bc' ow' oc'
+              by : Kept t k (x₁ .places) ow oc s' b' ow' oc' → Stepped o p words coefs starts limit s x₀ ow oc s' inverses (placed b' x₁) ow' oc'
               by (full h es eb ew ec) =
                   rw (eb, ew, ec)
                   (halted-step (Refused NoOutput) refl
@@ -439,10 +420,10 @@ module _ {o : Order} {p : ℕ} {words coefs starts leads : List ℕ} {limit : �
               by (put h es eb ew ec) =
                   let ew' : ow' ≡ set ow (s .places) (k .word) = ew ∙ ap (λ (n : ℕ). set ow n (k .word)) terms-same in
                   let ec' : oc' ≡ set oc (s .places) (k .coef) = ec ∙ ap (λ (n : ℕ). set oc n (k .coef)) terms-same in
-                  rw (eb, ew', ec') (subst (λ (x : State). Stepped o p words coefs starts limit s b₀ bw bc ow oc x inverses (dropped b (k .bucket)) bw bc' (set ow (s .places) (k .word)) (set oc (s .places) (k .coef))) (sym (es ∙ ap (λ (x : State). gave (finishedOne x) 1 1) et)) (put-to (omega (arith, terms-same))))
+                  rw (eb, ew', ec') (subst (λ (x : State). Stepped o p words coefs starts limit s x₀ ow oc x inverses (without (k .bucket) x₁) (set ow (s .places) (k .word)) (set oc (s .places) (k .coef))) (sym (es ∙ ap (λ (x : State). gave (finishedOne x) 1 1) et)) (put-to (omega (arith, terms-same))))
 
 -- ---- by what the search came to
-pub ended-step : {o : Order} {p : ℕ} {words coefs starts leads : List ℕ} {limit : ℕ} {s : State} {inverses : List ℕ} {b₀ : Buckets} {bw bc ww wc mw mc ow oc : List ℕ} → Stepping o p words coefs starts leads limit s inverses b₀ bw bc ww wc mw mc ow oc → {b : Buckets} {bc' : List ℕ} {k : Candidate} → FindDone (compareWords o) p (bucketsIn b₀ bw bc) b bw bc' k → {t : State} → Searched s k limit t → goesOn (t .course) ≡ false → Stepped o p words coefs starts limit s b₀ bw bc ow oc t inverses b bw bc' ow oc
+pub ended-step : {o : Order} {p : ℕ} {words coefs starts leads : List ℕ} {limit : ℕ} {s : State} {inverses : List ℕ} {x₀ : Spaces} {ow oc : List ℕ} → Stepping o p words coefs starts leads limit s inverses x₀ ow oc → {x₁ : Spaces} {k : Candidate} → Found o p x₀ x₁ k → {t : State} → Searched s k limit t → goesOn (t .course) ≡ false → Stepped o p words coefs starts limit s x₀ ow oc t inverses x₁ ow oc
 ended-step a d (no-lead h e) off = zero-step a d refl h e
 ended-step a d (no-step n h e) off = limit-step a d refl n h e
 ended-step a d (one-step n h e) off = absurd (false-true (sym off ∙ (ap (λ (x : State). goesOn (x .course)) e ∙ a .more)))

@@ -1,5 +1,8 @@
 // A step that divides its lead.
-use buckets::add::add;
+use buckets::add::FREE;
+use buckets::add::MOST_SMALL;
+use buckets::add::add_small;
+use buckets::last::merge_last;
 use call::state::State;
 use divisors::inverse::factor_by;
 use divisors::inverse::lead_inverse;
@@ -16,8 +19,15 @@ use residue::factor::Factor;
 use search::candidate::Candidate;
 use search::lead::remove_lead;
 use space::state::held;
-ghost use Rattle.monomial.specs.Words.{compareWords};
-ghost use Rattle.reducer.specs.Dividing.{Dividing, Divided, TailAddition, TailAdded};
+ghost use mathlib.Core.List.{map};
+ghost use Prim.Native.Nat.{_≤_};
+ghost use lib.ListN.{length};
+ghost use Rattle.limits.specs.Limits.{mostTerms};
+ghost use Rattle.monomial.specs.Words.{keyOf};
+ghost use Rattle.polynomial.specs.Terms.{terms, words, coefs};
+ghost use Rattle.space.specs.Space.{spaces, Slices};
+ghost use Rattle.buckets.specs.Last.{MergeLast, LastMerged, lastAt};
+ghost use Rattle.reducer.specs.Dividing.{Dividing, Divided, TailAddition, TailAdded, Times, timesTail};
 
 // Divides the lead by divisor k: its tail times −c divided by its lead coefficient, and times the
 // quotient monomial, is added. Refused with 12 where a product has an exponent over 127, then with 11
@@ -37,11 +47,9 @@ pub fn divide<'a>(
     bc: &mut [u32],
     ww: &mut [u64],
     wc: &mut [u32],
-    mw: &mut [u64],
-    mc: &mut [u32],
 ) -> State
-    requires { ⌜ Dividing order p (now words) (now coefs) (now starts) k s lead (now inverses) (now b) (now bw) (now bc) (now ww) (now wc) (now mw) (now mc) ⌝ }
-    ensures { λ r. ⌜ Divided order p (now (words .entry)) (now (coefs .entry)) (now (starts .entry)) k s lead (now (b .entry)) (now (bw .entry)) (now (bc .entry)) r (now (inverses .exit)) (now (b .exit)) (now (bw .exit)) (now (bc .exit)) ⌝ }
+    requires { ⌜ Dividing order p (now words) (now coefs) (now starts) k s lead (now inverses) (spaces (now b) (now ww) (now wc) (now bw) (now bc)) × Slices (now ww) (now wc) (now bw) (now bc) ⌝ }
+    ensures { λ r. ⌜ Divided order p (now (words .entry)) (now (coefs .entry)) (now (starts .entry)) k s lead (spaces (now (b .entry)) (now (ww .entry)) (now (wc .entry)) (now (bw .entry)) (now (bc .entry))) r (now (inverses .exit)) (spaces (now (b .exit)) (now (ww .exit)) (now (wc .exit)) (now (bw .exit)) (now (bc .exit))) ⌝ }
 {
     let gw = words_of(words, starts, k);
     let gc = coefs_of(coefs, starts, k);
@@ -58,31 +66,56 @@ pub fn divide<'a>(
     let factor = factor_by(p, negate(lead.coef, p), inverse);
     remove_lead(b, lead.bucket);
     let r = s.finish();
-    add_tail(order, p, factor, q, tw, tc, r, b, bw, bc, ww, wc, mw, mc)
+    add_tail(order, p, factor, q, tw, tc, r, b, bw, bc, ww, wc)
 }
 
-// Adds the tail times factor·q, which is made in the scratch room mw, mc.
-fn add_tail<'a>(
+// Adds the tail times factor·q. Where one of buckets 0 to 4 takes it, it is made past the areas of the
+// work space.
+fn add_tail(
     order: Order,
     p: u32,
     factor: Factor,
     q: u64,
-    tw: &'a [u64],
-    tc: &'a [u32],
+    tw: &[u64],
+    tc: &[u32],
     s: State,
     b: &mut [usize],
     bw: &mut [u64],
     bc: &mut [u32],
     ww: &mut [u64],
     wc: &mut [u32],
-    mw: &mut [u64],
-    mc: &mut [u32],
 ) -> State
-    requires { ⌜ TailAddition (compareWords order) p factor q (now tw) (now tc) s (now b) (now bw) (now bc) (now ww) (now wc) (now mw) (now mc) ⌝ }
-    ensures { λ r. ⌜ TailAdded (compareWords order) p factor q (now (tw .entry)) (now (tc .entry)) s (now (b .entry)) (now (bw .entry)) (now (bc .entry)) r (now (b .exit)) (now (bw .exit)) (now (bc .exit)) ⌝ }
+    requires { ⌜ TailAddition order p factor q (now tw) (now tc) s (spaces (now b) (now ww) (now wc) (now bw) (now bc)) × Slices (now ww) (now wc) (now bw) (now bc) ⌝ }
+    ensures { λ r. ⌜ TailAdded order p factor q (now (tw .entry)) (now (tc .entry)) s (spaces (now (b .entry)) (now (ww .entry)) (now (wc .entry)) (now (bw .entry)) (now (bc .entry))) r (spaces (now (b .exit)) (now (ww .exit)) (now (wc .exit)) (now (bw .exit)) (now (bc .exit))) ⌝ }
 {
-    put_multiple(factor, q, tw, tc, mw, mc, 0);
     let n = tw.len();
-    let r = add(order, p, b, &mw[0..n], &mc[0..n], bw, bc, ww, wc);
+    if n > MOST_SMALL {
+        let r = add_large(order, p, factor, q, tw, tc, b, bw, bc);
+        return s.compare(r).bring(n);
+    }
+    put_multiple(order, factor, q, tw, tc, ww, wc, FREE);
+    let r = add_small(p, b, n, bw, bc, ww, wc);
     s.compare(r).bring(n)
+}
+
+// Merges the tail times factor·q into the last bucket, and gives the comparisons.
+fn add_large(
+    order: Order,
+    p: u32,
+    factor: Factor,
+    q: u64,
+    tw: &[u64],
+    tc: &[u32],
+    b: &mut [usize],
+    bw: &mut [u64],
+    bc: &mut [u32],
+) -> u64
+    requires { ⌜ Times factor q (now tw) (now tc) × (length (now tw) ≤ mostTerms) × MergeLast p (now b) (map (keyOf order) (words (timesTail factor q (now tw) (now tc)))) (coefs (timesTail factor q (now tw) (now tc))) (now bw) (now bc) ⌝ }
+    ensures { λ r. ⌜ LastMerged p (now (b .entry)) (terms (map (keyOf order) (words (timesTail factor q (now (tw .entry)) (now (tc .entry))))) (coefs (timesTail factor q (now (tw .entry)) (now (tc .entry))))) (lastAt (now (b .entry)) (now (bw .entry)) (now (bc .entry))) (now (bw .exit)) (now (bc .exit)) (now (b .exit)) r ⌝ }
+{
+    let mut keys = [0u64; MOST_TERMS];
+    let mut coefs = [0u32; MOST_TERMS];
+    put_multiple(order, factor, q, tw, tc, &mut keys, &mut coefs, 0);
+    let n = tw.len();
+    merge_last(p, b, &keys[0..n], &coefs[0..n], bw, bc)
 }

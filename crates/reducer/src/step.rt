@@ -7,6 +7,7 @@ use refusal::Refusal;
 use search::candidate::Candidate;
 use search::lead::find_lead;
 use search::lead::remove_lead;
+ghost use Rattle.space.specs.Space.{spaces, Slices};
 ghost use Rattle.call.specs.States.{Countable};
 ghost use Rattle.reducer.specs.Stepping.{Searched, Keeping, Kept, Stepping, Stepped};
 
@@ -27,15 +28,13 @@ pub fn step<'a>(
     bc: &mut [u32],
     ww: &mut [u64],
     wc: &mut [u32],
-    mw: &mut [u64],
-    mc: &mut [u32],
     ow: &mut [u64],
     oc: &mut [u32],
 ) -> State
-    requires { ⌜ Stepping order p (now words) (now coefs) (now starts) (now leads) limit s (now inverses) (now b) (now bw) (now bc) (now ww) (now wc) (now mw) (now mc) (now ow) (now oc) ⌝ }
-    ensures { λ r. ⌜ Stepped order p (now (words .entry)) (now (coefs .entry)) (now (starts .entry)) limit s (now (b .entry)) (now (bw .entry)) (now (bc .entry)) (now (ow .entry)) (now (oc .entry)) r (now (inverses .exit)) (now (b .exit)) (now (bw .exit)) (now (bc .exit)) (now (ow .exit)) (now (oc .exit)) ⌝ }
+    requires { ⌜ Stepping order p (now words) (now coefs) (now starts) (now leads) limit s (now inverses) (spaces (now b) (now ww) (now wc) (now bw) (now bc)) (now ow) (now oc) × Slices (now ww) (now wc) (now bw) (now bc) ⌝ }
+    ensures { λ r. ⌜ Stepped order p (now (words .entry)) (now (coefs .entry)) (now (starts .entry)) limit s (spaces (now (b .entry)) (now (ww .entry)) (now (wc .entry)) (now (bw .entry)) (now (bc .entry))) (now (ow .entry)) (now (oc .entry)) r (now (inverses .exit)) (spaces (now (b .exit)) (now (ww .exit)) (now (wc .exit)) (now (bw .exit)) (now (bc .exit))) (now (ow .exit)) (now (oc .exit)) ⌝ }
 {
-    let lead = find_lead(order, p, b, bw, bc);
+    let lead = find_lead(order, p, b, bw, bc, ww, wc);
     let t = after_search(s, lead, limit);
     if t.goes_on() {
         let k = first_fit(words, starts, leads, lead.word);
@@ -55,8 +54,6 @@ pub fn step<'a>(
                 bc,
                 ww,
                 wc,
-                mw,
-                mc,
             );
         }
         return keep(t, lead, b, ow, oc);

@@ -1,6 +1,6 @@
 // The steps of a reduction in turn.
 use crate::step::step;
-use buckets::add::add;
+use buckets::add::add_polynomial;
 use call::state::State;
 use divisors::divisor::keep_leads;
 use limits::MOST_TERMS;
@@ -10,6 +10,7 @@ use polynomial::part::words_of;
 use refusal::Refusal;
 ghost use Rattle.monomial.specs.Words.{compareWords};
 ghost use Rattle.polynomial.specs.Terms.{terms};
+ghost use Rattle.space.specs.Space.{spaces, Slices};
 ghost use Rattle.call.specs.Lending.{Addend, Lent};
 ghost use Rattle.reducer.specs.Stepping.{Reducible, Beginning, Begun, Reduced};
 
@@ -30,12 +31,10 @@ pub fn reduce_all<'a>(
     oc: &mut [u32],
 ) -> State
     requires { ⌜ Reducible order p (now words) (now coefs) (now starts) limit × Lent (now b) (now bw) (now bc) (now ww) (now wc) (now ow) (now oc) ⌝ }
-    ensures { λ r. ⌜ Reduced order p (now (words .entry)) (now (coefs .entry)) (now (starts .entry)) limit (now (ow .entry)) (now (oc .entry)) r (now (b .exit)) (now (bw .exit)) (now (bc .exit)) (now (ow .exit)) (now (oc .exit)) ⌝ }
+    ensures { λ r. ⌜ Reduced order p (now (words .entry)) (now (coefs .entry)) (now (starts .entry)) limit (now (ow .entry)) (now (oc .entry)) r (spaces (now (b .exit)) (now (ww .exit)) (now (wc .exit)) (now (bw .exit)) (now (bc .exit))) (now (ow .exit)) (now (oc .exit)) ⌝ }
 {
     let mut leads = [0u64; 1024];
     let mut inverses = [0u64; 1024];
-    let mut mw = [0u64; MOST_TERMS];
-    let mut mc = [0u32; MOST_TERMS];
     keep_leads(words, starts, &mut leads);
     let fw = words_of(words, starts, 0);
     let fc = coefs_of(coefs, starts, 0);
@@ -56,8 +55,6 @@ pub fn reduce_all<'a>(
             bc,
             ww,
             wc,
-            &mut mw,
-            &mut mc,
             ow,
             oc,
         );
@@ -66,24 +63,24 @@ pub fn reduce_all<'a>(
 }
 
 // Polynomial 0 is added first. It is refused with 11 where it has over 4,096 terms.
-fn begin<'a>(
+fn begin(
     order: Order,
     p: u32,
-    fw: &'a [u64],
-    fc: &'a [u32],
+    fw: &[u64],
+    fc: &[u32],
     b: &mut [usize],
     bw: &mut [u64],
     bc: &mut [u32],
     ww: &mut [u64],
     wc: &mut [u32],
 ) -> State
-    requires { ⌜ Addend (compareWords order) p (now fw) (now fc) × Beginning p (now b) (now bw) (now bc) (now ww) (now wc) ⌝ }
-    ensures { λ r. ⌜ Begun (compareWords order) p (terms (now (fw .entry)) (now (fc .entry))) (now (bw .entry)) (now (bc .entry)) r (now (b .exit)) (now (bw .exit)) (now (bc .exit)) ⌝ }
+    requires { ⌜ Addend (compareWords order) p (now fw) (now fc) × Beginning p (now b) × Slices (now ww) (now wc) (now bw) (now bc) ⌝ }
+    ensures { λ r. ⌜ Begun order p (terms (now (fw .entry)) (now (fc .entry))) (spaces (now (b .entry)) (now (ww .entry)) (now (wc .entry)) (now (bw .entry)) (now (bc .entry))) r (spaces (now (b .exit)) (now (ww .exit)) (now (wc .exit)) (now (bw .exit)) (now (bc .exit))) ⌝ }
 {
     let s = State::new();
     if fw.len() > MOST_TERMS {
         return s.halt(Refusal::TooManyTerms);
     }
-    let comparisons = add(order, p, b, fw, fc, bw, bc, ww, wc);
+    let comparisons = add_polynomial(order, p, b, fw, fc, bw, bc, ww, wc);
     s.compare(comparisons).bring(fw.len())
 }

@@ -64,4 +64,4 @@ module _ {t : Setting} {words coefs ss : List ℕ} {steps lbw lbc lww lwc low lo
   }
 
 pub spaces : {t : Setting} {words coefs ss : List ℕ} {steps : ℕ} {b : Buckets} → b ≡ noBuckets → (bw bc ww wc ow oc : List ℕ) → ReductionOpened t words coefs ss steps (length bw) (length bc) (length ww) (length wc) (length ow) (length oc) → Lent b bw bc ww wc ow oc
-spaces e bw bc ww wc ow oc o = record { none = e; words-long = o .bucket-words; coefs-long = o .bucket-coefs; work = record { words-long = o .work-words; coefs-long = o .work-coefs }; same-long = sym (o .output) }
+spaces e bw bc ww wc ow oc o = record { none = e; slices = record { work-words = o .work-words; work-coefs = o .work-coefs; words-long = o .bucket-words; coefs-long = o .bucket-coefs }; same-long = sym (o .output) }

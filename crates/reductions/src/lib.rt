@@ -57,10 +57,11 @@ pub fn reduce<'a>(
     if number != 0 {
         return refused(number, tally);
     }
-    let mut b = [0usize; 12];
+    let mut b = [0usize; 18];
     clear(&mut b);
+    let o = order_of(order);
     let s = reduce_all(
-        order_of(order),
+        o,
         p,
         words,
         coefs,
@@ -74,7 +75,7 @@ pub fn reduce<'a>(
         ow,
         oc,
     );
-    settle(&b, bw, bc, ww, wc);
+    settle(o, &b, bw, bc, ww, wc);
     ended(s, &b)
 }
 

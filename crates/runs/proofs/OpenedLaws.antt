@@ -49,7 +49,7 @@ module _ {t : Setting} {words coefs ss ops : List ℕ} {lbw lbc lww lwc low loc 
   abbrev n : ℕ
   n = t .n
 
-  pub loaded : Loaded (compareWords (orderOf order)) p words coefs ss ops
+  pub loaded : Loaded (orderOf order) p words coefs ss ops
   loaded = record {
     modulus = record { two = o .prime .above; limit = omega (arith, o .limit) };
     long = sym (o .lent);
@@ -62,4 +62,4 @@ module _ {t : Setting} {words coefs ss ops : List ℕ} {lbw lbc lww lwc low loc 
   }
 
 pub spaces : {t : Setting} {words coefs ss ops : List ℕ} {b : Buckets} (bw bc ww wc ow oc : List ℕ) → b ≡ noBuckets → Opened t words coefs ss ops (length bw) (length bc) (length ww) (length wc) (length ow) (length oc) → Lent b bw bc ww wc ow oc
-spaces bw bc ww wc ow oc e o = record { none = e; words-long = o .bucket-words; coefs-long = o .bucket-coefs; work = record { words-long = o .work-words; coefs-long = o .work-coefs }; same-long = sym (o .output) }
+spaces bw bc ww wc ow oc e o = record { none = e; slices = record { work-words = o .work-words; work-coefs = o .work-coefs; words-long = o .bucket-words; coefs-long = o .bucket-coefs }; same-long = sym (o .output) }

@@ -57,10 +57,11 @@ pub fn run<'a>(
     if number != 0 {
         return refused(number, tally);
     }
-    let mut b = [0usize; 12];
+    let mut b = [0usize; 18];
     clear(&mut b);
+    let by = order_of(order);
     let s = operate_all(
-        order_of(order),
+        by,
         p,
         words,
         coefs,
@@ -74,7 +75,7 @@ pub fn run<'a>(
         ow,
         oc,
     );
-    settle(&b, bw, bc, ww, wc);
+    settle(by, &b, bw, bc, ww, wc);
     ended(s, &b)
 }
 

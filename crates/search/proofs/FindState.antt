@@ -1,19 +1,18 @@
--- A search under way in the bucket space: what each turn of the loop asks and leaves. Assumes nothing.
+-- A search under way in the spaces: what each turn of the loop asks and leaves. Assumes nothing.
 use mathlib.Core.Path.{_≡_, refl, sym, ap, ap₂, _∙_, subst}
 use mathlib.Core.List.{List, [], _∷_, _++_}
 use Prim.Native.Nat.{ℕ, suc, _+_, _-_, _<_, _≤_, Ordering}
 use native.Mathlib.Nat.{zero-add}
 use native.Mathlib.Omega.{arith}
 use lib.ListN.{length, getD}
-use Rattle.limits.specs.Limits.{bucketPlaces}
 use Rattle.residue.specs.Modular.{Modulus}
 use Rattle.monomial.specs.TotalOrder.{TotalOrder}
 use Rattle.polynomial.specs.Terms.{Term, term}
 use Rattle.geobucket.specs.Buckets.{held, Good, Canon}
 use Rattle.geobucket.specs.Search.{Pass, Lead, none, lead, Searched, pass, search, putBack, withLead}
-use Rattle.space.specs.Space.{Buckets, headAt, listFrom, bucketAt, bucketsIn, Laid, Stands, dropped}
+use Rattle.space.specs.Space.{Buckets, allPlaces, headAt, listFrom, bucketAt, bucketsIn, Laid, Stands, dropped}
 use Rattle.space.proofs.Starts.{cap-zero, six}
-use Rattle.space.proofs.SpaceLaws.{from-long, good-at, canon-from, canon-at, good-from, held-short, bucket-short, bucket-none, bucket-lead, head-in, dropped-laid, dropped-other, some-of, drop-here}
+use Rattle.space.proofs.SpaceLaws.{from-long, good-at, canon-from, canon-at, good-from, held-short, bucket-short, bucket-none, bucket-lead, dropped-laid, dropped-other, some-of, drop-here}
 use Rattle.search.specs.declared.candidate.Candidate.{Candidate}
 use Rattle.search.specs.Candidates.{candidateOf}
 use Rattle.search.specs.Searching.{Seek, SeekDone, passFrom, FirstHeld, Removal, FindDone}
@@ -21,8 +20,8 @@ use Rattle.search.proofs.FindLaws.{pass-first, pass-none, put-append, F
 
 pub record Finds (cmp : ℕ → ℕ → Ordering) (p : ℕ) (bs : List (List (Term ℕ))) (sw : List ℕ) (b : Buckets) (n : ℕ) (sc : List ℕ) (i : ℕ) : Type 0 where
   pub modulus : Modulus p
-  pub words-long : length sw ≡ bucketPlaces
-  pub coefs-long : length sc ≡ bucketPlaces
+  pub words-long : length sw ≡ allPlaces
+  pub coefs-long : length sc ≡ allPlaces
   pub laid : Laid b
   pub first : FirstHeld b i
   pub state : Finding cmp p (search cmp p bs) (bucketsIn b sw sc) n
@@ -44,8 +43,8 @@ finds-start {cmp} {p} {b} {sw} {sc} s f = record {
       (let e = held-short (bucketAt b sw sc) 6 0 (λ j u w. bucket-short b (s .laid) sw sc (s .words-long) (s .coefs-long) j (omega arith)) in omega (arith, e, six));
 }
 
--- buckets that are canonical and lie in the bucket space are good
-pub stands-by : {cmp : ℕ → ℕ → Ordering} {p : ℕ} {b : Buckets} {sw sc : List ℕ} → Modulus p → length sw ≡ bucketPlaces → length sc ≡ bucketPlaces → Laid b → Canon cmp p (bucketsIn b sw sc) → Stands cmp p b sw sc
+-- buckets that are canonical and lie in the spaces are good
+pub stands-by : {cmp : ℕ → ℕ → Ordering} {p : ℕ} {b : Buckets} {sw sc : List ℕ} → Modulus p → length sw ≡ allPlaces → length sc ≡ allPlaces → Laid b → Canon cmp p (bucketsIn b sw sc) → Stands cmp p b sw sc
 stands-by {cmp} {p} {b} {sw} {sc} m hw hc l c = record {
   modulus = m;
   words-long = hw;
@@ -79,12 +78,9 @@ module _ {cmp : ℕ → ℕ → Ordering} {p : ℕ} {bs : List (List (Term ℕ))
         }
 
   -- ---- a turn
-  module _ (h : i < 6) {at : ℕ} (ea : at ≡ headAt b i) where
-    pub first-head : at < bucketPlaces
-    first-head = omega (arith, ea, head-in b i (v .laid) h (v .first .held h))
-
+  module _ (h : i < 6) {key coef : ℕ} (ek : key ≡ getD sw (headAt b i) 0) (ec : coef ≡ getD sc (headAt b i) 0) where
     abbrev begun : Candidate
-    begun = record { bucket = i; word = getD sw at 0; coef = getD sc at 0; count = n }
+    begun = record { bucket = i; word = key; coef = coef; count = n }
 
     pub seek-asks : Seek cmp p b begun sw sc
     seek-asks = record {
@@ -95,8 +91,8 @@ module _ {cmp : ℕ → ℕ → Ordering} {p : ℕ} {bs : List (List (Term ℕ))
       canonical = λ j l. canon-at cmp p (bucketAt b sw sc) 6 0 (v .state .canon) j (omega arith) (omega arith);
       within = h;
       some = v .first .held h;
-      word-is = ap (λ (x : ℕ). getD sw x 0) ea;
-      coef-is = ap (λ (x : ℕ). getD sc x 0) ea;
+      word-is = ek;
+      coef-is = ec;
       few = omega (arith, v .state .few);
     }
 
@@ -111,7 +107,7 @@ module _ {cmp : ℕ → ℕ → Ordering} {p : ℕ} {bs : List (List (Term ℕ))
       is-pass =
           let e : i + suc (5 - i) ≡ 6 = omega arith in
           let z : 0 + i ≡ i = omega arith in
-          let own = bucket-lead b i (v .laid) h (v .first .held h) sw sc (v .words-long) (v .coefs-long) ∙ ap (λ (x : ℕ). term (getD sw x 0) (getD sc x 0) ∷ bucketAt (dropped b i) sw sc i) (sym ea) in
+          let own = bucket-lead b i (v .laid) h (v .first .held h) sw sc (v .words-long) (v .coefs-long) ∙ ap₂ (λ (w x : ℕ). term w x ∷ bucketAt (dropped b i) sw sc i) (sym ek) (sym ec) in
           let r = pass-first cmp p (bucketAt b sw sc) i 0 (5 - i) (λ j l. ap (bucketAt b sw sc) (zero-add j) ∙ empty-below j l) (term (begun .word) (begun .coef)) (bucketAt (dropped b i) sw sc i) (ap (bucketAt b sw sc) z ∙ own) in
           rw (z, e) at r
 

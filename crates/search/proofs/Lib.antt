@@ -4,3 +4,4 @@ pub mod FirstLaws
 pub mod FindLaws
 pub mod FindState
 pub mod TakeLaws
+pub mod WordLaws

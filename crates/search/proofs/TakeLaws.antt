@@ -24,18 +24,23 @@ pub record Has (a : Lead ℕ) : Type 0 where
   pub term : Term ℕ
   pub is : a ≡ lead at term
 
-module _ {cmp : ℕ → ℕ → Ordering} {p : ℕ} {bs : List (List (Term ℕ))} {b : Buckets} {sw sc : List ℕ} {c : Candidate} (O : TotalOrder ℕ cmp) (canon : Canon cmp p bs) (six : length bs ≡ 6) (d : FindDone cmp p bs b sw sc c) where
+module _ {cmp : ℕ → ℕ → Ordering} {p : ℕ} (bs : List (List (Term ℕ))) (O : TotalOrder ℕ cmp) (pos : 0 < p) (canon : Canon cmp p bs) (six : length bs ≡ 6) where
   found : Finds cmp p bs (search cmp p bs)
-  found = finds cmp p O (omega (arith, d .stands .modulus .two)) bs canon
+  found = finds cmp p O pos bs canon
 
   long : length (search cmp p bs .buckets) ≡ 6
   long = shrunk-long (search cmp p bs .buckets) bs (found .short) ∙ six
 
+  -- a lead is in one of the six buckets
+  pub inside : (at : ℕ) (t : Term ℕ) → search cmp p bs .answer ≡ lead at t → at < 6
+  inside at t e = let w : at < length (search cmp p bs .buckets) = subst (λ (a : Lead ℕ). Within cmp p a (search cmp p bs .buckets)) e (search-within cmp p bs) in omega (arith, w, long)
+
+module _ {cmp : ℕ → ℕ → Ordering} {p : ℕ} {bs : List (List (Term ℕ))} {b : Buckets} {sw sc : List ℕ} {c : Candidate} (O : TotalOrder ℕ cmp) (canon : Canon cmp p bs) (six : length bs ≡ 6) (d : FindDone cmp p bs b sw sc c) where
+  pos : 0 < p
+  pos = omega (arith, d .stands .modulus .two)
+
   bucket-of : (a : Lead ℕ) → search cmp p bs .answer ≡ a → c .bucket ≡ candidateOf a (length (search cmp p bs .pairs)) .bucket
   bucket-of a e = ap (λ (k : Candidate). k .bucket) (d .candidate-is ∙ ap (λ (x : Lead ℕ). candidateOf x (length (search cmp p bs .pairs))) e)
-
-  inside : (at : ℕ) (t : Term ℕ) → search cmp p bs .answer ≡ lead at t → at < 6
-  inside at t e = let w : at < length (search cmp p bs .buckets) = subst (λ (a : Lead ℕ). Within cmp p a (search cmp p bs .buckets)) e (search-within cmp p bs) in omega (arith, w, long)
 
   -- zero was found: nothing is to be removed
   pub take-none : c .bucket ≡ 6 → TakeDone cmp p bs b sw sc c
@@ -43,7 +48,7 @@ module _ {cmp : ℕ → ℕ → Ordering} {p : ℕ} {bs : List (List (Term ℕ))
     where
       by : (a : Lead ℕ) → search cmp p bs .answer ≡ a → TakeDone cmp p bs b sw sc c
       by none q = record { candidate-is = d .candidate-is; few = d .few; lists-are = d .lists-are ∙ ap (λ (a : Lead ℕ). withLead a (search cmp p bs .buckets)) q; stands = d .stands }
-      by (lead at t) q = absurd (let z : ⊥ = omega (arith, inside at t q, bucket-of (lead at t) q) in z)
+      by (lead at t) q = absurd (let z : ⊥ = omega (arith, inside bs O pos canon six at t q, bucket-of (lead at t) q) in z)
 
   module _ (ne : c .bucket ≡ 6 → ⊥) where
     pub the-lead : Has (search cmp p bs .answer)
@@ -57,10 +62,10 @@ module _ {cmp : ℕ → ℕ → Ordering} {p : ℕ} {bs : List (List (Term ℕ))
     at-is = bucket-of (lead (the-lead .at) (the-lead .term)) (the-lead .is)
 
     within : c .bucket < 6
-    within = omega (arith, at-is, inside (the-lead .at) (the-lead .term) (the-lead .is))
+    within = omega (arith, at-is, inside bs O pos canon six (the-lead .at) (the-lead .term) (the-lead .is))
 
     at-front : Fronted (bucketAt b sw sc) 0 6 (the-lead .at) (the-lead .term) (search cmp p bs .buckets)
-    at-front = fronted (bucketAt b sw sc) 6 0 (the-lead .at) (the-lead .term) (search cmp p bs .buckets) (d .lists-are ∙ ap (λ (a : Lead ℕ). withLead a (search cmp p bs .buckets)) (the-lead .is)) (inside (the-lead .at) (the-lead .term) (the-lead .is)) long
+    at-front = fronted (bucketAt b sw sc) 6 0 (the-lead .at) (the-lead .term) (search cmp p bs .buckets) (d .lists-are ∙ ap (λ (a : Lead ℕ). withLead a (search cmp p bs .buckets)) (the-lead .is)) (inside bs O pos canon six (the-lead .at) (the-lead .term) (the-lead .is)) (long bs O pos canon six)
 
     own : bucketAt b sw sc (c .bucket) ≡ the-lead .term ∷ at-front .rest
     own = ap (bucketAt b sw sc) (at-is ∙ sym (zero-add (the-lead .at))) ∙ at-front .front
@@ -83,5 +88,5 @@ module _ {cmp : ℕ → ℕ → Ordering} {p : ℕ} {bs : List (List (Term ℕ))
           candidate-is = d .candidate-is;
           few = d .few;
           lists-are = lists;
-          stands = stands-by (s .modulus) (s .words-long) (s .coefs-long) (subst Laid (sym e) (dropped-laid b (c .bucket) (s .laid) within (removal-asks .some))) (subst (Canon cmp p) (sym lists) (found .canon));
+          stands = stands-by (s .modulus) (s .words-long) (s .coefs-long) (subst Laid (sym e) (dropped-laid b (c .bucket) (s .laid) within (removal-asks .some))) (subst (Canon cmp p) (sym lists) (found bs O pos canon six .canon));
         }

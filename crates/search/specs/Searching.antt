@@ -3,15 +3,42 @@ use Prim.Native.Nat.{ℕ, suc, _+_, _-_, _<_, _≤_, Ordering}
 use mathlib.Core.Path.{_≡_}
 use mathlib.Core.List.{List, _∷_, _++_}
 use lib.ListN.{length, getD}
-use Rattle.limits.specs.Limits.{bucketPlaces}
 use Rattle.residue.specs.Modular.{Modulus}
+use Rattle.monomial.specs.declared.order.Order.{Order}
+use Rattle.monomial.specs.Words.{compareWords}
 use Rattle.polynomial.specs.Terms.{Term, term, Canonical}
 use Rattle.geobucket.specs.Search.{Pass, seek, search, putBack, withLead}
-use Rattle.space.specs.Space.{Buckets, headAt, lenAt, listFrom, bucketAt, bucketsIn, Laid, Stands, dropped}
+use Rattle.space.specs.Space.{Buckets, allPlaces, headAt, lenAt, listFrom, bucketAt, bucketsIn, Laid, Stands, Spaces, wordsIn, Standing, dropped}
 use Rattle.search.specs.declared.candidate.Candidate.{Candidate}
 use Rattle.search.specs.Candidates.{candidateOf}
 
--- the lead is that of the published search, left in its bucket with like terms combined, with the search's comparisons
+-- a bucket that has a lead
+pub record Removal (b : Buckets) (i : ℕ) : Type 0 where
+  pub laid : Laid b
+  pub within : i < 6
+  pub some : 0 < lenAt b i
+
+-- the lead, as a word, is that of the published search, with the search's comparisons, and is removed from its bucket
+pub record Taken (o : Order) (p : ℕ) (x x' : Spaces) (c : Candidate) : Type 0 where
+  pub candidate-is : c ≡ candidateOf (search (compareWords o) p (wordsIn o x) .answer) (length (search (compareWords o) p (wordsIn o x) .pairs))
+  pub few : c .count ≤ 50000
+  pub lists-are : wordsIn o x' ≡ search (compareWords o) p (wordsIn o x) .buckets
+  pub stands : Standing p x'
+
+-- the spaces without the lead of bucket i
+abbrev pub without : ℕ → Spaces → Spaces
+without i x = record { places = dropped (x .places) i; keys = x .keys; coefs = x .coefs }
+
+-- the same, with the lead left in its bucket, like terms combined; a lead that was found may be removed
+pub record Found (o : Order) (p : ℕ) (x x' : Spaces) (c : Candidate) : Type 0 where
+  pub candidate-is : c ≡ candidateOf (search (compareWords o) p (wordsIn o x) .answer) (length (search (compareWords o) p (wordsIn o x) .pairs))
+  pub few : c .count ≤ 50000
+  pub lists-are : wordsIn o x' ≡ withLead (search (compareWords o) p (wordsIn o x) .answer) (search (compareWords o) p (wordsIn o x) .buckets)
+  pub stands : Standing p x'
+  pub removal : (c .bucket ≡ 6 → ⊥) → Removal (x' .places) (c .bucket)
+  pub removed : (c .bucket ≡ 6 → ⊥) → Taken o p x (without (c .bucket) x') c
+
+-- by keys: the lead is that of the published search, left in its bucket with like terms combined, with the search's comparisons
 pub record FindDone (cmp : ℕ → ℕ → Ordering) (p : ℕ) (bs : List (List (Term ℕ))) (b : Buckets) (sw sc : List ℕ) (c : Candidate) : Type 0 where
   pub candidate-is : c ≡ candidateOf (search cmp p bs .answer) (length (search cmp p bs .pairs))
   pub few : c .count ≤ 50000
@@ -25,12 +52,6 @@ pub record TakeDone (cmp : ℕ → ℕ → Ordering) (p : ℕ) (bs : List (List 
   pub lists-are : bucketsIn b sw sc ≡ search cmp p bs .buckets
   pub stands : Stands cmp p b sw sc
 
--- a bucket that has a lead
-pub record Removal (b : Buckets) (i : ℕ) : Type 0 where
-  pub laid : Laid b
-  pub within : i < 6
-  pub some : 0 < lenAt b i
-
 pub record FirstHeld (b : Buckets) (i : ℕ) : Type 0 where
   pub most : i ≤ 6
   pub below : (j : ℕ) → j < i → lenAt b j ≡ 0
@@ -39,8 +60,8 @@ pub record FirstHeld (b : Buckets) (i : ℕ) : Type 0 where
 -- the candidate is the lead of its bucket
 pub record Seek (cmp : ℕ → ℕ → Ordering) (p : ℕ) (b : Buckets) (c : Candidate) (sw sc : List ℕ) : Type 0 where
   pub modulus : Modulus p
-  pub words-long : length sw ≡ bucketPlaces
-  pub coefs-long : length sc ≡ bucketPlaces
+  pub words-long : length sw ≡ allPlaces
+  pub coefs-long : length sc ≡ allPlaces
   pub laid : Laid b
   pub canonical : (j : ℕ) → j < 6 → Canonical cmp p (bucketAt b sw sc j)
   pub within : c .bucket < 6
@@ -56,7 +77,7 @@ passFrom cmp p b c sw sc = seek cmp p (term (c .word) (c .coef)) (bucketAt (drop
 -- the pass's last candidate, with its comparisons, stands in front of its bucket
 pub record SeekDone (cmp : ℕ → ℕ → Ordering) (p : ℕ) (b : Buckets) (c : Candidate) (sw sc sc' : List ℕ) (b' : Buckets) (d : Candidate) : Type 0 where
   pub laid : Laid b'
-  pub coefs-long : length sc' ≡ bucketPlaces
+  pub coefs-long : length sc' ≡ allPlaces
   pub bucket-is : d .bucket ≡ c .bucket + passFrom cmp p b c sw sc .at
   pub term-is : term (d .word) (d .coef) ≡ passFrom cmp p b c sw sc .lead
   pub count-is : d .count ≡ c .count + length (passFrom cmp p b c sw sc .pairs)

@@ -1,13 +1,14 @@
 // What a search keeps on its way through the buckets.
+use monomial::order::Order;
 use residue::arithmetic::add;
 ghost use mathlib.Core.Path.{_≡_};
 ghost use Prim.Native.Nat.{_<_, _≤_};
 ghost use Rattle.residue.specs.Modular.{Modulus};
-ghost use Rattle.search.specs.Candidates.{candidateOf, joined, passedBy, replacedBy};
+ghost use Rattle.search.specs.Candidates.{candidateOf, joined, passedBy, replacedBy, saidIn};
 ghost use Rattle.geobucket.specs.Search.{none};
 
-// The largest lead so far: its bucket (6 for none), the comparisons made, its monomial, and its
-// coefficient with those of the like leads.
+// The largest lead so far: its bucket (6 for none), the comparisons made, its monomial, as a key until
+// the search is done, and its coefficient with those of the like leads.
 pub struct Candidate {
     pub bucket: usize,
     pub count: u64,
@@ -58,5 +59,15 @@ impl Candidate {
             word,
             coef,
         }
+    }
+
+    // The search is done: the key becomes a word.
+    pub fn in_words(mut self, order: Order) -> Self
+        ensures { λ r. ⌜ r ≡ saidIn order self ⌝ }
+    {
+        if self.bucket != 6 {
+            self.word = order.word(self.word);
+        }
+        self
     }
 }

@@ -1,21 +1,22 @@
--- The buckets in the bucket space: what a change of one bucket's places leaves of the others. Assumes nothing.
+-- The buckets in the spaces: what a change of one bucket's places leaves of the others. Assumes nothing.
 use mathlib.Core.Path.{_≡_, refl, sym, ap, ap₂, _∙_, subst}
 use mathlib.Core.List.{List, [], _∷_, _++_, append-assoc}
 use mathlib.Core.Logic.{_⊎_, inl, inr, ⊎-elim}
-use Prim.Native.Nat.{ℕ, zero, suc, _+_, _-_, _*_, _<_, _≤_, min, Ordering}
+use Prim.Native.Nat.{ℕ, zero, suc, _+_, _-_, _*_, _<_, _≤_, Ordering}
 use native.Mathlib.Decide.{decLe}
 use native.Mathlib.Omega.{arith}
-use lib.ListN.{length, take, drop, set, getD, length-take, length-drop, length-set}
-use lib.Seq.{sets, ext-getD, length-sets, sets-eq, take-at, drop-at, length-take-le, getD-set-same, getD-set-other, set-getD, drop-cons}
-use Rattle.limits.specs.Limits.{bucketPlaces}
+use lib.ListN.{length, take, drop, set, getD, length-set}
+use lib.Seq.{sets, length-sets, sets-eq, take-at, drop-at, length-take-le, getD-set-same, getD-set-other, set-getD, drop-cons}
+use Rattle.limits.specs.Limits.{bucketPlaces, workPlaces}
 use Rattle.merge_common.specs.Lent.{Poly, part, Apart}
-use Rattle.merge_common.proofs.Lists.{sets-append, getD-sets-other, getD-part, length-part}
+use Rattle.merge_common.proofs.Lists.{sets-append, getD-sets-other, length-part}
 use Rattle.polynomial.specs.Terms.{Term, term, terms, Canonical}
 use Rattle.polynomial.proofs.TermLists.{length-terms}
 use Rattle.residue.specs.Modular.{Modulus}
 use Rattle.geobucket.specs.Buckets.{empty, held, Good, Canon}
-use Rattle.space.specs.Space.{Buckets, headAt, lenAt, capacity, start, listFrom, rowAt, bucketAt, bucketsIn, Laid, Stands, moved, dropped, noBuckets, heldIn}
-use Rattle.space.proofs.Starts.{next-start, next-capacity, start-up, start-end}
+use Rattle.space.specs.Space.{Buckets, headAt, lenAt, sideAt, capacity, start, allPlaces, zone, zoneEnd, listFrom, rowAt, bucketAt, bucketsIn, Laid, Stands, moved, dropped, turned, noBuckets, heldIn}
+use Rattle.space.proofs.Starts.{zone-areas, next-start, next-capacity, cap-small, end-in-work, zone-past, zones-apart, zone-end, zone-holds}
+use Rattle.space.proofs.Joined.{SameBut, same-sets, part-same, part-left, part-past}
 
 -- ---- f of each number from i on
 module _ {A : Type 0} where
@@ -55,12 +56,7 @@ module _ {A : Type 0} where
 
 -- ---- parts of a list of which a run of places is put again
 pub part-frame : (s : List ℕ) (a : ℕ) (vs : List ℕ) (h n : ℕ) → Apart h n a (length vs) → part h n (sets s a vs) ≡ part h n s
-part-frame s a vs h n out =
-    let l : length (part h n (sets s a vs)) ≡ length (part h n s) = length-take n (drop h (sets s a vs)) ∙ (ap (min n) (length-drop h (sets s a vs) ∙ (ap (λ (m : ℕ). m - h) (length-sets s a vs) ∙ sym (length-drop h s))) ∙ sym (length-take n (drop h s))) in
-    ext-getD 0 (part h n (sets s a vs)) (part h n s) l
-    (λ i k.
-    let m : i < n = omega (arith, length-take n (drop h (sets s a vs))) in
-    getD-part h n (sets s a vs) i m ∙ (getD-sets-other s a vs (h + i) (⊎-elim (λ u. inl (omega arith)) (λ u. inr (omega arith)) out) ∙ sym (getD-part h n s i m)))
+part-frame s a vs h n out = part-same s (sets s a vs) h n (length-sets s a vs) (λ i low high. getD-sets-other s a vs i (⊎-elim (λ u. inl (omega arith)) (λ u. inr (omega arith)) out))
 
 -- a part that is lent from h to h + n
 pub part-to : (h n : ℕ) (s : List ℕ) → take (h + n - h) (drop h s) ≡ part h n s
@@ -82,13 +78,105 @@ part-front s a vs js h =
     ap (λ (l : List ℕ). part a (length vs) l) (sets-append s a vs js)
     ∙ (part-frame (sets s a vs) (a + length vs) js a (length vs) (inl (omega arith)) ∙ part-put s a vs h)
 
--- ---- one bucket is moved or changed
+-- ---- one bucket is changed
+
+decEq : (x y : ℕ) → Dec (x ≡ y)
+decEq x y = by-le (decLe x y) (decLe y x)
+  where
+    by-le : Dec (x ≤ y) → Dec (y ≤ x) → Dec (x ≡ y)
+    by-le (yes u) (yes v) = yes (omega arith)
+    by-le (no u) v = no (λ e. let z : ⊥ = omega arith in z)
+    by-le (yes u) (no v) = no (λ e. let z : ⊥ = omega arith in z)
+
+-- the numbers of all buckets but i are in b' as they are in b
+pub record ButFor (b b' : Buckets) (i : ℕ) : Type 0 where
+  pub as-long : length b' ≡ length b
+  pub heads : (j : ℕ) → j < 6 → (j ≡ i → ⊥) → headAt b' j ≡ headAt b j
+  pub lens : (j : ℕ) → j < 6 → (j ≡ i → ⊥) → lenAt b' j ≡ lenAt b j
+  pub sides : (j : ℕ) → j < 5 → (j ≡ i → ⊥) → sideAt b' j ≡ sideAt b j
+
+-- bucket i has its head at h, n terms, and its free area at s
+pub record Has (b : Buckets) (i h n s : ℕ) : Type 0 where
+  pub head : headAt b i ≡ h
+  pub len : lenAt b i ≡ n
+  pub side : sideAt b i ≡ s
+
+module _ (b b' : Buckets) (i h n s : ℕ) (laid : Laid b) (but : ButFor b b' i) (has : Has b' i h n s) where
+  -- what must hold of bucket i
+  pub laid-but : zone i ≤ h → h + n ≤ zoneEnd i → n ≤ capacity i → (i < 5 → (s ≡ zone i) ⊎ (s ≡ zone i + 2 * capacity i)) → (i < 5 → Apart h n s (2 * capacity i)) → Laid b'
+  laid-but lo hi sh si out = record {
+    eighteen = but .as-long ∙ laid .eighteen;
+    low = λ j k. low-at j k (decEq j i);
+    high = λ j k. high-at j k (decEq j i);
+    short = λ j k. short-at j k (decEq j i);
+    side-is = λ j k. side-at j k (decEq j i);
+    side-apart = λ j k. apart-at j k (decEq j i);
+  }
+    where
+      low-at : (j : ℕ) → j < 6 → Dec (j ≡ i) → zone j ≤ headAt b' j
+      low-at j k (yes e) = rw (e, has .head) lo
+      low-at j k (no e) = rw (but .heads j k e) (laid .low j k)
+
+      high-at : (j : ℕ) → j < 6 → Dec (j ≡ i) → headAt b' j + lenAt b' j ≤ zoneEnd j
+      high-at j k (yes e) = rw (e, has .head, has .len) hi
+      high-at j k (no e) = rw (but .heads j k e, but .lens j k e) (laid .high j k)
+
+      short-at : (j : ℕ) → j < 6 → Dec (j ≡ i) → lenAt b' j ≤ capacity j
+      short-at j k (yes e) = rw (e, has .len) sh
+      short-at j k (no e) = rw (but .lens j k e) (laid .short j k)
+
+      side-at : (j : ℕ) → j < 5 → Dec (j ≡ i) → (sideAt b' j ≡ zone j) ⊎ (sideAt b' j ≡ zone j + 2 * capacity j)
+      side-at j k (yes e) = rw (e, has .side) (si (omega arith))
+      side-at j k (no e) = rw (but .sides j k e) (laid .side-is j k)
+
+      apart-at : (j : ℕ) → j < 5 → Dec (j ≡ i) → Apart (headAt b' j) (lenAt b' j) (sideAt b' j) (2 * capacity j)
+      apart-at j k (yes e) = rw (e, has .head, has .len, has .side) (out (omega arith))
+      apart-at j k (no e) = rw (but .heads j (omega arith) e, but .lens j (omega arith) e, but .sides j k e) (laid .side-apart j k)
+
+-- a free area lies in its zone
+pub side-low : {b : Buckets} → Laid b → (i : ℕ) → i < 5 → zone i ≤ sideAt b i
+side-low l i h = ⊎-elim (λ e. omega (arith, e)) (λ e. omega (arith, e)) (l .side-is i h)
+
+pub side-high : {b : Buckets} → Laid b → (i : ℕ) → i < 5 → sideAt b i + 2 * capacity i ≤ zoneEnd i
+side-high l i h = ⊎-elim (λ e. omega (arith, e, zone-areas i h)) (λ e. omega (arith, e, zone-areas i h)) (l .side-is i h)
+
+module _ (b b' : Buckets) (i : ℕ) (laid : Laid b) (but : ButFor b b' i) where
+  -- the row of another bucket is as it was, whatever became of the places of this one's zone
+  pub row-but : (s s' : List ℕ) → length s' ≡ length s → SameBut (zone i) (zoneEnd i) s s' → (j : ℕ) → j < 6 → (j ≡ i → ⊥) → rowAt b' s' j ≡ rowAt b s j
+  row-but s s' e same j k ne =
+      ap₂ (λ (x y : ℕ). part x y s') (but .heads j k ne) (but .lens j k ne)
+      ∙ part-same s s' (headAt b j) (lenAt b j) e (λ m lo hi. same m (side m lo hi (decLe j i)))
+    where
+      side : (m : ℕ) → headAt b j ≤ m → m < headAt b j + lenAt b j → Dec (j ≤ i) → (m < zone i) ⊎ (zoneEnd i ≤ m)
+      side m lo hi (yes u) = inl (omega (arith, laid .high j k, zones-apart j i (lt-of-ne (decLe i j))))
+        where
+          lt-of-ne : Dec (i ≤ j) → j < i
+          lt-of-ne (yes v) = absurd (ne (omega arith))
+          lt-of-ne (no v) = omega arith
+      side m lo hi (no u) = inr (omega (arith, laid .low j k, zones-apart i j (omega arith)))
+
+  pub bucket-but : (sw sc sw' sc' : List ℕ) → length sw' ≡ length sw → length sc' ≡ length sc → SameBut (zone i) (zoneEnd i) sw sw' → SameBut (zone i) (zoneEnd i) sc sc' → (j : ℕ) → j < 6 → (j ≡ i → ⊥)
+      → bucketAt b' sw' sc' j ≡ bucketAt b sw sc j
+  bucket-but sw sc sw' sc' ew ec fw fc j k ne = ap₂ terms (row-but sw sw' ew fw j k ne) (row-but sc sc' ec fc j k ne)
+
+  -- the same where a list is put within the zone
+  pub row-put-but : (s : List ℕ) (a : ℕ) (vs : List ℕ) → zone i ≤ a → a + length vs ≤ zoneEnd i → (j : ℕ) → j < 6 → (j ≡ i → ⊥) → rowAt b' (sets s a vs) j ≡ rowAt b s j
+  row-put-but s a vs lo hi = row-but s (sets s a vs) (length-sets s a vs) (same-sets (zone i) (zoneEnd i) s a vs lo hi)
+
+  pub bucket-put-but : (sw sc : List ℕ) (a d : ℕ) (ws cs : List ℕ) → zone i ≤ a → a + length ws ≤ zoneEnd i → zone i ≤ d → d + length cs ≤ zoneEnd i → (j : ℕ) → j < 6 → (j ≡ i → ⊥)
+      → bucketAt b' (sets sw a ws) (sets sc d cs) j ≡ bucketAt b sw sc j
+  bucket-put-but sw sc a d ws cs la ha ld hd j k ne = ap₂ terms (row-put-but sw a ws la ha j k ne) (row-put-but sc d cs ld hd j k ne)
+
+-- ---- bucket i has its head and its terms elsewhere
 module _ (b : Buckets) (i h n : ℕ) (laid : Laid b) (in-six : i < 6) where
   pub moved-head : headAt (moved b i h n) i ≡ h
-  moved-head = getD-set-other (set b i h) (6 + i) i n 0 (λ e. let z : ⊥ = omega arith in z) ∙ getD-set-same b i h 0 (omega (arith, laid .twelve))
+  moved-head = getD-set-other (set b i h) (6 + i) i n 0 (λ e. let z : ⊥ = omega arith in z) ∙ getD-set-same b i h 0 (omega (arith, laid .eighteen))
 
   pub moved-len : lenAt (moved b i h n) i ≡ n
-  moved-len = getD-set-same (set b i h) (6 + i) n 0 (omega (arith, length-set b i h, laid .twelve))
+  moved-len = getD-set-same (set b i h) (6 + i) n 0 (omega (arith, length-set b i h, laid .eighteen))
+
+  pub moved-side : (j : ℕ) → sideAt (moved b i h n) j ≡ sideAt b j
+  moved-side j = getD-set-other (set b i h) (6 + i) (12 + j) n 0 (λ e. let z : ⊥ = omega arith in z) ∙ getD-set-other b i (12 + j) h 0 (λ e. let z : ⊥ = omega arith in z)
 
   pub moved-head-other : (j : ℕ) → j < 6 → (j ≡ i → ⊥) → headAt (moved b i h n) j ≡ headAt b j
   moved-head-other j k ne = getD-set-other (set b i h) (6 + i) j n 0 (λ e. let z : ⊥ = omega arith in z) ∙ getD-set-other b i j h 0 ne
@@ -96,51 +184,67 @@ module _ (b : Buckets) (i h n : ℕ) (laid : Laid b) (in-six : i < 6) where
   pub moved-len-other : (j : ℕ) → (j ≡ i → ⊥) → lenAt (moved b i h n) j ≡ lenAt b j
   moved-len-other j ne = getD-set-other (set b i h) (6 + i) (6 + j) n 0 (λ e. ne (omega arith)) ∙ getD-set-other b i (6 + j) h 0 (λ e. let z : ⊥ = omega arith in z)
 
-  pub laid-moved : start i ≤ h → h + n ≤ start (suc i) → Laid (moved b i h n)
-  laid-moved lo hi = record {
-    twelve = length-set (set b i h) (6 + i) n ∙ (length-set b i h ∙ laid .twelve);
-    low = λ j k. low-at j k (decEq j i);
-    high = λ j k. high-at j k (decEq j i);
-  }
-    where
-      decEq : (x y : ℕ) → Dec (x ≡ y)
-      decEq x y = by-le (decLe x y) (decLe y x)
-        where
-          by-le : Dec (x ≤ y) → Dec (y ≤ x) → Dec (x ≡ y)
-          by-le (yes u) (yes v) = yes (omega arith)
-          by-le (no u) v = no (λ e. let z : ⊥ = omega arith in z)
-          by-le (yes u) (no v) = no (λ e. let z : ⊥ = omega arith in z)
+  pub moved-but : ButFor b (moved b i h n) i
+  moved-but = record { as-long = length-set (set b i h) (6 + i) n ∙ length-set b i h; heads = moved-head-other; lens = λ j k ne. moved-len-other j ne; sides = λ j k ne. moved-side j }
 
-      low-at : (j : ℕ) → j < 6 → Dec (j ≡ i) → start j ≤ headAt (moved b i h n) j
-      low-at j k (yes e) = rw (e, moved-head) lo
-      low-at j k (no e) = rw (moved-head-other j k e) (laid .low j k)
+  pub laid-moved : zone i ≤ h → h + n ≤ zoneEnd i → n ≤ capacity i → (i < 5 → Apart h n (sideAt b i) (2 * capacity i)) → Laid (moved b i h n)
+  laid-moved lo hi sh out = laid-but b (moved b i h n) i h n (sideAt b i) laid moved-but (record { head = moved-head; len = moved-len; side = moved-side i }) lo hi sh (laid .side-is i) out
 
-      high-at : (j : ℕ) → j < 6 → Dec (j ≡ i) → headAt (moved b i h n) j + lenAt (moved b i h n) j ≤ start (suc j)
-      high-at j k (yes e) = rw (e, moved-head, moved-len) hi
-      high-at j k (no e) = rw (moved-head-other j k e, moved-len-other j e) (laid .high j k)
+  -- another bucket, whatever is put into this one's zone
+  pub row-other : (s : List ℕ) (a : ℕ) (vs : List ℕ) → zone i ≤ a → a + length vs ≤ zoneEnd i → (j : ℕ) → j < 6 → (j ≡ i → ⊥) → rowAt (moved b i h n) (sets s a vs) j ≡ rowAt b s j
+  row-other = row-put-but b (moved b i h n) i laid moved-but
 
-  -- the row of another bucket is as it was, whatever is put into this one's places
-  pub row-other : (s : List ℕ) (a : ℕ) (vs : List ℕ) → start i ≤ a → a + length vs ≤ start (suc i) → (j : ℕ) → j < 6 → (j ≡ i → ⊥) → rowAt (moved b i h n) (sets s a vs) j ≡ rowAt b s j
-  row-other s a vs lo hi j k ne =
-      ap₂ (λ (x y : ℕ). part x y (sets s a vs)) (moved-head-other j k ne) (moved-len-other j ne)
-      ∙ part-frame s a vs (headAt b j) (lenAt b j) (side (decLe j i))
-    where
-      side : Dec (j ≤ i) → Apart (headAt b j) (lenAt b j) a (length vs)
-      side (yes u) = inl (omega (arith, laid .high j k, start-up (suc j) i (let z : suc j ≤ i = lt-of-ne j i u ne in z)))
-        where
-          lt-of-ne : (x y : ℕ) → x ≤ y → (x ≡ y → ⊥) → suc x ≤ y
-          lt-of-ne x y u ne = by (decLe (suc x) y)
-            where
-              by : Dec (suc x ≤ y) → suc x ≤ y
-              by (yes v) = v
-              by (no v) = absurd (ne (omega arith))
-      side (no u) = inr (omega (arith, laid .low j k, start-up (suc i) j (omega arith)))
-
-  pub bucket-other : (sw sc : List ℕ) (a d : ℕ) (ws cs : List ℕ) → start i ≤ a → a + length ws ≤ start (suc i) → start i ≤ d → d + length cs ≤ start (suc i) → (j : ℕ) → j < 6 → (j ≡ i → ⊥)
+  pub bucket-other : (sw sc : List ℕ) (a d : ℕ) (ws cs : List ℕ) → zone i ≤ a → a + length ws ≤ zoneEnd i → zone i ≤ d → d + length cs ≤ zoneEnd i → (j : ℕ) → j < 6 → (j ≡ i → ⊥)
       → bucketAt (moved b i h n) (sets sw a ws) (sets sc d cs) j ≡ bucketAt b sw sc j
-  bucket-other sw sc a d ws cs la ha ld hd j k ne = ap₂ terms (row-other sw a ws la ha j k ne) (row-other sc d cs ld hd j k ne)
+  bucket-other = bucket-put-but b (moved b i h n) i laid moved-but
 
--- ---- the buckets of the bucket space
+  -- the same, place by place
+  pub bucket-else : (sw sc sw' sc' : List ℕ) → length sw' ≡ length sw → length sc' ≡ length sc → SameBut (zone i) (zoneEnd i) sw sw' → SameBut (zone i) (zoneEnd i) sc sc' → (j : ℕ) → j < 6 → (j ≡ i → ⊥)
+      → bucketAt (moved b i h n) sw' sc' j ≡ bucketAt b sw sc j
+  bucket-else = bucket-but b (moved b i h n) i laid moved-but
+
+-- ---- and its free area too
+module _ (b : Buckets) (i h n s : ℕ) (laid : Laid b) (in-five : i < 5) where
+  in-six : i < 6
+  in-six = omega arith
+
+  pub turned-head : headAt (turned b i h n s) i ≡ h
+  turned-head = getD-set-other (moved b i h n) (12 + i) i s 0 (λ e. let z : ⊥ = omega arith in z) ∙ moved-head b i h n laid in-six
+
+  pub turned-len : lenAt (turned b i h n s) i ≡ n
+  turned-len = getD-set-other (moved b i h n) (12 + i) (6 + i) s 0 (λ e. let z : ⊥ = omega arith in z) ∙ moved-len b i h n laid in-six
+
+  pub turned-side : sideAt (turned b i h n s) i ≡ s
+  turned-side = getD-set-same (moved b i h n) (12 + i) s 0 (omega (arith, length-set (set b i h) (6 + i) n, length-set b i h, laid .eighteen))
+
+  pub turned-head-other : (j : ℕ) → j < 6 → (j ≡ i → ⊥) → headAt (turned b i h n s) j ≡ headAt b j
+  turned-head-other j k ne = getD-set-other (moved b i h n) (12 + i) j s 0 (λ e. let z : ⊥ = omega arith in z) ∙ moved-head-other b i h n laid in-six j k ne
+
+  pub turned-len-other : (j : ℕ) → j < 6 → (j ≡ i → ⊥) → lenAt (turned b i h n s) j ≡ lenAt b j
+  turned-len-other j k ne = getD-set-other (moved b i h n) (12 + i) (6 + j) s 0 (λ e. let z : ⊥ = omega arith in z) ∙ moved-len-other b i h n laid in-six j ne
+
+  pub turned-side-other : (j : ℕ) → (j ≡ i → ⊥) → sideAt (turned b i h n s) j ≡ sideAt b j
+  turned-side-other j ne = getD-set-other (moved b i h n) (12 + i) (12 + j) s 0 (λ e. ne (omega arith)) ∙ moved-side b i h n laid in-six j
+
+  pub turned-but : ButFor b (turned b i h n s) i
+  turned-but = record { as-long = length-set (moved b i h n) (12 + i) s ∙ (length-set (set b i h) (6 + i) n ∙ length-set b i h); heads = turned-head-other; lens = turned-len-other; sides = λ j k ne. turned-side-other j ne }
+
+  pub laid-turned : zone i ≤ h → h + n ≤ zoneEnd i → n ≤ capacity i → (s ≡ zone i) ⊎ (s ≡ zone i + 2 * capacity i) → Apart h n s (2 * capacity i) → Laid (turned b i h n s)
+  laid-turned lo hi sh si out =
+      laid-but b (turned b i h n s) i h n s laid turned-but (record { head = turned-head; len = turned-len; side = turned-side }) lo hi sh (λ k. si) (λ k. out)
+
+  pub row-other-turned : (l : List ℕ) (a : ℕ) (vs : List ℕ) → zone i ≤ a → a + length vs ≤ zoneEnd i → (j : ℕ) → j < 6 → (j ≡ i → ⊥) → rowAt (turned b i h n s) (sets l a vs) j ≡ rowAt b l j
+  row-other-turned = row-put-but b (turned b i h n s) i laid turned-but
+
+  pub bucket-other-turned : (sw sc : List ℕ) (a d : ℕ) (ws cs : List ℕ) → zone i ≤ a → a + length ws ≤ zoneEnd i → zone i ≤ d → d + length cs ≤ zoneEnd i → (j : ℕ) → j < 6 → (j ≡ i → ⊥)
+      → bucketAt (turned b i h n s) (sets sw a ws) (sets sc d cs) j ≡ bucketAt b sw sc j
+  bucket-other-turned = bucket-put-but b (turned b i h n s) i laid turned-but
+
+  pub bucket-else-turned : (sw sc sw' sc' : List ℕ) → length sw' ≡ length sw → length sc' ≡ length sc → SameBut (zone i) (zoneEnd i) sw sw' → SameBut (zone i) (zoneEnd i) sc sc' → (j : ℕ) → j < 6 → (j ≡ i → ⊥)
+      → bucketAt (turned b i h n s) sw' sc' j ≡ bucketAt b sw sc j
+  bucket-else-turned = bucket-but b (turned b i h n s) i laid turned-but
+
+-- ---- the buckets in the spaces
 -- of good buckets, the one at i is canonical
 pub good-at : (cmp : ℕ → ℕ → Ordering) (p : ℕ) (g : ℕ → List (Term ℕ)) (k i cap : ℕ) → Good cmp p cap (listFrom g i k) → (j : ℕ) → i ≤ j → j < i + k → Canonical cmp p (g j)
 unfolding Good listFrom
@@ -152,17 +256,34 @@ good-at cmp p g (suc k) i cap h j l u = by (decLe j i) (λ v. good-at cmp p g k 
     by (no v) r = r (omega arith)
 
 module _ (b : Buckets) (laid : Laid b) (i : ℕ) (in-six : i < 6) where
-  -- bucket i lies within the bucket space
-  pub row-end : headAt b i + lenAt b i ≤ bucketPlaces
-  row-end = omega (arith, laid .high i in-six, start-end i in-six)
+  -- bucket i lies within the spaces
+  pub row-end : headAt b i + lenAt b i ≤ allPlaces
+  row-end = omega (arith, laid .high i in-six, zone-end i in-six)
 
-  pub row-long : (s : List ℕ) → length s ≡ bucketPlaces → length (rowAt b s i) ≡ lenAt b i
+  -- in the work space, with its free area
+  pub row-work-end : i < 5 → headAt b i + lenAt b i ≤ workPlaces
+  row-work-end k = omega (arith, laid .high i in-six, end-in-work i k)
+
+  pub side-work-end : i < 5 → sideAt b i + 2 * capacity i ≤ workPlaces
+  side-work-end k = omega (arith, side-high laid i k, end-in-work i k)
+
+  pub row-work : i < 5 → (l r : List ℕ) → length l ≡ workPlaces → rowAt b (l ++ r) i ≡ rowAt b l i
+  row-work k l r e = part-left l r (headAt b i) (lenAt b i) (omega (arith, row-work-end k))
+
+  -- or past it
+  pub row-past : 5 ≤ i → workPlaces ≤ headAt b i
+  row-past k = omega (arith, laid .low i in-six, zone-past i k)
+
+  pub row-space : 5 ≤ i → (l r : List ℕ) → length l ≡ workPlaces → rowAt b (l ++ r) i ≡ part (headAt b i - workPlaces) (lenAt b i) r
+  row-space k l r e = part-past l r e (headAt b i) (row-past k) (lenAt b i)
+
+  pub row-long : (s : List ℕ) → length s ≡ allPlaces → length (rowAt b s i) ≡ lenAt b i
   row-long s h = length-part (headAt b i) (lenAt b i) s (omega (arith, row-end, h))
 
-  pub bucket-long : (sw sc : List ℕ) → length sw ≡ bucketPlaces → length sc ≡ bucketPlaces → length (bucketAt b sw sc i) ≡ lenAt b i
+  pub bucket-long : (sw sc : List ℕ) → length sw ≡ allPlaces → length sc ≡ allPlaces → length (bucketAt b sw sc i) ≡ lenAt b i
   bucket-long sw sc hw hc = length-terms (rowAt b sw i) (rowAt b sc i) (row-long sc hc ∙ sym (row-long sw hw)) ∙ row-long sw hw
 
-  pub bucket-poly : (p : ℕ) (cmp : ℕ → ℕ → Ordering) (sw sc : List ℕ) → length sw ≡ bucketPlaces → length sc ≡ bucketPlaces → Canonical cmp p (bucketAt b sw sc i) → Poly p (rowAt b sw i) (rowAt b sc i)
+  pub bucket-poly : (p : ℕ) (cmp : ℕ → ℕ → Ordering) (sw sc : List ℕ) → length sw ≡ allPlaces → length sc ≡ allPlaces → Canonical cmp p (bucketAt b sw sc i) → Poly p (rowAt b sw i) (rowAt b sc i)
   bucket-poly p cmp sw sc hw hc c = record { long = row-long sc hc ∙ sym (row-long sw hw); reduced = c .reduced }
 
 -- ---- the terms held
@@ -192,13 +313,19 @@ module _ (b : Buckets) (i : ℕ) (laid : Laid b) (in-six : i < 6) where
   bucket-none sw sc e = ap (λ (n : ℕ). terms (part (headAt b i) n sw) (part (headAt b i) n sc)) e
 
   module _ (some : 0 < lenAt b i) where
-    pub head-in : headAt b i < bucketPlaces
+    pub head-in : headAt b i < allPlaces
     head-in = omega (arith, row-end b laid i in-six)
 
-    pub dropped-laid : Laid (dropped b i)
-    dropped-laid = laid-moved b i (headAt b i + 1) (lenAt b i - 1) laid in-six (omega (arith, laid .low i in-six)) (omega (arith, laid .high i in-six))
+    -- leads of buckets 0 to 4 lie in the work space
+    pub head-work : i < 5 → headAt b i < workPlaces
+    head-work k = omega (arith, row-work-end b laid i in-six k)
 
-    module _ (sw sc : List ℕ) (hw : length sw ≡ bucketPlaces) (hc : length sc ≡ bucketPlaces) where
+    pub dropped-laid : Laid (dropped b i)
+    dropped-laid =
+        laid-moved b i (headAt b i + 1) (lenAt b i - 1) laid in-six (omega (arith, laid .low i in-six)) (omega (arith, laid .high i in-six)) (omega (arith, laid .short i in-six))
+        (λ k. ⊎-elim (λ u. inl (omega arith)) (λ u. inr (omega arith)) (laid .side-apart i k))
+
+    module _ (sw sc : List ℕ) (hw : length sw ≡ allPlaces) (hc : length sc ≡ allPlaces) where
       pub bucket-lead : bucketAt b sw sc i ≡ term (getD sw (headAt b i) 0) (getD sc (headAt b i) 0) ∷ bucketAt (dropped b i) sw sc i
       bucket-lead =
           let h = headAt b i in
@@ -207,20 +334,20 @@ module _ (b : Buckets) (i : ℕ) (laid : Laid b) (in-six : i < 6) where
           ∙ ap₂ (λ (x y : ℕ). term (getD sw h 0) (getD sc h 0) ∷ terms (part x y sw) (part x y sc)) (sym (moved-head b i (h + 1) (n - 1) laid in-six)) (sym (moved-len b i (h + 1) (n - 1) laid in-six))
 
       pub dropped-other : (j : ℕ) → j < 6 → (j ≡ i → ⊥) → bucketAt (dropped b i) sw sc j ≡ bucketAt b sw sc j
-      dropped-other j k ne = bucket-other b i (headAt b i + 1) (lenAt b i - 1) laid in-six sw sc (start i) (start i) [] [] (omega arith) (omega (arith, next-start i)) (omega arith) (omega (arith, next-start i)) j k ne
+      dropped-other j k ne = bucket-other b i (headAt b i + 1) (lenAt b i - 1) laid in-six sw sc (zone i) (zone i) [] [] (omega arith) (omega (arith, zone-holds i)) (omega arith) (omega (arith, zone-holds i)) j k ne
 
       -- another coefficient is put at its lead
       pub put-other : (v j : ℕ) → j < 6 → (j ≡ i → ⊥) → bucketAt b sw (set sc (headAt b i) v) j ≡ bucketAt b sw sc j
       put-other v j k ne =
           let h = headAt b i in
           ap (λ (x : Buckets). bucketAt x sw (set sc h v) j) (sym moved-same)
-          ∙ bucket-other b i h (lenAt b i) laid in-six sw sc (start i) h [] (v ∷ []) (omega arith) (omega (arith, next-start i)) (laid .low i in-six) (omega (arith, laid .high i in-six)) j k ne
+          ∙ bucket-other b i h (lenAt b i) laid in-six sw sc (zone i) h [] (v ∷ []) (omega arith) (omega (arith, zone-holds i)) (laid .low i in-six) (omega (arith, laid .high i in-six)) j k ne
 
       pub put-here : (v : ℕ) → bucketAt b sw (set sc (headAt b i) v) i ≡ term (getD sw (headAt b i) 0) v ∷ bucketAt (dropped b i) sw sc i
       put-here v =
           let h = headAt b i in
           let n = lenAt b i in
-          let hv : length (set sc h v) ≡ bucketPlaces = length-set sc h v ∙ hc in
+          let hv : length (set sc h v) ≡ allPlaces = length-set sc h v ∙ hc in
           ap₂ terms (row-lead sw h n (omega (arith, head-in, hw)) some) (row-lead (set sc h v) h n (omega (arith, head-in, hv)) some)
           ∙ (ap₂ (λ (x : ℕ) (y : List ℕ). term (getD sw h 0) x ∷ terms (part (h + 1) (n - 1) sw) y) (getD-set-same sc h v 0 (omega (arith, head-in, hc))) (part-frame sc h (v ∷ []) (h + 1) (n - 1) (inr (omega arith)))
           ∙ ap₂ (λ (x y : ℕ). term (getD sw h 0) v ∷ terms (part x y sw) (part x y sc)) (sym (moved-head b i (h + 1) (n - 1) laid in-six)) (sym (moved-len b i (h + 1) (n - 1) laid in-six)))
@@ -232,7 +359,7 @@ cons-head {A} {x} e = ap (λ (l : List A). getD l 0 x) e
 cons-tail : {A : Type 0} {x y : A} {xs ys : List A} → x ∷ xs ≡ y ∷ ys → xs ≡ ys
 cons-tail {A} e = ap (λ (l : List A). drop 1 l) e
 
-module _ (b : Buckets) (i : ℕ) (laid : Laid b) (in-six : i < 6) (sw sc : List ℕ) (hw : length sw ≡ bucketPlaces) (hc : length sc ≡ bucketPlaces) (x : Term ℕ) (xs : List (Term ℕ)) (e : bucketAt b sw sc i ≡ x ∷ xs) where
+module _ (b : Buckets) (i : ℕ) (laid : Laid b) (in-six : i < 6) (sw sc : List ℕ) (hw : length sw ≡ allPlaces) (hc : length sc ≡ allPlaces) (x : Term ℕ) (xs : List (Term ℕ)) (e : bucketAt b sw sc i ≡ x ∷ xs) where
   pub some-of : 0 < lenAt b i
   some-of = omega (arith, bucket-long b laid i in-six sw sc hw hc, ap length e)
 
@@ -248,8 +375,8 @@ module _ (b : Buckets) (i : ℕ) (laid : Laid b) (in-six : i < 6) (sw sc : List 
   put-at v = put-here b i laid in-six some-of sw sc hw hc v ∙ ap₂ (λ (m : ℕ) (l : List (Term ℕ)). term m v ∷ l) (ap (λ (t : Term ℕ). t .mono) (sym lead-of)) drop-here
 
 -- ---- good buckets, by each of them
-pub bucket-short : (b : Buckets) → Laid b → (sw sc : List ℕ) → length sw ≡ bucketPlaces → length sc ≡ bucketPlaces → (j : ℕ) → j < 6 → length (bucketAt b sw sc j) ≤ capacity j
-bucket-short b laid sw sc hw hc j h = omega (arith, bucket-long b laid j h sw sc hw hc, laid .low j h, laid .high j h, next-start j)
+pub bucket-short : (b : Buckets) → Laid b → (sw sc : List ℕ) → length sw ≡ allPlaces → length sc ≡ allPlaces → (j : ℕ) → j < 6 → length (bucketAt b sw sc j) ≤ capacity j
+bucket-short b laid sw sc hw hc j h = omega (arith, bucket-long b laid j h sw sc hw hc, laid .short j h)
 
 module _ (cmp : ℕ → ℕ → Ordering) (p : ℕ) (g : ℕ → List (Term ℕ)) where
   pub canon-from : (k i : ℕ) → ((j : ℕ) → i ≤ j → j < i + k → Canonical cmp p (g j)) → Canon cmp p (listFrom g i k)
@@ -276,12 +403,12 @@ unfolding held listFrom
 held-short g zero i h = omega (arith, ap start (let e : i + 0 ≡ i = omega arith in e))
 held-short g (suc k) i h = omega (arith, h i (omega arith) (omega arith), held-short g k (suc i) (λ j u w. h j (omega arith) (omega arith)), next-start i, ap start (let e : i + suc k ≡ suc i + k = omega arith in e))
 
--- ---- six empty buckets, whatever the bucket space holds
+-- ---- six empty buckets, whatever the spaces hold
 pub laid-none : Laid noBuckets
-unfolding start capacity
-laid-none = record { twelve = refl; low = lows; high = highs }
+unfolding start capacity zone zoneEnd
+laid-none = record { eighteen = refl; low = lows; high = highs; short = shorts; side-is = side-iss; side-apart = aparts }
   where
-    lows : (i : ℕ) → i < 6 → start i ≤ headAt noBuckets i
+    lows : (i : ℕ) → i < 6 → zone i ≤ headAt noBuckets i
     lows zero h = omega arith
     lows (suc zero) h = omega arith
     lows (suc (suc zero)) h = omega arith
@@ -290,7 +417,7 @@ laid-none = record { twelve = refl; low = lows; high = highs }
     lows (suc (suc (suc (suc (suc zero))))) h = omega arith
     lows (suc (suc (suc (suc (suc (suc i)))))) h = absurd (let z : ⊥ = omega arith in z)
 
-    highs : (i : ℕ) → i < 6 → headAt noBuckets i + lenAt noBuckets i ≤ start (suc i)
+    highs : (i : ℕ) → i < 6 → headAt noBuckets i + lenAt noBuckets i ≤ zoneEnd i
     highs zero h = omega arith
     highs (suc zero) h = omega arith
     highs (suc (suc zero)) h = omega arith
@@ -299,22 +426,53 @@ laid-none = record { twelve = refl; low = lows; high = highs }
     highs (suc (suc (suc (suc (suc zero))))) h = omega arith
     highs (suc (suc (suc (suc (suc (suc i)))))) h = absurd (let z : ⊥ = omega arith in z)
 
--- twelve numbers put one by one
-pub cleared : (b : Buckets) → length b ≡ 12 → set (set (set (set (set (set (set (set (set (set (set (set b 0 0) 1 4) 2 20) 3 84) 4 340) 5 1364) 6 0) 7 0) 8 0) 9 0) 10 0) 11 0 ≡ noBuckets
-cleared (a ∷ b ∷ c ∷ d ∷ e ∷ f ∷ g ∷ h ∷ i ∷ j ∷ k ∷ l ∷ []) m = refl
-cleared (a ∷ b ∷ c ∷ d ∷ e ∷ f ∷ g ∷ h ∷ i ∷ j ∷ k ∷ l ∷ x ∷ xs) m = absurd (let z : ⊥ = omega arith in z)
-cleared (a ∷ b ∷ c ∷ d ∷ e ∷ f ∷ g ∷ h ∷ i ∷ j ∷ k ∷ []) m = absurd (let z : ⊥ = omega arith in z)
-cleared (a ∷ b ∷ c ∷ d ∷ e ∷ f ∷ g ∷ h ∷ i ∷ j ∷ []) m = absurd (let z : ⊥ = omega arith in z)
-cleared (a ∷ b ∷ c ∷ d ∷ e ∷ f ∷ g ∷ h ∷ i ∷ []) m = absurd (let z : ⊥ = omega arith in z)
-cleared (a ∷ b ∷ c ∷ d ∷ e ∷ f ∷ g ∷ h ∷ []) m = absurd (let z : ⊥ = omega arith in z)
-cleared (a ∷ b ∷ c ∷ d ∷ e ∷ f ∷ g ∷ []) m = absurd (let z : ⊥ = omega arith in z)
-cleared (a ∷ b ∷ c ∷ d ∷ e ∷ f ∷ []) m = absurd (let z : ⊥ = omega arith in z)
-cleared (a ∷ b ∷ c ∷ d ∷ e ∷ []) m = absurd (let z : ⊥ = omega arith in z)
-cleared (a ∷ b ∷ c ∷ d ∷ []) m = absurd (let z : ⊥ = omega arith in z)
-cleared (a ∷ b ∷ c ∷ []) m = absurd (let z : ⊥ = omega arith in z)
-cleared (a ∷ b ∷ []) m = absurd (let z : ⊥ = omega arith in z)
-cleared (a ∷ []) m = absurd (let z : ⊥ = omega arith in z)
-cleared [] m = absurd (let z : ⊥ = omega arith in z)
+    shorts : (i : ℕ) → i < 6 → lenAt noBuckets i ≤ capacity i
+    shorts zero h = omega arith
+    shorts (suc zero) h = omega arith
+    shorts (suc (suc zero)) h = omega arith
+    shorts (suc (suc (suc zero))) h = omega arith
+    shorts (suc (suc (suc (suc zero)))) h = omega arith
+    shorts (suc (suc (suc (suc (suc zero))))) h = omega arith
+    shorts (suc (suc (suc (suc (suc (suc i)))))) h = absurd (let z : ⊥ = omega arith in z)
+
+    side-iss : (i : ℕ) → i < 5 → (sideAt noBuckets i ≡ zone i) ⊎ (sideAt noBuckets i ≡ zone i + 2 * capacity i)
+    side-iss zero h = inr refl
+    side-iss (suc zero) h = inr refl
+    side-iss (suc (suc zero)) h = inr refl
+    side-iss (suc (suc (suc zero))) h = inr refl
+    side-iss (suc (suc (suc (suc zero)))) h = inr refl
+    side-iss (suc (suc (suc (suc (suc i))))) h = absurd (let z : ⊥ = omega arith in z)
+
+    aparts : (i : ℕ) → i < 5 → Apart (headAt noBuckets i) (lenAt noBuckets i) (sideAt noBuckets i) (2 * capacity i)
+    aparts zero h = inl (omega arith)
+    aparts (suc zero) h = inl (omega arith)
+    aparts (suc (suc zero)) h = inl (omega arith)
+    aparts (suc (suc (suc zero))) h = inl (omega arith)
+    aparts (suc (suc (suc (suc zero)))) h = inl (omega arith)
+    aparts (suc (suc (suc (suc (suc i))))) h = absurd (let z : ⊥ = omega arith in z)
+
+-- eighteen numbers put one by one
+pub cleared : (b : Buckets) → length b ≡ 18 → set (set (set (set (set (set (set (set (set (set (set (set (set (set (set (set (set (set b 0 0) 1 16) 2 80) 3 336) 4 1360) 5 13652) 6 0) 7 0) 8 0) 9 0) 10 0) 11 0) 12 8) 13 48) 14 208) 15 848) 16 3408) 17 0 ≡ noBuckets
+cleared (a ∷ b ∷ c ∷ d ∷ e ∷ f ∷ g ∷ h ∷ i ∷ j ∷ k ∷ l ∷ m ∷ n ∷ o ∷ p ∷ q ∷ r ∷ []) long = refl
+cleared (a ∷ b ∷ c ∷ d ∷ e ∷ f ∷ g ∷ h ∷ i ∷ j ∷ k ∷ l ∷ m ∷ n ∷ o ∷ p ∷ q ∷ r ∷ x ∷ xs) long = absurd (let z : ⊥ = omega arith in z)
+cleared (a ∷ b ∷ c ∷ d ∷ e ∷ f ∷ g ∷ h ∷ i ∷ j ∷ k ∷ l ∷ m ∷ n ∷ o ∷ p ∷ q ∷ []) long = absurd (let z : ⊥ = omega arith in z)
+cleared (a ∷ b ∷ c ∷ d ∷ e ∷ f ∷ g ∷ h ∷ i ∷ j ∷ k ∷ l ∷ m ∷ n ∷ o ∷ p ∷ []) long = absurd (let z : ⊥ = omega arith in z)
+cleared (a ∷ b ∷ c ∷ d ∷ e ∷ f ∷ g ∷ h ∷ i ∷ j ∷ k ∷ l ∷ m ∷ n ∷ o ∷ []) long = absurd (let z : ⊥ = omega arith in z)
+cleared (a ∷ b ∷ c ∷ d ∷ e ∷ f ∷ g ∷ h ∷ i ∷ j ∷ k ∷ l ∷ m ∷ n ∷ []) long = absurd (let z : ⊥ = omega arith in z)
+cleared (a ∷ b ∷ c ∷ d ∷ e ∷ f ∷ g ∷ h ∷ i ∷ j ∷ k ∷ l ∷ m ∷ []) long = absurd (let z : ⊥ = omega arith in z)
+cleared (a ∷ b ∷ c ∷ d ∷ e ∷ f ∷ g ∷ h ∷ i ∷ j ∷ k ∷ l ∷ []) long = absurd (let z : ⊥ = omega arith in z)
+cleared (a ∷ b ∷ c ∷ d ∷ e ∷ f ∷ g ∷ h ∷ i ∷ j ∷ k ∷ []) long = absurd (let z : ⊥ = omega arith in z)
+cleared (a ∷ b ∷ c ∷ d ∷ e ∷ f ∷ g ∷ h ∷ i ∷ j ∷ []) long = absurd (let z : ⊥ = omega arith in z)
+cleared (a ∷ b ∷ c ∷ d ∷ e ∷ f ∷ g ∷ h ∷ i ∷ []) long = absurd (let z : ⊥ = omega arith in z)
+cleared (a ∷ b ∷ c ∷ d ∷ e ∷ f ∷ g ∷ h ∷ []) long = absurd (let z : ⊥ = omega arith in z)
+cleared (a ∷ b ∷ c ∷ d ∷ e ∷ f ∷ g ∷ []) long = absurd (let z : ⊥ = omega arith in z)
+cleared (a ∷ b ∷ c ∷ d ∷ e ∷ f ∷ []) long = absurd (let z : ⊥ = omega arith in z)
+cleared (a ∷ b ∷ c ∷ d ∷ e ∷ []) long = absurd (let z : ⊥ = omega arith in z)
+cleared (a ∷ b ∷ c ∷ d ∷ []) long = absurd (let z : ⊥ = omega arith in z)
+cleared (a ∷ b ∷ c ∷ []) long = absurd (let z : ⊥ = omega arith in z)
+cleared (a ∷ b ∷ []) long = absurd (let z : ⊥ = omega arith in z)
+cleared (a ∷ []) long = absurd (let z : ⊥ = omega arith in z)
+cleared [] long = absurd (let z : ⊥ = omega arith in z)
 
 pub lists-none : (sw sc : List ℕ) → bucketsIn noBuckets sw sc ≡ empty
 unfolding listFrom
@@ -327,18 +485,18 @@ good-none cmp p = (blank 4, (blank (4 * 4), (blank (4 * (4 * 4)), (blank (4 * (4
     blank : (cap : ℕ) → Canonical cmp p [] × (length {A = Term ℕ} [] ≤ cap)
     blank cap = (record { falling = tt; reduced = tt }, let z : 0 ≤ cap = omega arith in z)
 
-pub stands-none : (cmp : ℕ → ℕ → Ordering) (p : ℕ) (sw sc : List ℕ) → Modulus p → length sw ≡ bucketPlaces → length sc ≡ bucketPlaces → Stands cmp p noBuckets sw sc
+pub stands-none : (cmp : ℕ → ℕ → Ordering) (p : ℕ) (sw sc : List ℕ) → Modulus p → length sw ≡ allPlaces → length sc ≡ allPlaces → Stands cmp p noBuckets sw sc
 stands-none cmp p sw sc m hw hc = record { modulus = m; words-long = hw; coefs-long = hc; laid = laid-none; good = subst (Good cmp p 4) (sym (lists-none sw sc)) (good-none cmp p) }
 
 -- ---- the terms held, by the lengths
-pub held-lens : (b : Buckets) → Laid b → (sw sc : List ℕ) → length sw ≡ bucketPlaces → length sc ≡ bucketPlaces → held (bucketsIn b sw sc) ≡ heldIn b
+pub held-lens : (b : Buckets) → Laid b → (sw sc : List ℕ) → length sw ≡ allPlaces → length sc ≡ allPlaces → held (bucketsIn b sw sc) ≡ heldIn b
 unfolding held listFrom
 held-lens b laid sw sc hw hc =
     let at : (i : ℕ) → i < 6 → length (bucketAt b sw sc i) ≡ lenAt b i = λ i h. bucket-long b laid i h sw sc hw hc in
     omega (arith, at 0 (omega arith), at 1 (omega arith), at 2 (omega arith), at 3 (omega arith), at 4 (omega arith), at 5 (omega arith))
 
 len-small : (b : Buckets) → Laid b → (i : ℕ) → i < 6 → lenAt b i ≤ bucketPlaces
-len-small b laid i h = omega (arith, row-end b laid i h)
+len-small b laid i h = omega (arith, laid .short i h, cap-small i h)
 
 pub held-small : (b : Buckets) → Laid b → heldIn b ≤ 6 * bucketPlaces
 held-small b laid =

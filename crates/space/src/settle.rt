@@ -3,76 +3,100 @@
 use crate::state::head_of;
 use crate::state::len_of;
 use limits::WORK_PLACES;
+use merge_common::copy::put_coefs;
+use merge_common::keys::put_words_of;
+use monomial::order::Order;
 ghost use mathlib.Core.Path.{_≡_};
 ghost use Prim.Native.Nat.{_+_, _≤_};
 ghost use lib.ListN.{length, replicate};
 ghost use lib.Seq.{sets};
+ghost use mathlib.Core.List.{_++_, map};
+ghost use Rattle.monomial.specs.Words.{fromKey};
 ghost use Rattle.limits.specs.Limits.{bucketPlaces, workPlaces};
 ghost use Rattle.merge_common.specs.Lent.{part};
-ghost use Rattle.space.specs.Space.{Laid, settled, bucketsIn, AtReturn};
+ghost use Rattle.space.specs.Space.{Laid, settled, spaces, wordsIn, AtReturn};
 
-// Leaves the spaces as document 01 has them at return: each bucket's terms from its start on and 0
-// past them, the work space all 0.
-pub fn settle(b: &[usize], sw: &mut [u64], sc: &mut [u32], ww: &mut [u64], wc: &mut [u32])
+// Leaves the spaces as document 01 has them at return: each bucket's terms, their keys made words
+// again, from its start on and 0 past them, the work space all 0.
+pub fn settle(
+    order: Order,
+    b: &[usize],
+    sw: &mut [u64],
+    sc: &mut [u32],
+    ww: &mut [u64],
+    wc: &mut [u32],
+)
     requires { ⌜ Laid (now b) × (length (now sw) ≡ bucketPlaces) × (length (now sc) ≡ bucketPlaces) × (length (now ww) ≡ workPlaces) × (length (now wc) ≡ workPlaces) ⌝ }
-    ensures { λ _. ⌜ AtReturn (bucketsIn (now (b .entry)) (now (sw .entry)) (now (sc .entry))) (now (sw .exit)) (now (sc .exit)) (now (ww .exit)) (now (wc .exit)) ⌝ }
+    ensures { λ _. ⌜ AtReturn (wordsIn order (spaces (now (b .entry)) (now (ww .entry)) (now (wc .entry)) (now (sw .entry)) (now (sc .entry)))) (now (sw .exit)) (now (sc .exit)) (now (ww .exit)) (now (wc .exit)) ⌝ }
 {
-    settle_words(b, sw);
-    settle_coefs(b, sc);
-    clear_words(ww, 0, WORK_PLACES);
-    clear_coefs(wc, 0, WORK_PLACES);
+    settle_words(order, b, ww, sw);
+    settle_coefs(b, wc, sc);
+    let words = ww.len();
+    clear_words(ww, 0, words);
+    let coefs = wc.len();
+    clear_coefs(wc, 0, coefs);
 }
 
-// Moves each bucket's words to the bucket's start, and sets the words past them to 0.
-pub fn settle_words(b: &[usize], s: &mut [u64])
-    requires { ⌜ Laid (now b) × (length (now s) ≡ bucketPlaces) ⌝ }
-    ensures { λ _. ⌜ now (s .exit) ≡ settled (now (b .entry)) (now (s .entry)) ⌝ }
-{
-    let mut i = 0;
-    let mut start = 0;
-    let mut cap = 4;
-    while i < 6 {
-        let n = len_of(b, i);
-        pull_words(s, head_of(b, i), start, n);
-        clear_words(s, start + n, cap - n);
-        start += cap;
-        cap *= 4;
-        i += 1;
-    }
-}
-
-// The same for coefficients.
-pub fn settle_coefs(b: &[usize], s: &mut [u32])
-    requires { ⌜ Laid (now b) × (length (now s) ≡ bucketPlaces) ⌝ }
-    ensures { λ _. ⌜ now (s .exit) ≡ settled (now (b .entry)) (now (s .entry)) ⌝ }
+// Puts the words of each bucket's keys from the bucket's start on, and 0 past them. The keys of the
+// last bucket lie in the same slice.
+pub fn settle_words(order: Order, b: &[usize], ww: &[u64], sw: &mut [u64])
+    requires { ⌜ Laid (now b) × (length (now ww) ≡ workPlaces) × (length (now sw) ≡ bucketPlaces) ⌝ }
+    ensures { λ _. ⌜ now (sw .exit) ≡ settled (fromKey order) (now (b .entry)) (now (ww .entry) ++ now (sw .entry)) ⌝ }
 {
     let mut i = 0;
     let mut start = 0;
     let mut cap = 4;
-    while i < 6 {
+    while i < 5 {
+        let h = head_of(b, i);
         let n = len_of(b, i);
-        pull_coefs(s, head_of(b, i), start, n);
-        clear_coefs(s, start + n, cap - n);
+        put_words_of(order, &ww[h..h + n], sw, start);
+        clear_words(sw, start + n, cap - n);
         start += cap;
         cap *= 4;
         i += 1;
     }
+    let n = len_of(b, 5);
+    pull_words(order, sw, head_of(b, 5) - WORK_PLACES, start, n);
+    clear_words(sw, start + n, cap - n);
 }
 
-// Puts the n words from place `from` on also from `to` on, which is no later place. The two may
-// overlap.
-pub fn pull_words(s: &mut [u64], from: usize, to: usize, n: usize)
+// Puts each bucket's coefficients from the bucket's start on, and 0 past them.
+pub fn settle_coefs(b: &[usize], wc: &[u32], sc: &mut [u32])
+    requires { ⌜ Laid (now b) × (length (now wc) ≡ workPlaces) × (length (now sc) ≡ bucketPlaces) ⌝ }
+    ensures { λ _. ⌜ now (sc .exit) ≡ settled (λ c. c) (now (b .entry)) (now (wc .entry) ++ now (sc .entry)) ⌝ }
+{
+    let mut i = 0;
+    let mut start = 0;
+    let mut cap = 4;
+    while i < 5 {
+        let h = head_of(b, i);
+        let n = len_of(b, i);
+        put_coefs(&wc[h..h + n], sc, start);
+        clear_coefs(sc, start + n, cap - n);
+        start += cap;
+        cap *= 4;
+        i += 1;
+    }
+    let n = len_of(b, 5);
+    pull_coefs(sc, head_of(b, 5) - WORK_PLACES, start, n);
+    clear_coefs(sc, start + n, cap - n);
+}
+
+// Puts the words of the n keys from place `from` on from `to` on, which is no later place. The two
+// may overlap.
+pub fn pull_words(order: Order, s: &mut [u64], from: usize, to: usize, n: usize)
     requires { ⌜ (from + n ≤ length (now s)) × (to ≤ from) ⌝ }
-    ensures { λ _. ⌜ now (s .exit) ≡ sets (now (s .entry)) to (part from n (now (s .entry))) ⌝ }
+    ensures { λ _. ⌜ now (s .exit) ≡ sets (now (s .entry)) to (map (fromKey order) (part from n (now (s .entry)))) ⌝ }
 {
     let mut i = 0;
     while i < n {
-        s[to + i] = s[from + i];
+        s[to + i] = order.word(s[from + i]);
         i += 1;
     }
 }
 
-// The same for coefficients.
+// Puts the n coefficients from place `from` on also from `to` on, which is no later place. The two
+// may overlap.
 pub fn pull_coefs(s: &mut [u32], from: usize, to: usize, n: usize)
     requires { ⌜ (from + n ≤ length (now s)) × (to ≤ from) ⌝ }
     ensures { λ _. ⌜ now (s .exit) ≡ sets (now (s .entry)) to (part from n (now (s .entry))) ⌝ }

@@ -1,33 +1,40 @@
-// Where the six buckets lie in the bucket space: twelve numbers, which are lent from call to call.
-// The first six are the place of each bucket's lead, the next six each bucket's terms. Taking a lead
-// moves the head: nothing is shifted.
+// Where the six buckets lie: eighteen numbers, which are lent from call to call. The first six are
+// the place of each bucket's lead, the next six each bucket's terms, and the next five where the free
+// area of each of buckets 0 to 4 begins. Places are counted through the work space and on through the
+// bucket space. Taking a lead moves the head: nothing is shifted.
 ghost use mathlib.Core.Path.{_≡_};
 ghost use Prim.Native.Nat.{_<_};
 ghost use lib.ListN.{length};
-ghost use Rattle.space.specs.Space.{Laid, headAt, heldIn, lenAt, moved, noBuckets};
+ghost use Rattle.space.specs.Space.{Laid, headAt, heldIn, lenAt, sideAt, moved, turned, noBuckets};
 
-// Six empty buckets, each at its start.
+// Six empty buckets: each of buckets 0 to 4 in its first area, and bucket 5 at the end of its place.
 pub fn clear(b: &mut [usize])
-    requires { ⌜ length (now b) ≡ 12 ⌝ }
+    requires { ⌜ length (now b) ≡ 18 ⌝ }
     ensures { λ _. ⌜ now (b .exit) ≡ noBuckets ⌝ }
 {
     b[0] = 0;
-    b[1] = 4;
-    b[2] = 20;
-    b[3] = 84;
-    b[4] = 340;
-    b[5] = 1364;
+    b[1] = 16;
+    b[2] = 80;
+    b[3] = 336;
+    b[4] = 1360;
+    b[5] = 13652;
     b[6] = 0;
     b[7] = 0;
     b[8] = 0;
     b[9] = 0;
     b[10] = 0;
     b[11] = 0;
+    b[12] = 8;
+    b[13] = 48;
+    b[14] = 208;
+    b[15] = 848;
+    b[16] = 3408;
+    b[17] = 0;
 }
 
 // The place of bucket i's lead.
 pub fn head_of(b: &[usize], i: usize) -> usize
-    requires { ⌜ (length (now b) ≡ 12) × (i < 6) ⌝ }
+    requires { ⌜ (length (now b) ≡ 18) × (i < 6) ⌝ }
     ensures { λ r. ⌜ r ≡ headAt (now (b .entry)) i ⌝ }
 {
     b[i]
@@ -35,19 +42,37 @@ pub fn head_of(b: &[usize], i: usize) -> usize
 
 // The terms of bucket i.
 pub fn len_of(b: &[usize], i: usize) -> usize
-    requires { ⌜ (length (now b) ≡ 12) × (i < 6) ⌝ }
+    requires { ⌜ (length (now b) ≡ 18) × (i < 6) ⌝ }
     ensures { λ r. ⌜ r ≡ lenAt (now (b .entry)) i ⌝ }
 {
     b[6 + i]
 }
 
+// Where the free area of bucket i begins.
+pub fn side_of(b: &[usize], i: usize) -> usize
+    requires { ⌜ (length (now b) ≡ 18) × (i < 5) ⌝ }
+    ensures { λ r. ⌜ r ≡ sideAt (now (b .entry)) i ⌝ }
+{
+    b[12 + i]
+}
+
 // Bucket i has its lead at `head` and `len` terms.
 pub fn place(b: &mut [usize], i: usize, head: usize, len: usize)
-    requires { ⌜ (length (now b) ≡ 12) × (i < 6) ⌝ }
+    requires { ⌜ (length (now b) ≡ 18) × (i < 6) ⌝ }
     ensures { λ _. ⌜ now (b .exit) ≡ moved (now (b .entry)) i head len ⌝ }
 {
     b[i] = head;
     b[6 + i] = len;
+}
+
+// Bucket i has its lead at `head` and `len` terms, and its free area at `side`.
+pub fn turn(b: &mut [usize], i: usize, head: usize, len: usize, side: usize)
+    requires { ⌜ (length (now b) ≡ 18) × (i < 5) ⌝ }
+    ensures { λ _. ⌜ now (b .exit) ≡ turned (now (b .entry)) i head len side ⌝ }
+{
+    b[i] = head;
+    b[6 + i] = len;
+    b[12 + i] = side;
 }
 
 // The terms held.

@@ -10,7 +10,7 @@ use Rattle.call.proofs.OutcomeLaws.{decided-refused, decided-none}
 use Rattle.opening.proofs.ListedLaws.{reduction-listed}
 use Rattle.opening.proofs.ReductionLaws.{reduction-opened}
 use Rattle.reductions.proofs.OpenedLaws.{reducible, spaces}
-use Rattle.reductions.proofs.OutcomeLaws.{in-order, ended-as}
+use Rattle.reductions.proofs.OutcomeLaws.{ended-as}
 use borrow.Author.Needs.{needs}
 use Rattle.reductions.proofs.reduce.Statement.{statement}
 use Rattle.reductions.proofs.reduce.Tie as tie
@@ -56,7 +56,7 @@ settle-requires c κs =
     let o = reduction-opened (settingOf (a .p) (a .order) (a .n) (now (a .weights))) (now (a .words)) (now (a .coefs)) (now (a .starts)) (a .limit) (length (now (a .bw))) (length (now (a .bc))) (length (now (a .ww))) (length (now (a .wc))) (length (now (a .ow))) (length (now (a .oc))) (sym (c .before .before .before .before .before .before .before .before .before .before .before .before .before .before .before .before .before .before .before .before .before .before .before .before .before .before .before .before .before .before .before .reduction-opening .ensures) ∙ c .before .before .before .before .before .before .before .before .before .before .before .before .before .before .before .before .before .before .before .before .before .before .before .before .before .before .before .before .before .before .if1 .left) in
     let r = c .before .before .before .before .before .before .before .before .before .before .before .before .before .before .before .before .before .before .reduce-all .ensures in
     let k = c .before .before .before .before .before .before .before .before .before .before .before .before .before .before .before .before .before .before .reduce-all .kept in
-    (r .stands .laid, r .stands .words-long, r .stands .coefs-long, k .1 .1 .1 .1 .1 .1 .1 .1 .1 .0 ∙ o .work-words, k .1 .1 .1 .1 .1 .1 .1 .1 .1 .1 .0 ∙ o .work-coefs)
+    (r .stands .laid, k .1 .1 .1 .1 .1 .1 .1 .0 ∙ o .bucket-words, k .1 .1 .1 .1 .1 .1 .1 .1 .0 ∙ o .bucket-coefs, k .1 .1 .1 .1 .1 .1 .1 .1 .1 .0 ∙ o .work-words, k .1 .1 .1 .1 .1 .1 .1 .1 .1 .1 .0 ∙ o .work-coefs)
 
 slice-aggregate-ended : tie.Need-slice-aggregate-ended
 slice-aggregate-ended c = search needs
@@ -85,7 +85,7 @@ same-length-6 c = search needs
 returns-2 : tie.Need-returns-2
 returns-2 c =
     let a = c .before .before .before .before .before .before .before .before .before .before .before .before .before .before .before .before .before .before .before .before .before .before .before .before .before .before .before .before .before .before .before .before .before .before .before .before .before .before .before .before .before .before .before .before .before .before .before .before .before .before .before .before .before .args in
-    ended-as (in-order (c .before .before .before .before .before .before .before .before .before .before .before .before .before .before .before .before .before .before .before .before .before .before .before .before .before .before .before .before .before .before .before .before .before .before .before .before .before .order-of .ensures) (c .before .before .before .before .before .before .before .before .before .before .before .before .before .before .before .before .before .before .before .before .before .before .before .before .before .before .before .before .before .reduce-all .ensures)) (c .before .before .before .before .before .before .before .before .before .before .settle .ensures) (c .ended .ensures)
+    ended-as (c .before .before .before .before .before .before .before .before .before .before .before .before .before .before .before .before .before .before .before .before .before .before .before .before .before .before .before .before .before .before .before .before .before .before .before .before .before .order-of .ensures) (c .before .before .before .before .before .before .before .before .before .before .before .before .before .before .before .before .before .before .before .before .before .before .before .before .before .before .before .before .before .reduce-all .ensures) (c .before .before .before .before .before .before .before .before .before .before .settle .ensures) (c .ended .ensures)
     ∙ sym (decided-none _ (a .tally) _ (now (a .bw)) (now (a .bc)) (now (a .ww)) (now (a .wc)) (now (a .ow)) (now (a .oc)) (sym (c .before .before .before .before .before .before .before .before .before .before .before .before .before .before .before .before .before .before .before .before .before .before .before .before .before .before .before .before .before .before .before .before .before .before .before .before .before .before .before .before .before .before .reduction-opening .ensures) ∙ c .before .before .before .before .before .before .before .before .before .before .before .before .before .before .before .before .before .before .before .before .before .before .before .before .before .before .before .before .before .before .before .before .before .before .before .before .before .before .before .before .before .if1 .left))
 
 pub reduce-spec : {M : Type 1} → statement M

@@ -1,217 +1,134 @@
 -- `buckets::add::carry` meets its contract. Assumes nothing.
-use mathlib.Core.Path.{_≡_, sym, _∙_}
+use mathlib.Core.Path.{sym, ap, _∙_}
 use mathlib.Core.List.{_++_}
-use Prim.Native.Nat.{suc, _+_, _-_, _<_, _≤_}
+use Prim.Native.Nat.{ℕ, _+_, _-_, _*_, _<_, _≤_, compare}
 use native.Mathlib.Omega.{arith}
 use borrow.Author.Needs.{needs}
 use lib.ListN.{length}
-use Rattle.limits.specs.Limits.{bucketPlaces}
-use Rattle.monomial.specs.Words.{compareWords}
-use Rattle.monomial.proofs.OrderLaws.{words-order}
 use Rattle.polynomial.specs.Terms as T
 use Rattle.merge_common.specs.Lent.{part}
+use Rattle.geobucket.specs.Buckets.{carry, carryCompared}
 use Rattle.space.specs.Space.{capacity, listFrom, bucketAt}
 use Rattle.space.proofs.SpaceLaws.{part-to}
-use Rattle.buckets.specs.Adding.{landed, landedCompared}
-use Rattle.buckets.proofs.WorkLaws.{in-work, to-work}
-use Rattle.buckets.proofs.CarryState.{Carries, carries-start, carried, store-asks, carries-end, next-bucket, next-six, next-laid, next-end, next-sum, within, next-count, again, again-empty, place-asks, placed-fits, placed-count, placed-state}
+use Rattle.buckets.specs.declared.level.Level.{Level}
+use Rattle.buckets.proofs.CarryState.{Carries, carries-start, up-asks, other-asks, short-count, stays, goes, last-asks, ends}
 use Rattle.buckets.proofs.add.carry.Statement.{statement}
 use Rattle.buckets.proofs.add.carry.Tie as tie
 
 abbrev Inv-loop : tie.InvT-loop
-Inv-loop order p b₀ sw₀ sc₀ ww₀ wc₀ terms comparisons l₀ from₀ len₀ n₀ b sw sc ww wc l from len n =
-    Carries (compareWords order) p
-    (listFrom (bucketAt b₀ sw₀ sc₀) 0 (l₀ .bucket) ++ landed (compareWords order) p (capacity (l₀ .bucket)) (T.terms (part 0 terms ww₀) (part 0 terms wc₀)) (listFrom (bucketAt b₀ sw₀ sc₀) (suc (l₀ .bucket)) (5 - l₀ .bucket)))
-    (comparisons + length (landedCompared (compareWords order) p (capacity (l₀ .bucket)) (T.terms (part 0 terms ww₀) (part 0 terms wc₀)) (listFrom (bucketAt b₀ sw₀ sc₀) (suc (l₀ .bucket)) (5 - l₀ .bucket))))
-    sw sc b l ww wc from len n
+Inv-loop p b₀ first amount sw sc ww₀ wc₀ l₀ from₀ len₀ n₀ b ww wc l from len n =
+    let g = bucketAt b₀ (ww₀ ++ sw) (wc₀ ++ sc) in
+    let f = T.terms (part first amount ww₀) (part first amount wc₀) in
+    Carries p (listFrom g 0 (l₀ .bucket) ++ carry compare p (capacity (l₀ .bucket)) f (listFrom g (l₀ .bucket) (6 - l₀ .bucket)))
+    (length (carryCompared compare p (capacity (l₀ .bucket)) f (listFrom g (l₀ .bucket) (6 - l₀ .bucket)))) b l from len n ww wc sw sc
 
 abbrev μ-loop : tie.MeasureT-loop
-μ-loop order p b₀ sw₀ sc₀ ww₀ wc₀ terms comparisons l₀ from₀ len₀ n₀ b sw sc ww wc l from len n = 6 - l .bucket
-
--- in a turn, once the next bucket's place is known
-abbrev Turn : Type 0
-Turn = tie.After-len-of Inv-loop μ-loop
-
-abbrev head : Turn → tie.At-loop Inv-loop μ-loop
-head t = t .before .before .before .before .before .before .before .before .before .before .before
-
-abbrev entry : Turn → tie.Start Inv-loop μ-loop
-entry t = t .before .before .before .before .before .before .before .before .before .before .before .before .before .before .before .before .before
-
-end : (t : Turn) → t .before .before .head-of .result + t .len-of .result ≤ bucketPlaces
-end t = next-end (head t .loop .inv) (t .before .before .before .before .before .before .before .before .before .if1 .taken) (t .before .before .before .before .next .ensures) (t .before .before .before .before .before .before .before .place .ensures) (t .before .before .head-of .ensures) (t .len-of .ensures)
-
--- the next bucket is a later one, and there is one
-later : (t : Turn) → (t .before .before .before .before .next .result .bucket ≡ suc (head t .loop .l .bucket)) × (t .before .before .before .before .next .result .bucket < 6)
-later t = (next-bucket (head t .loop .inv) (t .before .before .before .before .before .before .before .before .before .if1 .taken) (t .before .before .before .before .next .ensures), next-six (head t .loop .inv) (t .before .before .before .before .before .before .before .before .before .if1 .taken) (t .before .before .before .before .next .ensures))
+μ-loop p b₀ first amount sw sc ww₀ wc₀ l₀ from₀ len₀ n₀ b ww wc l from len n = 6 - l .bucket
 
 loop-holds : tie.Need-loop-holds Inv-loop μ-loop
 loop-holds c = carries-start (c .before .before .before .before .before .pre)
 
-place-requires : tie.Need-place-requires Inv-loop μ-loop
-place-requires c κs = (c .before .before .before .loop .inv .laid .twelve, c .before .before .before .loop .inv .state .in-six)
+side-of-requires : tie.Need-side-of-requires Inv-loop μ-loop
+side-of-requires c κs = (c .before .before .before .loop .inv .laid .eighteen, c .before .if1 .taken)
 
-next-requires : tie.Need-next-requires Inv-loop μ-loop
-next-requires c κs = (c .before .before .before .before .before .before .loop .inv .level-is, c .before .before .before .before .before .before .loop .inv .state .in-six)
+merge-up-requires : tie.Need-merge-up-requires Inv-loop μ-loop
+merge-up-requires c κs = up-asks (c .before .before .before .before .before .before .before .loop .inv) (c .before .before .before .before .before .if1 .taken)
 
-head-of-requires : tie.Need-head-of-requires Inv-loop μ-loop
-head-of-requires c κs = (next-laid (c .before .before .before .before .before .before .before .before .loop .inv) (c .before .before .before .before .before .before .if1 .taken) (c .before .next .ensures) (c .before .before .before .before .place .ensures) .twelve, next-six (c .before .before .before .before .before .before .before .before .loop .inv) (c .before .before .before .before .before .before .if1 .taken) (c .before .next .ensures))
+other-area-requires : tie.Need-other-area-requires Inv-loop μ-loop
+other-area-requires c κs = other-asks (c .before .before .before .before .before .before .before .before .before .before .before .before .before .before .before .before .loop .inv) (c .before .before .before .before .before .before .before .before .before .before .before .before .before .before .if1 .taken) (c .before .before .before .before .before .before .before .before .before .before .before .before .side-of .ensures)
 
-len-of-requires : tie.Need-len-of-requires Inv-loop μ-loop
-len-of-requires c κs = (next-laid (c .before .before .before .before .before .before .before .before .before .before .loop .inv) (c .before .before .before .before .before .before .before .before .if1 .taken) (c .before .before .before .next .ensures) (c .before .before .before .before .before .before .place .ensures) .twelve, next-six (c .before .before .before .before .before .before .before .before .before .before .loop .inv) (c .before .before .before .before .before .before .before .before .if1 .taken) (c .before .before .before .next .ensures))
-
-add-if2 : tie.Need-add-if2 Inv-loop μ-loop
-add-if2 c = let t = c .before in omega (arith, next-sum (head t .loop .inv) (t .before .before .before .before .before .before .before .before .before .if1 .taken) (t .before .before .before .before .next .ensures))
-
-add-end : tie.Need-add-end Inv-loop μ-loop
-add-end c = omega (arith, in-work (head (c .before .before) .loop .inv .work))
-
-mul-merge-bucket : tie.Need-mul-merge-bucket Inv-loop μ-loop
-mul-merge-bucket c = omega (arith, in-work (head (c .before .before .before) .loop .inv .work))
-
-sub-merge-bucket : tie.Need-sub-merge-bucket Inv-loop μ-loop
-sub-merge-bucket c = search needs
-
-part-merge-bucket-start : tie.Need-part-merge-bucket-start Inv-loop μ-loop
-part-merge-bucket-start c = search needs
-
-part-merge-bucket-end : tie.Need-part-merge-bucket-end Inv-loop μ-loop
-part-merge-bucket-end c = let t = c .before .before .before .before in omega (arith, in-work (head t .loop .inv .work), head t .loop .inv .work .work-words)
-
-mul-merge-bucket-2 : tie.Need-mul-merge-bucket-2 Inv-loop μ-loop
-mul-merge-bucket-2 c = omega (arith, in-work (head (c .before .before .before .before .before) .loop .inv .work))
-
-sub-merge-bucket-2 : tie.Need-sub-merge-bucket-2 Inv-loop μ-loop
-sub-merge-bucket-2 c = search needs
-
-part-merge-bucket-start-2 : tie.Need-part-merge-bucket-start-2 Inv-loop μ-loop
-part-merge-bucket-start-2 c = search needs
-
-part-merge-bucket-end-2 : tie.Need-part-merge-bucket-end-2 Inv-loop μ-loop
-part-merge-bucket-end-2 c = let t = c .before .before .before .before .before .before in omega (arith, in-work (head t .loop .inv .work), head t .loop .inv .work .work-coefs)
-
-merge-bucket-requires : tie.Need-merge-bucket-requires Inv-loop μ-loop
-merge-bucket-requires c κs = let t = c .before .before .before .before .before .before .before .before .before in place-asks (head t .loop .inv) (t .before .before .before .before .before .before .before .before .before .if1 .taken) (t .before .before .before .before .next .ensures) (t .before .before .before .before .before .before .before .place .ensures) (words-order (entry t .args .order)) (omega (arith, t .before .before .head-of .ensures, c .before .before .before .before .before .before .before .if2 .taken)) (part-to (head t .loop .from) (head t .loop .len) (head t .loop .ww)) (part-to (head t .loop .from) (head t .loop .len) (head t .loop .wc))
+turn-requires : tie.Need-turn-requires Inv-loop μ-loop
+turn-requires c κs = (c .before .before .before .before .before .before .before .before .before .before .before .before .before .before .before .before .before .loop .inv .laid .eighteen, c .before .before .before .before .before .before .before .before .before .before .before .before .before .before .before .if1 .taken)
 
 add-result : tie.Need-add-result Inv-loop μ-loop
-add-result c = let t = c .before .before .before .before .before .before .before .before .before .before .before .before .before .before .before .before in omega (arith, placed-count (head t .loop .inv) (t .before .before .before .before .before .before .before .before .before .if1 .taken) (t .before .before .before .before .next .ensures) (t .before .before .before .before .before .before .before .place .ensures) (words-order (entry t .args .order)) (omega (arith, t .before .before .head-of .ensures, c .before .before .before .before .before .before .before .before .before .before .before .before .before .before .if2 .taken)) (part-to (head t .loop .from) (head t .loop .len) (head t .loop .ww)) (part-to (head t .loop .from) (head t .loop .len) (head t .loop .wc)) (c .before .before .before .before .before .before .merge-bucket .ensures .1))
+add-result c = let k = c .before .before .before .before .before .before .before .before .before .before .before .before .before .before .before .before .before .before .before .if1 .taken in omega (arith, short-count (c .before .before .before .before .before .before .before .before .before .before .before .before .before .before .before .before .before .before .before .before .before .loop .inv) (c .before .before .before .before .before .before .before .before .before .before .before .before .before .before .before .before .before .before .before .if1 .taken) (c .before .before .before .before .before .before .before .before .before .before .before .before .before .merge-up .ensures) (c .before .before .before .before .before .before .before .before .before .before .before .before .before .merge-up .kept .1 .1 .1 .1 .1 .0) (c .before .before .before .before .before .before .before .before .before .before .before .before .before .merge-up .kept .1 .1 .1 .1 .1 .1 .0), k)
 
 same-length : tie.Need-same-length Inv-loop μ-loop
-same-length c = c .before .before .before .before .before .before .merge-bucket .ensures .0 .laid .twelve ∙ sym (c .before .before .before .before .before .before .before .before .before .before .before .before .before .before .before .before .before .before .before .before .before .before .before .before .before .before .before .before .before .before .before .before .before .pre .stands .laid .twelve)
+same-length c = c .before .before .before .turn .kept .0 ∙ (c .before .before .before .before .before .before .before .before .before .before .before .before .before .before .before .before .before .before .before .before .before .loop .inv .laid .eighteen ∙ sym (c .before .before .before .before .before .before .before .before .before .before .before .before .before .before .before .before .before .before .before .before .before .before .before .before .before .before .before .pre .stands .laid .eighteen))
 
 same-length-2 : tie.Need-same-length-2 Inv-loop μ-loop
-same-length-2 c = c .before .before .before .before .before .before .merge-bucket .ensures .0 .words-long ∙ sym (c .before .before .before .before .before .before .before .before .before .before .before .before .before .before .before .before .before .before .before .before .before .before .before .before .before .before .before .before .before .before .before .before .before .pre .stands .words-long)
+same-length-2 c = c .before .before .before .before .before .before .before .before .before .before .before .before .before .merge-up .kept .1 .1 .1 .1 .1 .0 ∙ (c .before .before .before .before .before .before .before .before .before .before .before .before .before .before .before .before .before .before .before .before .before .loop .inv .slices .work-words ∙ sym (c .before .before .before .before .before .before .before .before .before .before .before .before .before .before .before .before .before .before .before .before .before .before .before .before .before .before .before .pre .slices .work-words))
 
 same-length-3 : tie.Need-same-length-3 Inv-loop μ-loop
-same-length-3 c = c .before .before .before .before .before .before .merge-bucket .ensures .0 .coefs-long ∙ sym (c .before .before .before .before .before .before .before .before .before .before .before .before .before .before .before .before .before .before .before .before .before .before .before .before .before .before .before .before .before .before .before .before .before .pre .stands .coefs-long)
-
-same-length-4 : tie.Need-same-length-4 Inv-loop μ-loop
-same-length-4 c = c .before .before .before .before .before .before .before .before .before .before .before .before .before .before .before .before .before .before .before .before .before .before .before .before .before .before .before .loop .inv .work .work-words ∙ sym (c .before .before .before .before .before .before .before .before .before .before .before .before .before .before .before .before .before .before .before .before .before .before .before .before .before .before .before .before .before .before .before .before .before .pre .work-words)
-
-same-length-5 : tie.Need-same-length-5 Inv-loop μ-loop
-same-length-5 c = c .before .before .before .before .before .before .before .before .before .before .before .before .before .before .before .before .before .before .before .before .before .before .before .before .before .before .before .loop .inv .work .work-coefs ∙ sym (c .before .before .before .before .before .before .before .before .before .before .before .before .before .before .before .before .before .before .before .before .before .before .before .before .before .before .before .before .before .before .before .before .before .pre .work-coefs)
+same-length-3 c = c .before .before .before .before .before .before .before .before .before .before .before .before .before .merge-up .kept .1 .1 .1 .1 .1 .1 .0 ∙ (c .before .before .before .before .before .before .before .before .before .before .before .before .before .before .before .before .before .before .before .before .before .loop .inv .slices .work-coefs ∙ sym (c .before .before .before .before .before .before .before .before .before .before .before .before .before .before .before .before .before .before .before .before .before .before .before .before .before .before .before .pre .slices .work-coefs))
 
 returns : tie.Need-returns Inv-loop μ-loop
 returns c =
-    let t = c .before .before .before .before .before .before .before .before .before .before .before .before .before .before .before .before in
-    let m = c .before .before .before .before .before .before .merge-bucket .ensures in
-    carried (entry t .pre) (placed-state (head t .loop .inv) (t .before .before .before .before .before .before .before .before .before .if1 .taken) (t .before .before .before .before .next .ensures) (t .before .before .before .before .before .before .before .place .ensures) (words-order (entry t .args .order)) (omega (arith, t .before .before .head-of .ensures, c .before .before .before .before .before .before .before .before .before .before .before .before .before .before .if2 .taken)) (part-to (head t .loop .from) (head t .loop .len) (head t .loop .ww)) (part-to (head t .loop .from) (head t .loop .len) (head t .loop .wc)) (m .1)) (placed-fits (head t .loop .inv) (t .before .before .before .before .before .before .before .before .before .if1 .taken) (t .before .before .before .before .next .ensures) (t .before .before .before .before .before .before .before .place .ensures) (words-order (entry t .args .order)) (omega (arith, t .before .before .head-of .ensures, c .before .before .before .before .before .before .before .before .before .before .before .before .before .before .if2 .taken)) (part-to (head t .loop .from) (head t .loop .len) (head t .loop .ww)) (part-to (head t .loop .from) (head t .loop .len) (head t .loop .wc))) (m .0)
+    let q = c .before .before .before .before .before .before .before .before .before .before .before .before .before .before .before .before .before .before .before .before .before .loop .l in
+    let s = stays (c .before .before .before .before .before .before .before .before .before .before .before .before .before .before .before .before .before .before .before .before .before .loop .inv) (c .before .before .before .before .before .before .before .before .before .before .before .before .before .before .before .before .before .before .before .if1 .taken) (c .before .before .before .before .before .before .before .before .before .before .before .before .before .merge-up .ensures) (c .before .before .before .before .before .before .before .before .before .before .before .before .before .merge-up .kept .1 .1 .1 .1 .1 .0) (c .before .before .before .before .before .before .before .before .before .before .before .before .before .merge-up .kept .1 .1 .1 .1 .1 .1 .0) (c .before .before .before .before .before .before .if2 .taken) (c .before .before .before .before .other-area .ensures ∙ ap (λ (x : ℕ). q .zone + (q .zone + 2 * q .cap - x)) (c .before .before .before .before .before .before .before .before .before .before .before .before .before .before .before .before .before .side-of .ensures)) (c .before .before .before .turn .ensures) in
+    record { lists-are = s .0; count-is = s .1; few = s .2; stands = s .3 }
 
-add-e : tie.Need-add-e Inv-loop μ-loop
-add-e c = omega (arith, end (c .before .before .before))
+head-of-requires : tie.Need-head-of-requires Inv-loop μ-loop
+head-of-requires c κs = (c .before .before .before .before .before .before .before .before .before .before .before .before .before .before .before .before .loop .inv .laid .eighteen, c .before .before .before .before .before .before .before .before .before .before .before .before .before .before .before .before .loop .inv .within)
 
-sub-to : tie.Need-sub-to Inv-loop μ-loop
-sub-to c = omega (arith, to-work (head (c .before .before .before) .loop .inv .work))
-
-mul-merge-within : tie.Need-mul-merge-within Inv-loop μ-loop
-mul-merge-within c = omega (arith, end (c .before .before .before .before .before))
-
-sub-merge-within : tie.Need-sub-merge-within Inv-loop μ-loop
-sub-merge-within c = search needs
-
-part-merge-within-start : tie.Need-part-merge-within-start Inv-loop μ-loop
-part-merge-within-start c = search needs
-
-part-merge-within-end : tie.Need-part-merge-within-end Inv-loop μ-loop
-part-merge-within-end c = let t = c .before .before .before .before .before .before in omega (arith, end t, head t .loop .inv .words-long)
-
-mul-merge-within-2 : tie.Need-mul-merge-within-2 Inv-loop μ-loop
-mul-merge-within-2 c = omega (arith, end (c .before .before .before .before .before .before .before))
-
-sub-merge-within-2 : tie.Need-sub-merge-within-2 Inv-loop μ-loop
-sub-merge-within-2 c = search needs
-
-part-merge-within-start-2 : tie.Need-part-merge-within-start-2 Inv-loop μ-loop
-part-merge-within-start-2 c = search needs
-
-part-merge-within-end-2 : tie.Need-part-merge-within-end-2 Inv-loop μ-loop
-part-merge-within-end-2 c = let t = c .before .before .before .before .before .before .before .before in omega (arith, end t, head t .loop .inv .coefs-long)
-
-merge-within-requires : tie.Need-merge-within-requires Inv-loop μ-loop
-merge-within-requires c κs = let t = c .before .before .before .before .before .before .before .before .before in within (head t .loop .inv) (t .before .before .before .before .before .before .before .before .before .if1 .taken) (t .before .before .before .before .next .ensures) (t .before .before .before .before .before .before .before .place .ensures) (words-order (entry t .args .order)) (t .before .before .head-of .ensures) (t .len-of .ensures)
+place-requires : tie.Need-place-requires Inv-loop μ-loop
+place-requires c κs = (c .before .before .before .before .before .before .before .before .before .before .before .before .before .before .before .before .before .before .loop .inv .laid .eighteen, c .before .before .before .before .before .before .before .before .before .before .before .before .before .before .before .before .before .before .loop .inv .within)
 
 add-n : tie.Need-add-n Inv-loop μ-loop
-add-n c = let t = c .before .before .before .before .before .before .before .before .before .before .before .before .before .before .before in omega (arith, next-count (head t .loop .inv) (t .before .before .before .before .before .before .before .before .before .if1 .taken) (t .before .before .before .before .next .ensures) (t .before .before .before .before .before .before .before .place .ensures) (words-order (entry t .args .order)) (t .before .before .head-of .ensures) (t .len-of .ensures) (c .before .before .before .before .before .merge-within .ensures))
+add-n c = let k = c .before .before .before .before .before .before .before .before .before .before .before .before .before .before .before .before .before .before .before .before .if1 .taken in omega (arith, short-count (c .before .before .before .before .before .before .before .before .before .before .before .before .before .before .before .before .before .before .before .before .before .before .loop .inv) (c .before .before .before .before .before .before .before .before .before .before .before .before .before .before .before .before .before .before .before .before .if1 .taken) (c .before .before .before .before .before .before .before .before .before .before .before .before .before .before .merge-up .ensures) (c .before .before .before .before .before .before .before .before .before .before .before .before .before .before .merge-up .kept .1 .1 .1 .1 .1 .0) (c .before .before .before .before .before .before .before .before .before .before .before .before .before .before .merge-up .kept .1 .1 .1 .1 .1 .1 .0), k)
+
+next-requires : tie.Need-next-requires Inv-loop μ-loop
+next-requires c κs = (c .before .before .before .before .before .before .before .before .before .before .before .before .before .before .before .before .before .before .before .before .before .before .loop .inv .level-is, c .before .before .before .before .before .before .before .before .before .before .before .before .before .before .before .before .before .before .before .before .before .before .loop .inv .within)
 
 loop-less : tie.Need-loop-less Inv-loop μ-loop
-loop-less c = omega (arith, later (c .before .before .before .before .before .before .before .before .before .before .before .before .before .before .before))
+loop-less c = omega (arith, c .before .before .before .before .before .before .before .before .before .before .before .before .before .before .before .before .before .before .before .before .before .before .before .loop .inv .within, ap (λ (k : Level). k .bucket) (c .next .ensures))
 
 loop-again : tie.Need-loop-again Inv-loop μ-loop
-loop-again c = let t = c .before .before .before .before .before .before .before .before .before .before .before .before .before .before .before in again (head t .loop .inv) (t .before .before .before .before .before .before .before .before .before .if1 .taken) (t .before .before .before .before .next .ensures) (t .before .before .before .before .before .before .before .place .ensures) (words-order (entry t .args .order)) (t .before .before .head-of .ensures) (t .len-of .ensures) (c .before .before .before .before .before .merge-within .ensures)
+loop-again c = goes (c .before .before .before .before .before .before .before .before .before .before .before .before .before .before .before .before .before .before .before .before .before .before .before .loop .inv) (c .before .before .before .before .before .before .before .before .before .before .before .before .before .before .before .before .before .before .before .before .before .if1 .taken) (c .before .before .before .before .before .before .before .before .before .before .before .before .before .before .before .merge-up .ensures) (c .before .before .before .before .before .before .before .before .before .before .before .before .before .before .before .merge-up .kept .1 .1 .1 .1 .1 .0) (c .before .before .before .before .before .before .before .before .before .before .before .before .before .before .before .merge-up .kept .1 .1 .1 .1 .1 .1 .0) (omega (arith, c .before .before .before .before .before .before .before .before .if2 .left)) (c .before .before .before .before .before .before .head-of .ensures) (c .before .before .before .before .place .ensures) (c .next .ensures)
 
-loop-less-2 : tie.Need-loop-less-2 Inv-loop μ-loop
-loop-less-2 c = omega (arith, later (c .before .before .before))
+add-end : tie.Need-add-end Inv-loop μ-loop
+add-end c = omega (arith, c .before .before .loop .inv .in-places)
 
-loop-again-2 : tie.Need-loop-again-2 Inv-loop μ-loop
-loop-again-2 c = let t = c .before .before .before in again-empty (head t .loop .inv) (t .before .before .before .before .before .before .before .before .before .if1 .taken) (t .before .before .before .before .next .ensures) (t .before .before .before .before .before .before .before .place .ensures) (words-order (entry t .args .order)) (sym (t .len-of .ensures) ∙ c .if3 .left)
+mul-merge-last : tie.Need-mul-merge-last Inv-loop μ-loop
+mul-merge-last c = omega (arith, c .before .before .before .loop .inv .in-places)
 
-add-end-2 : tie.Need-add-end-2 Inv-loop μ-loop
-add-end-2 c = omega (arith, in-work (c .before .before .loop .inv .work))
+sub-merge-last : tie.Need-sub-merge-last Inv-loop μ-loop
+sub-merge-last c = search needs
 
-mul-store : tie.Need-mul-store Inv-loop μ-loop
-mul-store c = omega (arith, in-work (c .before .before .before .loop .inv .work))
+part-merge-last-start : tie.Need-part-merge-last-start Inv-loop μ-loop
+part-merge-last-start c = search needs
 
-sub-store : tie.Need-sub-store Inv-loop μ-loop
-sub-store c = search needs
+part-merge-last-end : tie.Need-part-merge-last-end Inv-loop μ-loop
+part-merge-last-end c = omega (arith, c .before .before .before .before .loop .inv .in-places, c .before .before .before .before .loop .inv .slices .work-words)
 
-part-store-start : tie.Need-part-store-start Inv-loop μ-loop
-part-store-start c = search needs
+mul-merge-last-2 : tie.Need-mul-merge-last-2 Inv-loop μ-loop
+mul-merge-last-2 c = omega (arith, c .before .before .before .before .before .loop .inv .in-places)
 
-part-store-end : tie.Need-part-store-end Inv-loop μ-loop
-part-store-end c = omega (arith, in-work (c .before .before .before .before .loop .inv .work), c .before .before .before .before .loop .inv .work .work-words)
+sub-merge-last-2 : tie.Need-sub-merge-last-2 Inv-loop μ-loop
+sub-merge-last-2 c = search needs
 
-mul-store-2 : tie.Need-mul-store-2 Inv-loop μ-loop
-mul-store-2 c = omega (arith, in-work (c .before .before .before .before .before .loop .inv .work))
+part-merge-last-start-2 : tie.Need-part-merge-last-start-2 Inv-loop μ-loop
+part-merge-last-start-2 c = search needs
 
-sub-store-2 : tie.Need-sub-store-2 Inv-loop μ-loop
-sub-store-2 c = search needs
+part-merge-last-end-2 : tie.Need-part-merge-last-end-2 Inv-loop μ-loop
+part-merge-last-end-2 c = omega (arith, c .before .before .before .before .before .before .loop .inv .in-places, c .before .before .before .before .before .before .loop .inv .slices .work-coefs)
 
-part-store-start-2 : tie.Need-part-store-start-2 Inv-loop μ-loop
-part-store-start-2 c = search needs
+merge-last-requires : tie.Need-merge-last-requires Inv-loop μ-loop
+merge-last-requires c κs = let k = c .before .before .before .before .before .before .before .before .before .loop in rw (part-to (k .from) (k .len) (k .ww), part-to (k .from) (k .len) (k .wc)) (last-asks (k .inv) (omega (arith, c .before .before .before .before .before .before .before .if1 .left)))
 
-part-store-end-2 : tie.Need-part-store-end-2 Inv-loop μ-loop
-part-store-end-2 c = omega (arith, in-work (c .before .before .before .before .before .before .loop .inv .work), c .before .before .before .before .before .before .loop .inv .work .work-coefs)
+add-result-2 : tie.Need-add-result-2 Inv-loop μ-loop
+add-result-2 c = let k = c .before .before .before .before .before .before .before .before .before .before .before .before .before .before .before .before .loop in omega (arith, ends (k .inv) (omega (arith, c .before .before .before .before .before .before .before .before .before .before .before .before .before .before .if1 .left)) (rw (part-to (k .from) (k .len) (k .ww), part-to (k .from) (k .len) (k .wc)) at (c .before .before .before .before .before .before .merge-last .ensures)) .2)
 
-store-requires : tie.Need-store-requires Inv-loop μ-loop
-store-requires c κs = let h = c .before .before .before .before .before .before .before .before .before in store-asks (c .before .before .before .before .before .before .before .before .before .before .before .before .before .before .before .pre) (h .loop .inv) (c .before .before .before .before .before .before .before .if1 .left) (part-to (h .loop .from) (h .loop .len) (h .loop .ww)) (part-to (h .loop .from) (h .loop .len) (h .loop .wc))
+same-length-4 : tie.Need-same-length-4 Inv-loop μ-loop
+same-length-4 c = c .before .before .before .before .before .before .merge-last .ensures .laid .eighteen ∙ sym (c .before .before .before .before .before .before .before .before .before .before .before .before .before .before .before .before .before .before .before .before .before .before .pre .stands .laid .eighteen)
+
+same-length-5 : tie.Need-same-length-5 Inv-loop μ-loop
+same-length-5 c = c .before .before .before .before .before .before .merge-last .ensures .words-long ∙ sym (c .before .before .before .before .before .before .before .before .before .before .before .before .before .before .before .before .before .before .before .before .before .before .pre .slices .words-long)
 
 same-length-6 : tie.Need-same-length-6 Inv-loop μ-loop
-same-length-6 c = c .before .before .before .before .before .before .store .ensures .laid .twelve ∙ sym (c .before .before .before .before .before .before .before .before .before .before .before .before .before .before .before .before .before .before .before .before .before .before .pre .stands .laid .twelve)
+same-length-6 c = c .before .before .before .before .before .before .merge-last .ensures .coefs-long ∙ sym (c .before .before .before .before .before .before .before .before .before .before .before .before .before .before .before .before .before .before .before .before .before .before .pre .slices .coefs-long)
 
 same-length-7 : tie.Need-same-length-7 Inv-loop μ-loop
-same-length-7 c = c .before .before .before .before .before .before .store .ensures .words-long ∙ sym (c .before .before .before .before .before .before .before .before .before .before .before .before .before .before .before .before .before .before .before .before .before .before .pre .stands .words-long)
+same-length-7 c = c .before .before .before .before .before .before .before .before .before .before .before .before .before .before .before .before .loop .inv .slices .work-words ∙ sym (c .before .before .before .before .before .before .before .before .before .before .before .before .before .before .before .before .before .before .before .before .before .before .pre .slices .work-words)
 
 same-length-8 : tie.Need-same-length-8 Inv-loop μ-loop
-same-length-8 c = c .before .before .before .before .before .before .store .ensures .coefs-long ∙ sym (c .before .before .before .before .before .before .before .before .before .before .before .before .before .before .before .before .before .before .before .before .before .before .pre .stands .coefs-long)
-
-same-length-9 : tie.Need-same-length-9 Inv-loop μ-loop
-same-length-9 c = c .before .before .before .before .before .before .before .before .before .before .before .before .before .before .before .before .loop .inv .work .work-words ∙ sym (c .before .before .before .before .before .before .before .before .before .before .before .before .before .before .before .before .before .before .before .before .before .before .pre .work-words)
-
-same-length-10 : tie.Need-same-length-10 Inv-loop μ-loop
-same-length-10 c = c .before .before .before .before .before .before .before .before .before .before .before .before .before .before .before .before .loop .inv .work .work-coefs ∙ sym (c .before .before .before .before .before .before .before .before .before .before .before .before .before .before .before .before .before .before .before .before .before .before .pre .work-coefs)
+same-length-8 c = c .before .before .before .before .before .before .before .before .before .before .before .before .before .before .before .before .loop .inv .slices .work-coefs ∙ sym (c .before .before .before .before .before .before .before .before .before .before .before .before .before .before .before .before .before .before .before .before .before .before .pre .slices .work-coefs)
 
 returns-2 : tie.Need-returns-2 Inv-loop μ-loop
-returns-2 c = let h = c .before .before .before .before .before .before .before .before .before .before .before .before .before .before .before .before in carries-end (c .before .before .before .before .before .before .before .before .before .before .before .before .before .before .before .before .before .before .before .before .before .before .pre) (h .loop .inv) (c .before .before .before .before .before .before .before .before .before .before .before .before .before .before .if1 .left) (part-to (h .loop .from) (h .loop .len) (h .loop .ww)) (part-to (h .loop .from) (h .loop .len) (h .loop .wc)) (c .before .before .before .before .before .before .store .ensures)
+returns-2 c =
+    let k = c .before .before .before .before .before .before .before .before .before .before .before .before .before .before .before .before .loop in
+    let s = ends (k .inv) (omega (arith, c .before .before .before .before .before .before .before .before .before .before .before .before .before .before .if1 .left)) (rw (part-to (k .from) (k .len) (k .ww), part-to (k .from) (k .len) (k .wc)) at (c .before .before .before .before .before .before .merge-last .ensures)) in
+    record { lists-are = s .0; count-is = s .1; few = s .2; stands = s .3 }
 
 pub carry-spec : {M : Type 1} → statement M
 carry-spec =
@@ -220,57 +137,35 @@ carry-spec =
     Inv-loop
     μ-loop
     loop-holds
-    place-requires
-    next-requires
-    head-of-requires
-    len-of-requires
-    add-if2
-    add-end
-    mul-merge-bucket
-    sub-merge-bucket
-    part-merge-bucket-start
-    part-merge-bucket-end
-    mul-merge-bucket-2
-    sub-merge-bucket-2
-    part-merge-bucket-start-2
-    part-merge-bucket-end-2
-    merge-bucket-requires
+    side-of-requires
+    merge-up-requires
+    other-area-requires
+    turn-requires
     add-result
     same-length
     same-length-2
     same-length-3
-    same-length-4
-    same-length-5
     returns
-    add-e
-    sub-to
-    mul-merge-within
-    sub-merge-within
-    part-merge-within-start
-    part-merge-within-end
-    mul-merge-within-2
-    sub-merge-within-2
-    part-merge-within-start-2
-    part-merge-within-end-2
-    merge-within-requires
+    head-of-requires
+    place-requires
     add-n
+    next-requires
     loop-less
     loop-again
-    loop-less-2
-    loop-again-2
-    add-end-2
-    mul-store
-    sub-store
-    part-store-start
-    part-store-end
-    mul-store-2
-    sub-store-2
-    part-store-start-2
-    part-store-end-2
-    store-requires
+    add-end
+    mul-merge-last
+    sub-merge-last
+    part-merge-last-start
+    part-merge-last-end
+    mul-merge-last-2
+    sub-merge-last-2
+    part-merge-last-start-2
+    part-merge-last-end-2
+    merge-last-requires
+    add-result-2
+    same-length-4
+    same-length-5
     same-length-6
     same-length-7
     same-length-8
-    same-length-9
-    same-length-10
     returns-2)

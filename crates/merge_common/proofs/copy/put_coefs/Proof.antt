@@ -6,8 +6,6 @@ use lib.ListN.{length}
 use Rattle.merge_common.proofs.Lists.{Begun, begun-none, begun-more, begun-all}
 use Rattle.merge_common.proofs.copy.put_coefs.Statement.{statement}
 use Rattle.merge_common.proofs.copy.put_coefs.Tie as tie
-use Rattle.merge_common.proofs.copy.put_coefs.Reads as reads
-use Rattle.merge_common.proofs.copy.put_coefs.Lts as lts
 
 abbrev Inv-loop : tie.InvT-loop
 Inv-loop src dst₀ to i₀ dst i = Begun src dst₀ to dst i

@@ -5,8 +5,6 @@ use Rattle.merge_common.proofs.Lists.{part-from, rest-left, rest-right}
 use borrow.Author.Needs.{needs}
 use Rattle.merge_common.proofs.copy.rest_words.Statement.{statement}
 use Rattle.merge_common.proofs.copy.rest_words.Tie as tie
-use Rattle.merge_common.proofs.copy.rest_words.Reads as reads
-use Rattle.merge_common.proofs.copy.rest_words.Lts as lts
 
 mul-result : tie.Need-mul-result
 mul-result c = search needs

@@ -5,8 +5,6 @@ use Rattle.merge_common.proofs.Steps.{choose-fits, choose-is, choose-be
 use borrow.Author.Needs.{needs}
 use Rattle.merge_common.proofs.merging.choose_coef.Statement.{statement}
 use Rattle.merge_common.proofs.merging.choose_coef.Tie as tie
-use Rattle.merge_common.proofs.merging.choose_coef.Reads as reads
-use Rattle.merge_common.proofs.merging.choose_coef.Lts as lts
 
 cast-g : tie.Need-cast-g
 cast-g c = search needs

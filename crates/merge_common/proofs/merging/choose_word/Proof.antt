@@ -2,8 +2,6 @@
 use Rattle.merge_common.proofs.Steps.{chosen-one, chosen-none}
 use Rattle.merge_common.proofs.merging.choose_word.Statement.{statement}
 use Rattle.merge_common.proofs.merging.choose_word.Tie as tie
-use Rattle.merge_common.proofs.merging.choose_word.Reads as reads
-use Rattle.merge_common.proofs.merging.choose_word.Lts as lts
 
 returns : tie.Need-returns
 returns c = let a = c .before .args in chosen-one (a .f) (a .x) (a .y) (c .if1 .taken)

@@ -4,8 +4,6 @@ use Rattle.merge_common.proofs.Steps.{flag-is}
 use borrow.Author.Needs.{needs}
 use Rattle.merge_common.proofs.merging.like.Statement.{statement}
 use Rattle.merge_common.proofs.merging.like.Tie as tie
-use Rattle.merge_common.proofs.merging.like.Reads as reads
-use Rattle.merge_common.proofs.merging.like.Lts as lts
 
 cast-result : tie.Need-cast-result
 cast-result c = search needs

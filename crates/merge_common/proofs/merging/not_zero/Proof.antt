@@ -5,8 +5,6 @@ use Rattle.merge_common.proofs.Steps.{flag-is}
 use borrow.Author.Needs.{needs}
 use Rattle.merge_common.proofs.merging.not_zero.Statement.{statement}
 use Rattle.merge_common.proofs.merging.not_zero.Tie as tie
-use Rattle.merge_common.proofs.merging.not_zero.Reads as reads
-use Rattle.merge_common.proofs.merging.not_zero.Lts as lts
 
 cast-result : tie.Need-cast-result
 cast-result c = search needs

@@ -1,4 +1,4 @@
--- `multiple::multiple::put_multiple` meets its contract: the two loops put the words and the coefficients of the multiple. Assumes nothing.
+-- `multiple::multiple::put_multiple` meets its contract: the two loops put the keys and the coefficients of the multiple. Assumes nothing.
 use Rattle.multiple.proofs.ProductLaws.{scalable, multiplied}
 use borrow.Author.Needs.{needs}
 use Rattle.multiple.proofs.multiple.put_multiple.Statement.{statement}
@@ -20,7 +20,7 @@ returns : tie.Need-returns
 returns c =
     let s = c .before .before in
     let p = s .before .before .before .before in
-    multiplied (p .before .before .before .before .before .before .pre) (p .put-products .ensures) (s .put-scaled .ensures)
+    multiplied (p .before .before .before .before .before .before .pre) _ (p .put-products .ensures) (s .put-scaled .ensures)
 
 pub put-multiple-spec : {M : Type 1} → statement M
 put-multiple-spec =

@@ -6,8 +6,8 @@ use Rattle.probe.proofs.geobuckets.probe_buckets_add.Tie as tie
 order-of-requires : tie.Need-order-of-requires
 order-of-requires c κs = search needs
 
-add-requires : tie.Need-add-requires
-add-requires c κs = rw (c .before .before .before .before .before .order-of .ensures) (c .before .before .before .before .before .before .before .before .before .before .before .before .before .pre)
+add-polynomial-requires : tie.Need-add-polynomial-requires
+add-polynomial-requires c κs = rw (c .before .before .before .before .before .order-of .ensures) (c .before .before .before .before .before .before .before .before .before .before .before .before .before .pre)
 
 same-length : tie.Need-same-length
 same-length c = search needs
@@ -25,14 +25,14 @@ same-length-5 : tie.Need-same-length-5
 same-length-5 c = search needs
 
 returns : tie.Need-returns
-returns c = rw (← c .before .before .before .before .before .before .before .before .before .before .before .before .before .before .before .before .order-of .ensures) (c .before .before .before .before .before .before .before .before .before .before .add .ensures .count-is)
+returns c = rw (← c .before .before .before .before .before .before .before .before .before .before .before .before .before .before .before .before .order-of .ensures) (c .before .before .before .before .before .before .before .before .before .before .add-polynomial .ensures .count-is)
 
 pub probe-buckets-add-spec : {M : Type 1} → statement M
 probe-buckets-add-spec =
     tie.close
     (tie.spec
     order-of-requires
-    add-requires
+    add-polynomial-requires
     same-length
     same-length-2
     same-length-3

@@ -1,6 +1,5 @@
 -- `probe::geobuckets::probe_buckets_take_lead` meets its contract. Assumes nothing.
 use Rattle.probe.proofs.Counts.{taken-count}
-use native.Mathlib.Omega.{arith}
 use borrow.Author.Needs.{needs}
 use Rattle.probe.proofs.geobuckets.probe_buckets_take_lead.Statement.{statement}
 use Rattle.probe.proofs.geobuckets.probe_buckets_take_lead.Tie as tie
@@ -9,7 +8,7 @@ order-of-requires : tie.Need-order-of-requires
 order-of-requires c κs = search needs
 
 take-lead-requires : tie.Need-take-lead-requires
-take-lead-requires c κs = rw (c .before .before .order-of .ensures) (c .before .before .before .before .before .before .before .pre .0)
+take-lead-requires c κs = search needs
 
 put-number-requires : tie.Need-put-number-requires
 put-number-requires c κs = search needs
@@ -21,7 +20,7 @@ cast-put-number : tie.Need-cast-put-number
 cast-put-number c = search needs
 
 put-number-requires-3 : tie.Need-put-number-requires-3
-put-number-requires-3 c κs = omega (arith, c .before .before .before .before .before .before .before .before .put-number .kept .0, c .before .before .before .before .put-number2 .kept .0, c .before .before .before .before .before .before .before .before .before .before .before .before .before .before .before .before .before .before .before .before .before .before .pre .1)
+put-number-requires-3 c κs = search needs
 
 same-length : tie.Need-same-length
 same-length c = search needs
@@ -32,8 +31,11 @@ same-length-2 c = search needs
 same-length-3 : tie.Need-same-length-3
 same-length-3 c = search needs
 
+same-length-4 : tie.Need-same-length-4
+same-length-4 c = search needs
+
 returns : tie.Need-returns
-returns c = rw (← c .before .before .before .before .before .before .before .before .before .before .before .before .before .before .before .before .before .before .before .before .order-of .ensures) (taken-count (c .before .before .before .before .before .before .before .before .before .before .before .before .before .before .before .before .before .take-lead .ensures))
+returns c = rw (← c .before .before .before .before .before .before .before .before .before .before .before .before .before .before .before .before .before .before .before .before .before .before .before .order-of .ensures) (taken-count (c .before .before .before .before .before .before .before .before .before .before .before .before .before .before .before .before .before .before .before .take-lead .ensures))
 
 pub probe-buckets-take-lead-spec : {M : Type 1} → statement M
 probe-buckets-take-lead-spec =
@@ -48,4 +50,5 @@ probe-buckets-take-lead-spec =
     same-length
     same-length-2
     same-length-3
+    same-length-4
     returns)

@@ -14,13 +14,13 @@ halt-requires : tie.Need-halt-requires
 halt-requires c κs = search needs
 
 returns : tie.Need-returns
-returns c = begin-refused (c .before .before .before .before .before .before .before .before .before .before .pre .0) (c .before .before .before .before .before .before .before .before .before .before .pre .1 .none) (c .before .if1 .taken) (c .before .before .new .ensures) (c .halt .ensures)
+returns c = begin-refused (c .before .before .before .before .before .before .before .before .before .before .pre .0) (c .before .if1 .taken) (c .before .before .new .ensures) (c .halt .ensures)
 
-add-requires : tie.Need-add-requires
-add-requires c κs = begin-asks (c .before .before .before .before .before .before .before .before .before .before .before .before .before .before .pre .0) (c .before .before .before .before .before .before .before .before .before .before .before .before .before .before .pre .1 .none) (c .before .before .before .before .before .if1 .left) (c .before .before .before .before .before .before .before .before .before .before .before .before .before .before .pre .1)
+add-polynomial-requires : tie.Need-add-polynomial-requires
+add-polynomial-requires c κs = (begin-asks (c .before .before .before .before .before .before .before .before .before .before .before .before .before .before .pre .0) (c .before .before .before .before .before .if1 .left) (c .before .before .before .before .before .before .before .before .before .before .before .before .before .before .pre .1) (c .before .before .before .before .before .before .before .before .before .before .before .before .before .before .pre .2), c .before .before .before .before .before .before .before .before .before .before .before .before .before .before .pre .2)
 
 compare-requires : tie.Need-compare-requires
-compare-requires c κs = omega (arith, ap (λ (x : State). x .comparisons) (c .before .before .before .before .before .before .before .before .before .before .before .before .before .before .before .before .before .new .ensures), c .before .before .before .before .before .before .before .before .before .before .add .ensures .few)
+compare-requires c κs = omega (arith, ap (λ (x : State). x .comparisons) (c .before .before .before .before .before .before .before .before .before .before .before .before .before .before .before .before .before .new .ensures), c .before .before .before .before .before .before .before .before .before .before .add-polynomial .ensures .few)
 
 bring-requires : tie.Need-bring-requires
 bring-requires c κs = omega (arith, ap (λ (x : State). x .brought) (c .before .before .before .before .before .before .before .before .before .before .before .before .before .before .before .before .before .before .new .ensures), ap (λ (x : State). x .brought) (c .compare .ensures), c .before .before .before .before .before .before .before .before .before .before .before .before .before .before .before .before .before .if1 .left)
@@ -41,7 +41,7 @@ same-length-5 : tie.Need-same-length-5
 same-length-5 c = search needs
 
 returns-2 : tie.Need-returns-2
-returns-2 c = begin-done (c .before .before .before .before .before .before .before .before .before .before .before .before .before .before .before .before .before .before .before .before .before .before .before .before .before .before .before .pre .0) (c .before .before .before .before .before .before .before .before .before .before .before .before .before .before .before .before .before .before .before .before .before .before .before .before .before .before .before .pre .1 .none) (c .before .before .before .before .before .before .before .before .before .before .before .before .before .before .before .before .before .before .if1 .left) (c .before .before .before .before .before .before .before .before .before .before .before .before .add .ensures) (c .before .before .before .before .before .before .before .before .before .before .before .before .before .before .before .before .before .before .before .new .ensures) (c .before .compare .ensures) (c .bring .ensures)
+returns-2 c = begin-done (c .before .before .before .before .before .before .before .before .before .before .before .before .before .before .before .before .before .before .before .before .before .before .before .before .before .before .before .pre .0) (c .before .before .before .before .before .before .before .before .before .before .before .before .before .before .before .before .before .before .if1 .left) (c .before .before .before .before .before .before .before .before .before .before .before .before .add-polynomial .ensures) (c .before .before .before .before .before .before .before .before .before .before .before .before .before .before .before .before .before .before .before .new .ensures) (c .before .compare .ensures) (c .bring .ensures)
 
 pub begin-spec : {M : Type 1} → statement M
 begin-spec =
@@ -50,7 +50,7 @@ begin-spec =
     new-requires
     halt-requires
     returns
-    add-requires
+    add-polynomial-requires
     compare-requires
     bring-requires
     same-length

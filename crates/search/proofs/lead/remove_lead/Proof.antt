@@ -9,10 +9,10 @@ use Rattle.search.proofs.lead.remove_lead.Statement.{statement}
 use Rattle.search.proofs.lead.remove_lead.Tie as tie
 
 head-of-requires : tie.Need-head-of-requires
-head-of-requires c κs = (c .before .before .pre .laid .twelve, c .before .before .pre .within)
+head-of-requires c κs = (c .before .before .pre .laid .eighteen, c .before .before .pre .within)
 
 len-of-requires : tie.Need-len-of-requires
-len-of-requires c κs = (c .before .before .before .before .pre .laid .twelve, c .before .before .before .before .pre .within)
+len-of-requires c κs = (c .before .before .before .before .pre .laid .eighteen, c .before .before .before .before .pre .within)
 
 add-place : tie.Need-add-place
 add-place c = let k = c .before .before .before .before .before .before .pre in omega (arith, c .before .before .before .head-of .ensures, head-in _ _ (k .laid) (k .within) (k .some))
@@ -21,7 +21,7 @@ sub-place : tie.Need-sub-place
 sub-place c = omega (arith, c .before .len-of .ensures, c .before .before .before .before .before .before .pre .some)
 
 place-requires : tie.Need-place-requires
-place-requires c κs = (c .before .before .before .before .before .before .pre .laid .twelve, c .before .before .before .before .before .before .pre .within)
+place-requires c κs = (c .before .before .before .before .before .before .pre .laid .eighteen, c .before .before .before .before .before .before .pre .within)
 
 same-length : tie.Need-same-length
 same-length c = search needs

@@ -1,16 +1,18 @@
 -- `space::settle::pull_coefs` meets its contract: after i turns the first i are put. Assumes nothing.
+use mathlib.Core.Path.{refl}
+use mathlib.Core.List.{map}
 use Prim.Native.Nat.{_-_}
 use native.Mathlib.Omega.{arith}
 use Rattle.merge_common.specs.Lent.{part}
 use Rattle.merge_common.proofs.Lists.{Begun, begun-none}
-use Rattle.space.proofs.SettleLaws.{pulled-more, pulled-all}
+use Rattle.space.proofs.SettleLaws.{pulled-more, pulled-all, as-it-is}
 use Rattle.space.proofs.settle.pull_coefs.Statement.{statement}
 use Rattle.space.proofs.settle.pull_coefs.Tie as tie
 use Rattle.space.proofs.settle.pull_coefs.Reads as reads
 use Rattle.space.proofs.settle.pull_coefs.Lts as lts
 
 abbrev Inv-loop : tie.InvT-loop
-Inv-loop s₀ from to n i₀ s i = Begun (part from n s₀) s₀ to s i
+Inv-loop s₀ from to n i₀ s i = Begun (map (λ c. c) (part from n s₀)) s₀ to s i
 
 abbrev μ-loop : tie.MeasureT-loop
 μ-loop s₀ from to n i₀ s i = n - i
@@ -43,13 +45,13 @@ loop-less : tie.Need-loop-less Inv-loop μ-loop
 loop-less c = omega arith
 
 loop-again : tie.Need-loop-again Inv-loop μ-loop
-loop-again c = let h = c .before .before in let x = h .before .args in pulled-more (x .from) (x .n) (h .loop .inv) (h .before .pre .0) (h .before .pre .1) (omega arith)
+loop-again c = let h = c .before .before in let x = h .before .args in pulled-more (λ c. c) (x .from) (x .n) (h .loop .inv) (h .before .pre .0) (h .before .pre .1) (omega arith) refl
 
 same-length : tie.Need-same-length Inv-loop μ-loop
 same-length c = c .before .loop .inv .long
 
 returns : tie.Need-returns Inv-loop μ-loop
-returns c = let h = c .before in let x = h .before .args in pulled-all (x .from) (x .n) (h .loop .inv) (h .before .pre .0) (omega arith)
+returns c = let h = c .before in let x = h .before .args in as-it-is (x .s .now) (x .to) (part (x .from) (x .n) (x .s .now)) (pulled-all (λ c. c) (x .from) (x .n) (h .loop .inv) (h .before .pre .0) (omega arith))
 
 pub pull-coefs-spec : {M : Type 1} → statement M
 pull-coefs-spec =

@@ -35,7 +35,7 @@ same-length-4 : tie.Need-same-length-4
 same-length-4 c = search needs
 
 returns : tie.Need-returns
-returns c = let z = c .before .before .before .before .before .before .before .before .before .before .before .before .before .before .before .before .before .before .before .before .before in let x = z .args in at-return (x .b .now) (x .sw .now) (x .sc .now) (x .ww .now) (x .wc .now) (z .pre .0) (z .pre .1) (z .pre .2) (z .pre .3) (z .pre .4) (c .before .before .before .before .before .before .before .before .before .before .before .before .before .before .settle-words .ensures) (c .before .before .before .before .before .before .before .before .before .before .settle-coefs .ensures) (c .before .before .before .before .before .before .clear-words .ensures) (c .before .before .clear-coefs .ensures)
+returns c = let z = c .before .before .before .before .before .before .before .before .before .before .before .before .before .before .before .before .before .before .before .before .before .before .before in let x = z .args in at-return (x .order) (x .b .now) (x .sw .now) (x .sc .now) (x .ww .now) (x .wc .now) (z .pre .0) (z .pre .1) (z .pre .2) (z .pre .3) (z .pre .4) (c .before .before .before .before .before .before .before .before .before .before .before .before .before .before .before .settle-words .ensures) (c .before .before .before .before .before .before .before .before .before .before .settle-coefs .ensures) (c .before .before .before .before .before .before .clear-words .ensures) (c .before .before .clear-coefs .ensures)
 
 pub settle-spec : {M : Type 1} → statement M
 settle-spec =

@@ -42,6 +42,24 @@ slice-write-b-11 c = simp length-set (omega (arith, c .pre))
 slice-write-b-12 : tie.Need-slice-write-b-12
 slice-write-b-12 c = simp length-set (omega (arith, c .pre))
 
+slice-write-b-13 : tie.Need-slice-write-b-13
+slice-write-b-13 c = simp length-set (omega (arith, c .pre))
+
+slice-write-b-14 : tie.Need-slice-write-b-14
+slice-write-b-14 c = simp length-set (omega (arith, c .pre))
+
+slice-write-b-15 : tie.Need-slice-write-b-15
+slice-write-b-15 c = simp length-set (omega (arith, c .pre))
+
+slice-write-b-16 : tie.Need-slice-write-b-16
+slice-write-b-16 c = simp length-set (omega (arith, c .pre))
+
+slice-write-b-17 : tie.Need-slice-write-b-17
+slice-write-b-17 c = simp length-set (omega (arith, c .pre))
+
+slice-write-b-18 : tie.Need-slice-write-b-18
+slice-write-b-18 c = simp length-set (omega (arith, c .pre))
+
 same-length : tie.Need-same-length
 same-length c = search needs
 
@@ -64,5 +82,11 @@ clear-spec =
     slice-write-b-10
     slice-write-b-11
     slice-write-b-12
+    slice-write-b-13
+    slice-write-b-14
+    slice-write-b-15
+    slice-write-b-16
+    slice-write-b-17
+    slice-write-b-18
     same-length
     returns)
