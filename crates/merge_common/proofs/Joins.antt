@@ -1,10 +1,8 @@
 -- What a turn makes of a term of each list: by the comparison, and by the flags of the code. Assumes nothing.
 use mathlib.Core.Path.{_≡_, sym, ap, ap₂, _∙_, subst}
 use mathlib.Core.Bool.{not}
-use Prim.Native.Nat.{ℕ, _+_, _-_, _%_, _<_, _≤_, compare, Ordering, Ordering·lt, Ordering·eq, Ordering·gt}
-use native.Mathlib.Nat.{mod-eq-of-lt}
+use Prim.Native.Nat.{ℕ, _+_, _-_, _%_, _≤_, compare, Ordering, Ordering·lt, Ordering·eq, Ordering·gt}
 use native.Mathlib.Omega.{arith}
-use borrow.Author.Tests.{eq-eqb, ne-eqb}
 use lib.Dec.{eqb}
 use Rattle.monomial.specs.TotalOrder.{turned}
 use Rattle.monomial.proofs.OrderLaws.{numbers-order}
@@ -13,30 +11,26 @@ use Rattle.polynomial.proofs.MergeLaws.{Stands, less, same, more, stands}
 use Rattle.merge_common.specs.Lent.{flag, chosen}
 use Rattle.merge_common.specs.Joining.{made, joined, joinedLast}
 use Rattle.merge_common.specs.declared.merging.Joined.{Joined}
-use Rattle.merge_common.proofs.Steps.{chosen-below, flag-small}
+use Rattle.merge_common.proofs.Steps.{flag-small}
 
--- the flags of a turn: x is larger, y is larger, the two are like
-pub record Flags (x y l m e : ℕ) : Type 0 where
+-- x is larger for l, y is for m
+pub record Flags (x y l m : ℕ) : Type 0 where
   pub x-larger : l ≡ flag (isLarger (compare x y))
   pub y-larger : m ≡ flag (isLarger (compare y x))
-  pub both-like : e ≡ flag (eqb x y)
 
-pub one-of : {x y l m e : ℕ} → Flags x y l m e → l + m + e ≡ 1
-one-of {x} {y} {l} {m} {e} f = go (stands compare x y)
+back : (x y : ℕ) {o : Ordering} → compare x y ≡ o → compare y x ≡ turned o
+back x y h = numbers-order .turn x y ∙ ap turned h
+
+pub one-at-most : {x y l m : ℕ} → Flags x y l m → l + m ≤ 1
+one-at-most {x} {y} {l} {m} f = go (stands compare x y)
   where
-    l-by : {o : Ordering} → compare x y ≡ o → l ≡ flag (isLarger o)
-    l-by h = f .x-larger ∙ ap (λ (u : Ordering). flag (isLarger u)) h
+    by : {o : Ordering} → compare x y ≡ o → l + m ≡ flag (isLarger o) + flag (isLarger (turned o))
+    by h = ap₂ (λ (u v : ℕ). u + v) (f .x-larger ∙ ap (λ (u : Ordering). flag (isLarger u)) h) (f .y-larger ∙ ap (λ (u : Ordering). flag (isLarger u)) (back x y h))
 
-    m-by : {o : Ordering} → compare x y ≡ o → m ≡ flag (isLarger (turned o))
-    m-by h = f .y-larger ∙ ap (λ (u : Ordering). flag (isLarger u)) (numbers-order .turn x y ∙ ap turned h)
-
-    unlike : {o : Ordering} → compare x y ≡ o → (o ≡ Ordering·eq → ⊥) → e ≡ 0
-    unlike h n = f .both-like ∙ ap flag (ne-eqb x y (λ q. n (sym h ∙ (ap (compare x) (sym q) ∙ numbers-order .like x))))
-
-    go : Stands compare x y → l + m + e ≡ 1
-    go (less h) = omega (arith, l-by h, m-by h, unlike h (λ q. let z : _≡_ {A = ℕ} 0 1 = cc in omega arith))
-    go (same h) = omega (arith, l-by h, m-by h, f .both-like ∙ ap flag (eq-eqb x y (numbers-order .same x y h)))
-    go (more h) = omega (arith, l-by h, m-by h, unlike h (λ q. let z : _≡_ {A = ℕ} 0 1 = cc in omega arith))
+    go : Stands compare x y → l + m ≤ 1
+    go (less h) = omega (arith, by h)
+    go (same h) = omega (arith, by h)
+    go (more h) = omega (arith, by h)
 
 module _ (x c y d p : ℕ) where
   -- ---- by the comparison
@@ -64,54 +58,30 @@ module _ (x c y d p : ℕ) where
   unfolding joinedLast
   last-more h = rw (h, joinedLast)
 
-  -- ---- by the flags
-
-  -- the term from the comparison of x with y, and of y with x
+  -- ---- by the flags: what is made of them where the larger one is first, and where the smaller one is
   abbrev flagged : Ordering → Ordering → Joined
-  flagged o q = made (chosen (flag (isLarger q)) y x) ((chosen (1 - flag (isLarger q)) c 0 + chosen (1 - flag (isLarger o)) d 0) % p) (1 - flag (isLarger q)) (1 - flag (isLarger o))
+  flagged o q = made (chosen (flag (isLarger q)) y x) (chosen (flag (isLarger o) + flag (isLarger q)) (chosen (flag (isLarger o)) c d) ((c + d) % p)) (1 - flag (isLarger q)) (1 - flag (isLarger o))
 
   abbrev flaggedLast : Ordering → Ordering → Joined
-  flaggedLast o q = made (chosen (flag (isLarger o)) y x) ((chosen (1 - flag (isLarger o)) c 0 + chosen (1 - flag (isLarger q)) d 0) % p) (1 - flag (isLarger o)) (1 - flag (isLarger q))
+  flaggedLast o q = made (chosen (flag (isLarger o)) y x) (chosen (flag (isLarger o) + flag (isLarger q)) (chosen (flag (isLarger o)) d c) ((c + d) % p)) (1 - flag (isLarger o)) (1 - flag (isLarger q))
 
-  module _ (hc : c < p) (hd : d < p) where
-    right-only : (0 + d) % p ≡ d
-    right-only = let e : 0 + d ≡ d = omega arith in ap (λ (n : ℕ). n % p) e ∙ mod-eq-of-lt hd
+  by-flags : Stands compare x y → flagged (compare x y) (compare y x) ≡ joined x c y d p
+  by-flags (less h) = ap₂ flagged h (back x y h) ∙ sym (joined-less h)
+  by-flags (same h) = ap₂ flagged h (back x y h) ∙ sym (joined-same h)
+  by-flags (more h) = ap₂ flagged h (back x y h) ∙ sym (joined-more h)
 
-    left-only : (c + 0) % p ≡ c
-    left-only = let e : c + 0 ≡ c = omega arith in ap (λ (n : ℕ). n % p) e ∙ mod-eq-of-lt hc
+  by-flags-last : Stands compare x y → flaggedLast (compare x y) (compare y x) ≡ joinedLast x c y d p
+  by-flags-last (less h) = ap₂ flaggedLast h (back x y h) ∙ sym (last-less h)
+  by-flags-last (same h) = ap₂ flaggedLast h (back x y h) ∙ sym (last-same h)
+  by-flags-last (more h) = ap₂ flaggedLast h (back x y h) ∙ sym (last-more h)
 
-    back : {o : Ordering} → compare x y ≡ o → compare y x ≡ turned o
-    back h = numbers-order .turn x y ∙ ap turned h
+  -- u is the sum of the coefficients, v the one of the term that is first, s the one that is stored
+  module _ {l m u v s w z : ℕ} (f : Flags x y l m) (eu : u ≡ (c + d) % p) (es : s ≡ chosen (l + m) v u) (ez : z ≡ flag (not (eqb s 0))) where
+    pub joined-is : v ≡ chosen l c d → w ≡ chosen m y x → _≡_ {A = Joined} (record { word = w; coef = s; left = 1 - m; right = 1 - l; kept = z }) (joined x c y d p)
+    joined-is ev ew = rw (ez, ew, es, eu, ev, f .y-larger, f .x-larger) (by-flags (stands compare x y))
 
-    by-flags : Stands compare x y → flagged (compare x y) (compare y x) ≡ joined x c y d p
-    by-flags (less h) = ap₂ flagged h (back h) ∙ (ap (λ (s : ℕ). made y s 0 1) right-only ∙ sym (joined-less h))
-    by-flags (same h) = ap₂ flagged h (back h) ∙ sym (joined-same h)
-    by-flags (more h) = ap₂ flagged h (back h) ∙ (ap (λ (s : ℕ). made x s 1 0) left-only ∙ sym (joined-more h))
-
-    by-flags-last : Stands compare x y → flaggedLast (compare x y) (compare y x) ≡ joinedLast x c y d p
-    by-flags-last (less h) = ap₂ flaggedLast h (back h) ∙ (ap (λ (s : ℕ). made x s 1 0) left-only ∙ sym (last-less h))
-    by-flags-last (same h) = ap₂ flaggedLast h (back h) ∙ sym (last-same h)
-    by-flags-last (more h) = ap₂ flaggedLast h (back h) ∙ (ap (λ (s : ℕ). made y s 0 1) right-only ∙ sym (last-more h))
-
-    x-used : {l m q : ℕ} → Flags x y l m q → l + q ≡ 1 - m
-    x-used f = omega (arith, one-of f)
-
-    y-used : {l m q : ℕ} → Flags x y l m q → m + q ≡ 1 - l
-    y-used f = omega (arith, one-of f)
-
-    -- by the flags of a turn; u and v are what is added, s their sum and w the word
-    module _ {l m q u v s w z : ℕ} (f : Flags x y l m q) (es : s ≡ (u + v) % p) (ez : z ≡ flag (not (eqb s 0))) where
-      pub joined-is : u ≡ chosen (l + q) c 0 → v ≡ chosen (m + q) d 0 → w ≡ chosen m y x → _≡_ {A = Joined} (record { word = w; coef = s; left = 1 - m; right = 1 - l; kept = z }) (joined x c y d p)
-      joined-is eu ev ew = rw (ez, ew, es, eu, ev, x-used f, y-used f, f .y-larger, f .x-larger) (by-flags (stands compare x y))
-
-      pub last-is : u ≡ chosen (m + q) c 0 → v ≡ chosen (l + q) d 0 → w ≡ chosen l y x → _≡_ {A = Joined} (record { word = w; coef = s; left = 1 - l; right = 1 - m; kept = z }) (joinedLast x c y d p)
-      last-is eu ev ew = rw (ez, ew, es, eu, ev, x-used f, y-used f, f .y-larger, f .x-larger) (by-flags-last (stands compare x y))
-
-    -- what is taken of the two is below p
-    pub taken-below : (f g u v : ℕ) → u ≡ chosen f c 0 → v ≡ chosen g d 0 → (u < p) × (v < p)
-    taken-below f g u v eu ev =
-        let pos : 0 < p = omega arith in
-        (subst (λ (t : ℕ). t < p) (sym eu) (chosen-below f c p pos hc), subst (λ (t : ℕ). t < p) (sym ev) (chosen-below g d p pos hd))
+    pub last-is : v ≡ chosen l d c → w ≡ chosen l y x → _≡_ {A = Joined} (record { word = w; coef = s; left = 1 - l; right = 1 - m; kept = z }) (joinedLast x c y d p)
+    last-is ev ew = rw (ez, ew, es, eu, ev, f .y-larger, f .x-larger) (by-flags-last (stands compare x y))
 
 -- ---- at most one term of each is used, and one made
 abbrev pub Small : Joined → Type 0

@@ -2,8 +2,7 @@
 use mathlib.Core.Path.{_≡_, refl, sym, ap, ap₂, subst}
 use mathlib.Core.Bool.{Bool, true, false}
 use mathlib.Core.List.{List, [], _∷_, map}
-use Prim.Native.Nat.{ℕ, zero, suc, _+_, _-_, _*_, _^_, _<_, _≤_, compare}
-use native.Mathlib.Nat.{mul-one, mul-zero}
+use Prim.Native.Nat.{ℕ, zero, suc, _^_, _<_, _≤_, compare}
 use native.Mathlib.Omega.{arith}
 use lib.Dec.{ltb}
 use lib.ListN.{length, getD}
@@ -18,22 +17,11 @@ use Rattle.polynomial.proofs.TermLists.{length-terms, term-at}
 use Rattle.merge_common.specs.Lent.{Poly, flag, chosen}
 
 -- ---- the choice by a flag
-pub choose-fits : (f x : ℕ) → f ≤ 1 → (x * f ≤ x) × (x * (1 - f) ≤ x)
-choose-fits zero x h = (omega (arith, mul-zero x), omega (arith, mul-one x))
-choose-fits (suc zero) x h = (omega (arith, mul-one x), omega (arith, mul-zero x))
-choose-fits (suc (suc f)) x h = absurd (let z : ⊥ = omega arith in z)
+pub chosen-one : (f x y : ℕ) → f ≡ 1 → x ≡ chosen f x y
+chosen-one f x y h = rw h
 
-pub choose-is : (f x y : ℕ) → f ≤ 1 → x * f + y * (1 - f) ≡ chosen f x y
-choose-is zero x y h = omega (arith, mul-zero x, mul-one y)
-choose-is (suc zero) x y h = omega (arith, mul-one x, mul-zero y)
-choose-is (suc (suc f)) x y h = absurd (let z : ⊥ = omega arith in z)
-
-pub choose-below : (f x y b : ℕ) → f ≤ 1 → x < b → y < b → x * f + y * (1 - f) < b
-choose-below f x y b h hx hy = subst (λ (n : ℕ). n < b) (sym (choose-is f x y h)) (go f)
-  where
-    go : (g : ℕ) → chosen g x y < b
-    go zero = hy
-    go (suc g) = hx
+pub chosen-none : (f x y : ℕ) → f ≤ 1 → (f ≡ 1 → ⊥) → y ≡ chosen f x y
+chosen-none f x y h ne = let e : f ≡ 0 = omega arith in rw e
 
 -- ---- the larger key
 pub larger-flag : (x y : ℕ) → x < 2 ^ 64 → y < 2 ^ 64 → flag (ltb y x) ≡ flag (isLarger (compare x y))
@@ -66,14 +54,3 @@ coef-within p ws cs h i k =
 
 pub coef-below : (p : ℕ) (ws cs : List ℕ) → Poly p ws cs → (i : ℕ) → i < length ws → getD cs i 0 < p
 coef-below p ws cs h i k = coef-within p ws cs h i k .1
-
-pub chosen-one : (f x y : ℕ) → f ≡ 1 → x ≡ chosen f x y
-chosen-one f x y h = rw h
-
-pub chosen-none : (f x y : ℕ) → f ≤ 1 → (f ≡ 1 → ⊥) → y ≡ chosen f x y
-chosen-none f x y h ne = let e : f ≡ 0 = omega arith in rw e
-
--- a coefficient that is taken, or 0
-pub chosen-below : (f c p : ℕ) → 0 < p → c < p → chosen f c 0 < p
-chosen-below zero c p h k = h
-chosen-below (suc f) c p h k = k

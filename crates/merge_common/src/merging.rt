@@ -33,13 +33,6 @@ pub fn larger(x: u64, y: u64) -> usize
     (y < x) as usize
 }
 
-// 1 where the two are the same key, and else 0.
-pub fn like(x: u64, y: u64) -> usize
-    ensures { λ r. ⌜ (r ≡ flag (eqb x y)) × (r ≤ 1) ⌝ }
-{
-    (x == y) as usize
-}
-
 // 1 where the coefficient is not 0, and else 0.
 pub fn not_zero(c: u32) -> usize
     ensures { λ r. ⌜ (r ≡ flag (not (eqb c 0))) × (r ≤ 1) ⌝ }
@@ -60,20 +53,19 @@ pub fn choose_coef(f: usize, x: u32, y: u32) -> u32
     requires { ⌜ f ≤ 1 ⌝ }
     ensures { λ r. ⌜ r ≡ chosen f x y ⌝ }
 {
-    let g = f as u32;
-    x * g + y * (1 - g)
+    if f == 1 { x } else { y }
 }
 
 // The larger of two leads, or the sum of like ones, without a branch: x is larger for l, y is for m, and
-// the two are like for e.
+// the two are like for neither.
 pub fn join(x: u64, c: u32, y: u64, d: u32, p: u32) -> Joined
     requires { ⌜ Modulus p × (c < p) × (d < p) ⌝ }
     ensures { λ r. ⌜ r ≡ joined x c y d p ⌝ }
 {
     let l = larger(x, y);
     let m = larger(y, x);
-    let e = like(x, y);
-    let coef = add(choose_coef(l + e, c, 0), choose_coef(m + e, d, 0), p);
+    let sum = add(c, d, p);
+    let coef = choose_coef(l + m, choose_coef(l, c, d), sum);
     Joined {
         word: choose_word(m, y, x),
         coef,
@@ -90,8 +82,8 @@ pub fn join_last(x: u64, c: u32, y: u64, d: u32, p: u32) -> Joined
 {
     let l = larger(x, y);
     let m = larger(y, x);
-    let e = like(x, y);
-    let coef = add(choose_coef(m + e, c, 0), choose_coef(l + e, d, 0), p);
+    let sum = add(c, d, p);
+    let coef = choose_coef(l + m, choose_coef(l, d, c), sum);
     Joined {
         word: choose_word(l, y, x),
         coef,
