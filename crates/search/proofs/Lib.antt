@@ -5,3 +5,4 @@ pub mod FindLaws
 pub mod FindState
 pub mod TakeLaws
 pub mod WordLaws
+pub mod LargestLaws

@@ -1,5 +1,6 @@
 // The search for the lead.
 use crate::candidate::Candidate;
+use crate::largest::largest_lead;
 use merge_common::merging::larger;
 use merge_common::merging::not_zero;
 use monomial::order::Order;
@@ -32,7 +33,7 @@ pub fn find_lead(
     find_key(p, b, sw, sc, ww, wc).in_words(order)
 }
 
-// Searches for the lead, and removes it.
+// Searches for the lead, and removes it. Where no leads are like, it is enough to look at them.
 pub fn take_lead(
     order: Order,
     p: u32,
@@ -45,6 +46,12 @@ pub fn take_lead(
     requires { ⌜ Standing p (spaces (now b) (now ww) (now wc) (now sw) (now sc)) × Slices (now ww) (now wc) (now sw) (now sc) ⌝ }
     ensures { λ r. ⌜ Taken order p (spaces (now (b .entry)) (now (ww .entry)) (now (wc .entry)) (now (sw .entry)) (now (sc .entry))) (spaces (now (b .exit)) (now (ww .entry)) (now (wc .exit)) (now (sw .entry)) (now (sc .exit))) r ⌝ }
 {
+    let t = largest_lead(b, sw, ww);
+    if t.like == 0 && t.bucket < 6 {
+        let coef = lead_coef(b, wc, sc, t.bucket);
+        remove_lead(b, t.bucket);
+        return t.candidate(coef).in_words(order);
+    }
     let c = find_key(p, b, sw, sc, ww, wc);
     if c.bucket == 6 {
         return c;
