@@ -44,15 +44,12 @@ module _ (f : ℕ → ℕ) (from n : ℕ) {l : List ℕ} {to : ℕ} {o : List �
   pulled-all k = begun-all (map f (part from n l)) l to o i b (omega (arith, all-long))
 
 -- read through nothing, they are as they were
-each-same : (l : List ℕ) → map (λ (c : ℕ). c) l ≡ l
-each-same [] = refl
-each-same (a ∷ l) = ap (λ (x : List ℕ). a ∷ x) (each-same l)
-
-pub as-read : {o : List ℕ} (s : List ℕ) (at : ℕ) (v : List ℕ) → o ≡ sets s at v → o ≡ sets s at (map (λ (c : ℕ). c) v)
-as-read s at v e = e ∙ ap (sets s at) (sym (each-same v))
+pub as-read : (l : List ℕ) → l ≡ map (λ (c : ℕ). c) l
+as-read [] = refl
+as-read (a ∷ l) = ap (λ (x : List ℕ). a ∷ x) (as-read l)
 
 pub as-it-is : {o : List ℕ} (s : List ℕ) (at : ℕ) (v : List ℕ) → o ≡ sets s at (map (λ (c : ℕ). c) v) → o ≡ sets s at v
-as-it-is s at v e = e ∙ ap (sets s at) (each-same v)
+as-it-is s at v e = e ∙ ap (sets s at) (sym (as-read v))
 
 -- ---- the bucket space with the first i buckets settled
 
@@ -60,21 +57,20 @@ as-it-is s at v e = e ∙ ap (sets s at) (each-same v)
 pub record Settling (f : ℕ → ℕ) (b : Buckets) (w s₀ s : List ℕ) (i at cap : ℕ) : Type 0 where
   pub starts : at ≡ start i
   pub holds : cap ≡ capacity i
-  pub long : length s ≡ length s₀
+  pub long : length s ≡ bucketPlaces
   pub done : List ℕ
   pub done-long : length done ≡ at
   pub whole : done ++ laidOut cap (listFrom (λ j. map f (rowAt b (w ++ s₀) j)) i (6 - i)) ≡ settled f b (w ++ s₀)
   pub is : s ≡ sets s₀ 0 done
 
-pub settling-none : (f : ℕ → ℕ) (b : Buckets) (w s : List ℕ) → Settling f b w s s 0 0 4
+pub settling-none : (f : ℕ → ℕ) (b : Buckets) (w s : List ℕ) → length s ≡ bucketPlaces → Settling f b w s s 0 0 4
 unfolding start capacity
-settling-none f b w s = record { starts = refl; holds = refl; long = refl; done = []; done-long = refl; whole = refl; is = refl }
+settling-none f b w s e = record { starts = refl; holds = refl; long = e; done = []; done-long = refl; whole = refl; is = refl }
 
 -- n numbers fit into the bucket space from `at` on, with cap places
-pub record Fits (s : List ℕ) (at cap n : ℕ) : Type 0 where
+pub record Fits (at cap n : ℕ) : Type 0 where
   pub room : n ≤ cap
-  pub ends : at + cap ≤ length s
-  pub small : at + cap ≤ bucketPlaces
+  pub ends : at + cap ≤ bucketPlaces
 
 -- the rows from i on begin with row i
 rows-left : (cap : ℕ) (f : ℕ → List ℕ) (i n : ℕ) → i < 6 → length (f i) ≡ n
@@ -95,14 +91,13 @@ put-all l vs e = sets-eq vs l 0 (omega arith) ∙ (ap (λ (x : List ℕ). vs ++ 
 
 module _ {f : ℕ → ℕ} {b : Buckets} {w s₀ s : List ℕ} {i at cap : ℕ} (g : Settling f b w s₀ s i at cap) (l : Laid b) (lw : length w ≡ workPlaces) (e : length s₀ ≡ bucketPlaces) where
   -- bucket i fits where it is settled
-  pub fits : i < 6 → {n : ℕ} → n ≡ lenAt b i → Fits s at cap n
+  pub fits : i < 6 → {n : ℕ} → n ≡ lenAt b i → Fits at cap n
   fits h en =
       let sh = l .short i h in
       let x = ends-within i h in
       let a = g .starts in
       let k = g .holds in
-      let m = g .long in
-      record { room = omega arith; ends = omega arith; small = omega arith }
+      record { room = omega arith; ends = omega arith }
 
   -- a turn: the bucket's numbers are put where it starts, and 0 past them
   turn : i < 6 → {n : ℕ} → n ≡ lenAt b i → {s₁ s₂ : List ℕ} → s₁ ≡ sets s at (map f (rowAt b (w ++ s₀) i)) → s₂ ≡ sets s₁ (at + n) (replicate (cap - n) 0)
@@ -135,17 +130,17 @@ module _ {f : ℕ → ℕ} {b : Buckets} {w s₀ s : List ℕ} {i at cap : ℕ} 
   pub within : i < 5 → {h n : ℕ} → h ≡ headAt b i → n ≡ lenAt b i → h + n ≤ workPlaces
   within k eh en = omega (arith, row-work-end b l i (omega arith) k)
 
-  pub settling-more : i < 5 → {h n : ℕ} → h ≡ headAt b i → n ≡ lenAt b i → {s₁ s₂ : List ℕ} → s₁ ≡ sets s at (map f (take (h + n - h) (drop h w))) → s₂ ≡ sets s₁ (at + n) (replicate (cap - n) 0)
+  -- v is how the code reads a row: each number through f
+  pub settling-more : i < 5 → {h n : ℕ} → h ≡ headAt b i → n ≡ lenAt b i → {v : List ℕ → List ℕ} → ((r : List ℕ) → v r ≡ map f r) → {s₁ s₂ : List ℕ} → s₁ ≡ sets s at (v (take (h + n - h) (drop h w))) → s₂ ≡ sets s₁ (at + n) (replicate (cap - n) 0)
       → Settling f b w s₀ s₂ (i + 1) (at + cap) (cap * 4)
-  settling-more k eh en d₁ d₂ =
-      turn (omega arith) en (d₁ ∙ ap (λ (x : List ℕ). sets s at (map f x)) (row-of b i eh en w ∙ sym (row-work b l i (omega arith) k w s₀ lw))) d₂
+  settling-more k eh en ev d₁ d₂ = turn (omega arith) en (d₁ ∙ ap (sets s at) (ev _ ∙ ap (map f) (row-of b i eh en w ∙ sym (row-work b l i (omega arith) k w s₀ lw)))) d₂
 
   -- the last bucket, which lies in the bucket space
   pub record Last (h n : ℕ) : Type 0 where
     pub past : workPlaces ≤ h
     pub low : at ≤ h - workPlaces
-    pub ends : h - workPlaces + n ≤ length s
-    pub fit : Fits s at cap n
+    pub ends : h - workPlaces + n ≤ bucketPlaces
+    pub fit : Fits at cap n
 
   module _ (last : i ≡ 5) {h n : ℕ} (eh : h ≡ headAt b 5) (en : n ≡ lenAt b 5) where
     pub last-at : Last h n
@@ -155,7 +150,6 @@ module _ {f : ℕ → ℕ} {b : Buckets} {w s₀ s : List ℕ} {i at cap : ℕ} 
         let hi = row-end b l 5 (omega arith) in
         let a = g .starts in
         let c = ap start last in
-        let m = g .long in
         record { past = omega arith; low = omega arith; ends = omega arith; fit = fits (omega arith) (en ∙ ap (λ (x : ℕ). lenAt b x) (sym last)) }
 
     last-row : map f (part (h - workPlaces) n s) ≡ map f (rowAt b (w ++ s₀) i)
@@ -167,10 +161,10 @@ module _ {f : ℕ → ℕ} {b : Buckets} {w s₀ s : List ℕ} {i at cap : ℕ} 
         ∙ ap₂ (λ (x y : ℕ). part x y (w ++ s₀)) (eh ∙ ap (λ (x : ℕ). headAt b x) (sym last)) (en ∙ ap (λ (x : ℕ). lenAt b x) (sym last)))))
 
     -- all six are the whole bucket space
-    pub settling-last : {s₁ s₂ : List ℕ} → s₁ ≡ sets s at (map f (part (h - workPlaces) n s)) → s₂ ≡ sets s₁ (at + n) (replicate (cap - n) 0) → s₂ ≡ settled f b (w ++ s₀)
+    pub settling-last : {v : List ℕ → List ℕ} → ((r : List ℕ) → v r ≡ map f r) → {s₁ s₂ : List ℕ} → s₁ ≡ sets s at (v (part (h - workPlaces) n s)) → s₂ ≡ sets s₁ (at + n) (replicate (cap - n) 0) → s₂ ≡ settled f b (w ++ s₀)
     unfolding laidOut listFrom
-    settling-last {s₁} {s₂} d₁ d₂ =
-        let t = turn (omega arith) (en ∙ ap (λ (x : ℕ). lenAt b x) (sym last)) (d₁ ∙ ap (sets s at) last-row) d₂ in
+    settling-last ev d₁ d₂ =
+        let t = turn (omega arith) (en ∙ ap (λ (x : ℕ). lenAt b x) (sym last)) (d₁ ∙ ap (sets s at) (ev _ ∙ last-row)) d₂ in
         let all-six : i + 1 ≡ 6 = omega arith in
         let long : length (t .done) ≡ length s₀ = omega (arith, t .done-long, t .starts, ap start all-six, six) in
         let none : 6 - (i + 1) ≡ 0 = omega arith in
@@ -201,7 +195,7 @@ module _ (o : Order) (b : Buckets) (sw sc ww wc : List ℕ) (l : Laid b) (ew : l
             ∙ ap (laidOut 4) (map-from words (bucketAt b ks cs) (λ j. map (fromKey o) (rowAt b ks j)) o 0 6 (λ j h. words-renamed (fromKey o) (bucketAt b ks cs j) ∙ ap (map (fromKey o)) (words-terms (rowAt b ks j) (rowAt b cs j) (same-long j h))));
         coefs-are =
             e₂
-            ∙ ap (laidOut 4) (map-from coefs (bucketAt b ks cs) (λ j. map (λ (c : ℕ). c) (rowAt b cs j)) o 0 6 (λ j h. coefs-renamed (fromKey o) (bucketAt b ks cs j) ∙ (coefs-terms (rowAt b ks j) (rowAt b cs j) (same-long j h) ∙ sym (each-same (rowAt b cs j)))));
+            ∙ ap (laidOut 4) (map-from coefs (bucketAt b ks cs) (λ j. map (λ (c : ℕ). c) (rowAt b cs j)) o 0 6 (λ j h. coefs-renamed (fromKey o) (bucketAt b ks cs j) ∙ (coefs-terms (rowAt b ks j) (rowAt b cs j) (same-long j h) ∙ as-read (rowAt b cs j))));
         work-words = e₃ ∙ all-zero ww lw;
         work-coefs = e₄ ∙ all-zero wc lc;
       }

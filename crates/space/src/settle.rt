@@ -29,19 +29,25 @@ pub fn settle(
     requires { ⌜ Laid (now b) × (length (now sw) ≡ bucketPlaces) × (length (now sc) ≡ bucketPlaces) × (length (now ww) ≡ workPlaces) × (length (now wc) ≡ workPlaces) ⌝ }
     ensures { λ _. ⌜ AtReturn (wordsIn order (spaces (now (b .entry)) (now (ww .entry)) (now (wc .entry)) (now (sw .entry)) (now (sc .entry)))) (now (sw .exit)) (now (sc .exit)) (now (ww .exit)) (now (wc .exit)) ⌝ }
 {
-    settle_words(order, b, ww, sw);
-    settle_coefs(b, wc, sc);
+    settle_buckets(order, b, sw, sc, ww, wc);
     let words = ww.len();
     clear_words(ww, 0, words);
     let coefs = wc.len();
     clear_coefs(wc, 0, coefs);
 }
 
-// Puts the words of each bucket's keys from the bucket's start on, and 0 past them. The keys of the
-// last bucket lie in the same slice.
-pub fn settle_words(order: Order, b: &[usize], ww: &[u64], sw: &mut [u64])
-    requires { ⌜ Laid (now b) × (length (now ww) ≡ workPlaces) × (length (now sw) ≡ bucketPlaces) ⌝ }
-    ensures { λ _. ⌜ now (sw .exit) ≡ settled (fromKey order) (now (b .entry)) (now (ww .entry) ++ now (sw .entry)) ⌝ }
+// Puts each bucket's terms from the bucket's start on, the words of its keys and its coefficients,
+// and 0 past them. The terms of the last bucket lie in the bucket space itself.
+pub fn settle_buckets(
+    order: Order,
+    b: &[usize],
+    sw: &mut [u64],
+    sc: &mut [u32],
+    ww: &[u64],
+    wc: &[u32],
+)
+    requires { ⌜ Laid (now b) × (length (now sw) ≡ bucketPlaces) × (length (now sc) ≡ bucketPlaces) × (length (now ww) ≡ workPlaces) × (length (now wc) ≡ workPlaces) ⌝ }
+    ensures { λ _. ⌜ (now (sw .exit) ≡ settled (fromKey order) (now (b .entry)) (now (ww .entry) ++ now (sw .entry))) × (now (sc .exit) ≡ settled (λ c. c) (now (b .entry)) (now (wc .entry) ++ now (sc .entry))) ⌝ }
 {
     let mut i = 0;
     let mut start = 0;
@@ -49,37 +55,26 @@ pub fn settle_words(order: Order, b: &[usize], ww: &[u64], sw: &mut [u64])
     while i < 5 {
         let h = head_of(b, i);
         let n = len_of(b, i);
-        put_words_of(order, &ww[h..h + n], sw, start);
-        clear_words(sw, start + n, cap - n);
+        let end = h + n;
+        let past = start + n;
+        let left = cap - n;
+        put_words_of(order, &ww[h..end], sw, start);
+        clear_words(sw, past, left);
+        put_coefs(&wc[h..end], sc, start);
+        clear_coefs(sc, past, left);
         start += cap;
         cap *= 4;
         i += 1;
     }
+    let h = head_of(b, 5);
     let n = len_of(b, 5);
-    pull_words(order, sw, head_of(b, 5) - WORK_PLACES, start, n);
-    clear_words(sw, start + n, cap - n);
-}
-
-// Puts each bucket's coefficients from the bucket's start on, and 0 past them.
-pub fn settle_coefs(b: &[usize], wc: &[u32], sc: &mut [u32])
-    requires { ⌜ Laid (now b) × (length (now wc) ≡ workPlaces) × (length (now sc) ≡ bucketPlaces) ⌝ }
-    ensures { λ _. ⌜ now (sc .exit) ≡ settled (λ c. c) (now (b .entry)) (now (wc .entry) ++ now (sc .entry)) ⌝ }
-{
-    let mut i = 0;
-    let mut start = 0;
-    let mut cap = 4;
-    while i < 5 {
-        let h = head_of(b, i);
-        let n = len_of(b, i);
-        put_coefs(&wc[h..h + n], sc, start);
-        clear_coefs(sc, start + n, cap - n);
-        start += cap;
-        cap *= 4;
-        i += 1;
-    }
-    let n = len_of(b, 5);
-    pull_coefs(sc, head_of(b, 5) - WORK_PLACES, start, n);
-    clear_coefs(sc, start + n, cap - n);
+    let from = h - WORK_PLACES;
+    let past = start + n;
+    let left = cap - n;
+    pull_words(order, sw, from, start, n);
+    clear_words(sw, past, left);
+    pull_coefs(sc, from, start, n);
+    clear_coefs(sc, past, left);
 }
 
 // Puts the words of the n keys from place `from` on from `to` on, which is no later place. The two

@@ -3,18 +3,9 @@ use Rattle.space.proofs.SettleLaws.{at-return}
 use borrow.Author.Needs.{needs}
 use Rattle.space.proofs.settle.settle.Statement.{statement}
 use Rattle.space.proofs.settle.settle.Tie as tie
-use Rattle.space.proofs.settle.settle.Reads as reads
-use Rattle.space.proofs.settle.settle.Lts as lts
-use Rattle.space.proofs.settle.clear_coefs.Reads as clear-coefs-reads
-use Rattle.space.proofs.settle.clear_words.Reads as clear-words-reads
-use Rattle.space.proofs.settle.settle_coefs.Reads as settle-coefs-reads
-use Rattle.space.proofs.settle.settle_words.Reads as settle-words-reads
 
-settle-words-requires : tie.Need-settle-words-requires
-settle-words-requires c κs = search needs
-
-settle-coefs-requires : tie.Need-settle-coefs-requires
-settle-coefs-requires c κs = search needs
+settle-buckets-requires : tie.Need-settle-buckets-requires
+settle-buckets-requires c κs = search needs
 
 clear-words-requires : tie.Need-clear-words-requires
 clear-words-requires c κs = search needs
@@ -35,14 +26,13 @@ same-length-4 : tie.Need-same-length-4
 same-length-4 c = search needs
 
 returns : tie.Need-returns
-returns c = let z = c .before .before .before .before .before .before .before .before .before .before .before .before .before .before .before .before .before .before .before .before .before .before .before in let x = z .args in at-return (x .order) (x .b .now) (x .sw .now) (x .sc .now) (x .ww .now) (x .wc .now) (z .pre .0) (z .pre .1) (z .pre .2) (z .pre .3) (z .pre .4) (c .before .before .before .before .before .before .before .before .before .before .before .before .before .before .before .settle-words .ensures) (c .before .before .before .before .before .before .before .before .before .before .settle-coefs .ensures) (c .before .before .before .before .before .before .clear-words .ensures) (c .before .before .clear-coefs .ensures)
+returns c = let z = c .before .before .before .before .before .before .before .before .before .before .before .before .before .before .before .before .before .before .before .before .before .before in let x = z .args in let r = c .before .before .before .before .before .before .before .before .before .before .before .before .settle-buckets .ensures in at-return (x .order) (x .b .now) (x .sw .now) (x .sc .now) (x .ww .now) (x .wc .now) (z .pre .0) (z .pre .1) (z .pre .2) (z .pre .3) (z .pre .4) (r .0) (r .1) (c .before .before .before .before .before .before .clear-words .ensures) (c .before .before .clear-coefs .ensures)
 
 pub settle-spec : {M : Type 1} → statement M
 settle-spec =
     tie.close
     (tie.spec
-    settle-words-requires
-    settle-coefs-requires
+    settle-buckets-requires
     clear-words-requires
     clear-coefs-requires
     same-length
