@@ -7,16 +7,13 @@ use Rattle.monomial.specs.declared.order.Order.{Order}
 use Rattle.monomial.specs.Words.{compareWords, fromKey}
 use Rattle.monomial.proofs.KeyLaws.{from-key-compare}
 use Rattle.polynomial.specs.Terms.{Term, Canonical}
-use Rattle.polynomial.proofs.Renaming.{renamed-canonical, canonical-renamed}
+use Rattle.polynomial.proofs.Renaming.{canonical-renamed}
 use Rattle.geobucket.specs.Buckets.{empty, held, Good}
 use Rattle.geobucket.proofs.Renaming.{renamed-held, renamed-good}
 use Rattle.space.specs.Space.{bucketAt, bucketsIn, heldIn, noBuckets, Spaces, spaces, inWords, wordsIn, Standing}
 use Rattle.space.proofs.SpaceLaws.{from-long, held-lens, lists-none}
 
 -- a list of keys is canonical where that of its words is
-pub canonical-words : (o : Order) (p : ℕ) (ts : List (Term ℕ)) → Canonical compare p ts → Canonical (compareWords o) p (inWords o ts)
-canonical-words o p ts c = renamed-canonical compare (compareWords o) (fromKey o) (from-key-compare o) p ts c
-
 pub canonical-keys : (o : Order) (p : ℕ) (ts : List (Term ℕ)) → Canonical (compareWords o) p (inWords o ts) → Canonical compare p ts
 canonical-keys o p ts c = canonical-renamed compare (compareWords o) (fromKey o) (from-key-compare o) p ts c
 

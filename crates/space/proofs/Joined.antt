@@ -5,7 +5,7 @@ use mathlib.Core.List.{List, [], _∷_, _++_}
 use mathlib.Core.Logic.{_⊎_, inl, inr, ⊎-elim}
 use native.Mathlib.Decide.{decLe}
 use native.Mathlib.Omega.{arith}
-use lib.ListN.{length, getD, set, take, drop, length-take, length-drop, length-append, length-set, List·getD-append}
+use lib.ListN.{length, getD, set, take, drop, length-take, length-drop, length-append, List·getD-append}
 use lib.Seq.{sets, ext-getD, take-append-le, drop-append-le, drop-append-add, getD-append-add, set-append-left}
 use Rattle.merge_common.specs.Lent.{part}
 use Rattle.merge_common.proofs.Lists.{getD-part, getD-sets-other}
@@ -20,10 +20,6 @@ part-left l r a n h = ap (take n) (drop-append-le a l r (omega arith)) ∙ take-
 pub set-left : (l r : List ℕ) (a v : ℕ) → a < length l → set (l ++ r) a v ≡ set l a v ++ r
 set-left l r a v h = set-append-left l r a v h
 
-pub sets-left : (l r : List ℕ) (a : ℕ) (vs : List ℕ) → a + length vs ≤ length l → sets (l ++ r) a vs ≡ sets l a vs ++ r
-sets-left l r a [] h = refl
-sets-left l r a (v ∷ vs) h = ap (λ (x : List ℕ). sets x (suc a) vs) (set-left l r a v (omega arith)) ∙ sets-left (set l a v) r (suc a) vs (omega (arith, length-set l a v))
-
 -- ---- in the second list: as many places on as the first one has
 pub getD-right : (l r : List ℕ) (i : ℕ) → getD (l ++ r) (length l + i) 0 ≡ getD r i 0
 getD-right l r i = getD-append-add l r i 0
@@ -34,12 +30,6 @@ part-right l r a n = ap (take n) (drop-append-add l r a)
 pub set-right : (l r : List ℕ) (a v : ℕ) → set (l ++ r) (length l + a) v ≡ l ++ set r a v
 set-right [] r a v = ap (λ (k : ℕ). set r k v) (let e : 0 + a ≡ a = omega arith in e)
 set-right (x ∷ l) r a v = ap (λ (k : ℕ). set (x ∷ l ++ r) k v) (let e : suc (length l) + a ≡ suc (length l + a) = omega arith in e) ∙ ap (λ (y : List ℕ). x ∷ y) (set-right l r a v)
-
-pub sets-right : (l r : List ℕ) (a : ℕ) (vs : List ℕ) → sets (l ++ r) (length l + a) vs ≡ l ++ sets r a vs
-sets-right l r a [] = refl
-sets-right l r a (v ∷ vs) =
-    ap (λ (x : List ℕ). sets x (suc (length l + a)) vs) (set-right l r a v)
-    ∙ (ap (λ (k : ℕ). sets (l ++ set r a v) k vs) (let e : suc (length l + a) ≡ length l + suc a = omega arith in e) ∙ sets-right l (set r a v) (suc a) vs)
 
 -- the same by the place in both: the first list has m places
 module _ (l r : List ℕ) {m : ℕ} (e : length l ≡ m) (a : ℕ) (h : m ≤ a) where
@@ -54,9 +44,6 @@ module _ (l r : List ℕ) {m : ℕ} (e : length l ≡ m) (a : ℕ) (h : m ≤ a)
 
   pub set-past : (v : ℕ) → set (l ++ r) a v ≡ l ++ set r (a - m) v
   set-past v = ap (λ (k : ℕ). set (l ++ r) k v) here ∙ set-right l r (a - m) v
-
-  pub sets-past : (vs : List ℕ) → sets (l ++ r) a vs ≡ l ++ sets r (a - m) vs
-  sets-past vs = ap (λ (k : ℕ). sets (l ++ r) k vs) here ∙ sets-right l r (a - m) vs
 
 -- both are as long as the two
 pub joined-long : (l r : List ℕ) {m n : ℕ} → length l ≡ m → length r ≡ n → length (l ++ r) ≡ m + n
@@ -78,13 +65,6 @@ same-left {lo} {hi} l l' r e f i h = by (decLe (length l) i)
     by : Dec (length l ≤ i) → getD (l' ++ r) i 0 ≡ getD (l ++ r) i 0
     by (yes u) = getD-past l' r e i u ∙ sym (getD-past l r refl i u)
     by (no u) = getD-left l' r i (omega arith) ∙ (f i h ∙ sym (getD-left l r i (omega arith)))
-
-pub same-right : {lo hi : ℕ} (l r r' : List ℕ) {m : ℕ} → length l ≡ m → SameBut lo hi r r' → SameBut (m + lo) (m + hi) (l ++ r) (l ++ r')
-same-right {lo} {hi} l r r' {m} e f i h = by (decLe m i)
-  where
-    by : Dec (m ≤ i) → getD (l ++ r') i 0 ≡ getD (l ++ r) i 0
-    by (yes u) = getD-past l r' e i u ∙ (f (i - m) (⊎-elim (λ w. inl (omega arith)) (λ w. inr (omega arith)) h) ∙ sym (getD-past l r e i u))
-    by (no u) = getD-left l r' i (omega arith) ∙ sym (getD-left l r i (omega arith))
 
 -- a part of which each place is the same
 pub part-same : (s s' : List ℕ) (h n : ℕ) → length s' ≡ length s → ((i : ℕ) → h ≤ i → i < h + n → getD s' i 0 ≡ getD s i 0) → part h n s' ≡ part h n s

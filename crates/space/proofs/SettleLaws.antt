@@ -5,8 +5,8 @@ use mathlib.Core.List.{List, [], _∷_, _++_, map, append-nil, append-assoc}
 use mathlib.Core.Logic.{inr}
 use native.Mathlib.Nat.{zero-add}
 use native.Mathlib.Omega.{arith}
-use lib.ListN.{length, getD, set, take, drop, replicate, length-append, length-map, length-replicate, getD-replicate, drop-of-length-le}
-use lib.Seq.{sets, sets-eq, length-sets, length-take-le}
+use lib.ListN.{length, getD, set, take, drop, replicate, length-append, length-map, length-replicate, getD-replicate}
+use lib.Seq.{sets, length-sets, length-take-le}
 use Rattle.limits.specs.Limits.{bucketPlaces, workPlaces}
 use Rattle.monomial.specs.declared.order.Order.{Order}
 use Rattle.monomial.specs.Words.{fromKey}
@@ -16,7 +16,7 @@ use Rattle.polynomial.proofs.Renaming.{words-renamed, coefs-renamed}
 use Rattle.merge_common.specs.Lent.{part}
 use Rattle.merge_common.proofs.Lists.{Begun, begun-more, begun-all, sets-append, getD-sets-other, length-part, getD-part, getD-each}
 use Rattle.space.specs.Space.{Buckets, headAt, lenAt, Laid, capacity, start, listFrom, laidOut, rowAt, bucketAt, spaces, inWords, wordsIn, settled, AtReturn}
-use Rattle.space.proofs.SpaceLaws.{part-frame, row-of, row-end, row-long, row-work-end, row-work}
+use Rattle.space.proofs.SpaceLaws.{part-frame, put-all, row-of, row-end, row-long, row-work-end, row-work}
 use Rattle.space.proofs.Starts.{next-start, next-capacity, ends-within, six, zone-past}
 use Rattle.space.proofs.Joined.{part-past, joined-long}
 
@@ -84,10 +84,6 @@ rows-left cap f i n h e =
     ∙ (ap₂ (λ (k m : ℕ). f i ++ (replicate (cap - k) 0 ++ laidOut (4 * cap) (listFrom f m (6 - (i + 1))))) e next
     ∙ (ap (λ (m : ℕ). f i ++ (replicate (cap - n) 0 ++ laidOut m (listFrom f (i + 1) (6 - (i + 1))))) four
     ∙ sym (append-assoc (f i) (replicate (cap - n) 0) (laidOut (cap * 4) (listFrom f (i + 1) (6 - (i + 1)))))))
-
--- what is as long as the list, put from its first place on, is all of it
-put-all : (l vs : List ℕ) → length vs ≡ length l → sets l 0 vs ≡ vs
-put-all l vs e = sets-eq vs l 0 (omega arith) ∙ (ap (λ (x : List ℕ). vs ++ x) (drop-of-length-le l {i = 0 + length vs} (omega arith)) ∙ append-nil vs)
 
 module _ {f : ℕ → ℕ} {b : Buckets} {w s₀ s : List ℕ} {i at cap : ℕ} (g : Settling f b w s₀ s i at cap) (l : Laid b) (lw : length w ≡ workPlaces) (e : length s₀ ≡ bucketPlaces) where
   -- bucket i fits where it is settled

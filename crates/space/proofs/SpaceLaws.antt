@@ -1,19 +1,21 @@
 -- The buckets in the spaces: what a change of one bucket's places leaves of the others. Assumes nothing.
 use mathlib.Core.Path.{_≡_, refl, sym, ap, ap₂, _∙_, subst}
-use mathlib.Core.List.{List, [], _∷_, _++_, append-assoc}
+use mathlib.Core.List.{List, [], _∷_, _++_, append-nil}
 use mathlib.Core.Logic.{_⊎_, inl, inr, ⊎-elim}
 use Prim.Native.Nat.{ℕ, zero, suc, _+_, _-_, _*_, _<_, _≤_, Ordering}
 use native.Mathlib.Decide.{decLe}
 use native.Mathlib.Omega.{arith}
-use lib.ListN.{length, take, drop, set, getD, length-set}
-use lib.Seq.{sets, length-sets, sets-eq, take-at, drop-at, length-take-le, getD-set-same, getD-set-other, set-getD, drop-cons}
+use lib.ListN.{length, take, drop, set, getD, length-set, drop-of-length-le}
+use lib.Seq.{sets, length-sets, sets-eq, getD-set-same, getD-set-other, set-getD, drop-cons}
 use Rattle.limits.specs.Limits.{bucketPlaces, workPlaces}
-use Rattle.merge_common.specs.Lent.{Poly, part, Apart}
-use Rattle.merge_common.proofs.Lists.{sets-append, getD-sets-other, length-part}
+use Rattle.merge_common.specs.Lent.{part, Apart}
+use Rattle.merge_common.proofs.Lists.{getD-sets-other, length-part}
+use Rattle.merge_common.proofs.ReadBack.{part-sets}
 use Rattle.polynomial.specs.Terms.{Term, term, terms, Canonical}
 use Rattle.polynomial.proofs.TermLists.{length-terms}
 use Rattle.residue.specs.Modular.{Modulus}
 use Rattle.geobucket.specs.Buckets.{empty, held, Good, Canon}
+use Rattle.geobucket.proofs.EventLaws.{good-canon}
 use Rattle.space.specs.Space.{Buckets, headAt, lenAt, sideAt, capacity, start, allPlaces, zone, zoneEnd, listFrom, rowAt, bucketAt, bucketsIn, Laid, Stands, moved, dropped, turned, noBuckets, heldIn}
 use Rattle.space.proofs.Starts.{zone-areas, next-start, next-capacity, cap-small, end-in-work, zone-past, zones-apart, zone-end, zone-holds}
 use Rattle.space.proofs.Joined.{SameBut, same-sets, part-same, part-left, part-past}
@@ -67,26 +69,22 @@ pub row-of : (b : Buckets) (i : ℕ) {h n : ℕ} → h ≡ headAt b i → n ≡ 
 row-of b i {h} {n} eh en s = part-to h n s ∙ ap₂ (λ (x y : ℕ). part x y s) eh en
 
 pub part-put : (s : List ℕ) (a : ℕ) (vs : List ℕ) → a + length vs ≤ length s → part a (length vs) (sets s a vs) ≡ vs
-part-put s a vs h =
-    ap (λ (l : List ℕ). part a (length vs) l) (sets-eq vs s a h ∙ append-assoc (take a s) vs (drop (a + length vs) s))
-    ∙ (ap (take (length vs)) (drop-at (take a s) (vs ++ drop (a + length vs) s) a (length-take-le a s (omega arith)))
-    ∙ take-at vs (drop (a + length vs) s) (length vs) refl)
+part-put s a vs h = part-sets s a vs h
 
--- what is put is read back, whatever is put past it
-pub part-front : (s : List ℕ) (a : ℕ) (vs js : List ℕ) → a + length vs ≤ length s → part a (length vs) (sets s a (vs ++ js)) ≡ vs
-part-front s a vs js h =
-    ap (λ (l : List ℕ). part a (length vs) l) (sets-append s a vs js)
-    ∙ (part-frame (sets s a vs) (a + length vs) js a (length vs) (inl (omega arith)) ∙ part-put s a vs h)
+-- what is as long as the list, put from its first place on, is all of it
+pub put-all : (l vs : List ℕ) → length vs ≡ length l → sets l 0 vs ≡ vs
+put-all l vs e = sets-eq vs l 0 (omega arith) ∙ (ap (λ (x : List ℕ). vs ++ x) (drop-of-length-le l {i = 0 + length vs} (omega arith)) ∙ append-nil vs)
 
 -- ---- one bucket is changed
 
-decEq : (x y : ℕ) → Dec (x ≡ y)
-decEq x y = by-le (decLe x y) (decLe y x)
+-- what holds of i, and of any other number, holds of each
+but-one : (P : ℕ → Type 0) (i j : ℕ) → P i → ((j ≡ i → ⊥) → P j) → P j
+but-one P i j here else = by (decLe i j) (decLe j i)
   where
-    by-le : Dec (x ≤ y) → Dec (y ≤ x) → Dec (x ≡ y)
-    by-le (yes u) (yes v) = yes (omega arith)
-    by-le (no u) v = no (λ e. let z : ⊥ = omega arith in z)
-    by-le (yes u) (no v) = no (λ e. let z : ⊥ = omega arith in z)
+    by : Dec (i ≤ j) → Dec (j ≤ i) → P j
+    by (yes u) (yes v) = subst P (let e : i ≡ j = omega arith in e) here
+    by (no u) v = else (λ e. let z : ⊥ = omega arith in z)
+    by (yes u) (no v) = else (λ e. let z : ⊥ = omega arith in z)
 
 -- the numbers of all buckets but i are in b' as they are in b
 pub record ButFor (b b' : Buckets) (i : ℕ) : Type 0 where
@@ -106,32 +104,12 @@ module _ (b b' : Buckets) (i h n s : ℕ) (laid : Laid b) (but : ButFor b b' i) 
   pub laid-but : zone i ≤ h → h + n ≤ zoneEnd i → n ≤ capacity i → (i < 5 → (s ≡ zone i) ⊎ (s ≡ zone i + 2 * capacity i)) → (i < 5 → Apart h n s (2 * capacity i)) → Laid b'
   laid-but lo hi sh si out = record {
     eighteen = but .as-long ∙ laid .eighteen;
-    low = λ j k. low-at j k (decEq j i);
-    high = λ j k. high-at j k (decEq j i);
-    short = λ j k. short-at j k (decEq j i);
-    side-is = λ j k. side-at j k (decEq j i);
-    side-apart = λ j k. apart-at j k (decEq j i);
+    low = λ j. but-one (λ j. j < 6 → zone j ≤ headAt b' j) i j (λ k. rw (has .head) lo) (λ ne k. rw (but .heads j k ne) (laid .low j k));
+    high = λ j. but-one (λ j. j < 6 → headAt b' j + lenAt b' j ≤ zoneEnd j) i j (λ k. rw (has .head, has .len) hi) (λ ne k. rw (but .heads j k ne, but .lens j k ne) (laid .high j k));
+    short = λ j. but-one (λ j. j < 6 → lenAt b' j ≤ capacity j) i j (λ k. rw (has .len) sh) (λ ne k. rw (but .lens j k ne) (laid .short j k));
+    side-is = λ j. but-one (λ j. j < 5 → (sideAt b' j ≡ zone j) ⊎ (sideAt b' j ≡ zone j + 2 * capacity j)) i j (λ k. rw (has .side) (si k)) (λ ne k. rw (but .sides j k ne) (laid .side-is j k));
+    side-apart = λ j. but-one (λ j. j < 5 → Apart (headAt b' j) (lenAt b' j) (sideAt b' j) (2 * capacity j)) i j (λ k. rw (has .head, has .len, has .side) (out k)) (λ ne k. rw (but .heads j (omega arith) ne, but .lens j (omega arith) ne, but .sides j k ne) (laid .side-apart j k));
   }
-    where
-      low-at : (j : ℕ) → j < 6 → Dec (j ≡ i) → zone j ≤ headAt b' j
-      low-at j k (yes e) = rw (e, has .head) lo
-      low-at j k (no e) = rw (but .heads j k e) (laid .low j k)
-
-      high-at : (j : ℕ) → j < 6 → Dec (j ≡ i) → headAt b' j + lenAt b' j ≤ zoneEnd j
-      high-at j k (yes e) = rw (e, has .head, has .len) hi
-      high-at j k (no e) = rw (but .heads j k e, but .lens j k e) (laid .high j k)
-
-      short-at : (j : ℕ) → j < 6 → Dec (j ≡ i) → lenAt b' j ≤ capacity j
-      short-at j k (yes e) = rw (e, has .len) sh
-      short-at j k (no e) = rw (but .lens j k e) (laid .short j k)
-
-      side-at : (j : ℕ) → j < 5 → Dec (j ≡ i) → (sideAt b' j ≡ zone j) ⊎ (sideAt b' j ≡ zone j + 2 * capacity j)
-      side-at j k (yes e) = rw (e, has .side) (si (omega arith))
-      side-at j k (no e) = rw (but .sides j k e) (laid .side-is j k)
-
-      apart-at : (j : ℕ) → j < 5 → Dec (j ≡ i) → Apart (headAt b' j) (lenAt b' j) (sideAt b' j) (2 * capacity j)
-      apart-at j k (yes e) = rw (e, has .head, has .len, has .side) (out (omega arith))
-      apart-at j k (no e) = rw (but .heads j (omega arith) e, but .lens j (omega arith) e, but .sides j k e) (laid .side-apart j k)
 
 -- a free area lies in its zone
 pub side-low : {b : Buckets} → Laid b → (i : ℕ) → i < 5 → zone i ≤ sideAt b i
@@ -159,14 +137,6 @@ module _ (b b' : Buckets) (i : ℕ) (laid : Laid b) (but : ButFor b b' i) where
       → bucketAt b' sw' sc' j ≡ bucketAt b sw sc j
   bucket-but sw sc sw' sc' ew ec fw fc j k ne = ap₂ terms (row-but sw sw' ew fw j k ne) (row-but sc sc' ec fc j k ne)
 
-  -- the same where a list is put within the zone
-  pub row-put-but : (s : List ℕ) (a : ℕ) (vs : List ℕ) → zone i ≤ a → a + length vs ≤ zoneEnd i → (j : ℕ) → j < 6 → (j ≡ i → ⊥) → rowAt b' (sets s a vs) j ≡ rowAt b s j
-  row-put-but s a vs lo hi = row-but s (sets s a vs) (length-sets s a vs) (same-sets (zone i) (zoneEnd i) s a vs lo hi)
-
-  pub bucket-put-but : (sw sc : List ℕ) (a d : ℕ) (ws cs : List ℕ) → zone i ≤ a → a + length ws ≤ zoneEnd i → zone i ≤ d → d + length cs ≤ zoneEnd i → (j : ℕ) → j < 6 → (j ≡ i → ⊥)
-      → bucketAt b' (sets sw a ws) (sets sc d cs) j ≡ bucketAt b sw sc j
-  bucket-put-but sw sc a d ws cs la ha ld hd j k ne = ap₂ terms (row-put-but sw a ws la ha j k ne) (row-put-but sc d cs ld hd j k ne)
-
 -- ---- bucket i has its head and its terms elsewhere
 module _ (b : Buckets) (i h n : ℕ) (laid : Laid b) (in-six : i < 6) where
   pub moved-head : headAt (moved b i h n) i ≡ h
@@ -190,15 +160,7 @@ module _ (b : Buckets) (i h n : ℕ) (laid : Laid b) (in-six : i < 6) where
   pub laid-moved : zone i ≤ h → h + n ≤ zoneEnd i → n ≤ capacity i → (i < 5 → Apart h n (sideAt b i) (2 * capacity i)) → Laid (moved b i h n)
   laid-moved lo hi sh out = laid-but b (moved b i h n) i h n (sideAt b i) laid moved-but (record { head = moved-head; len = moved-len; side = moved-side i }) lo hi sh (laid .side-is i) out
 
-  -- another bucket, whatever is put into this one's zone
-  pub row-other : (s : List ℕ) (a : ℕ) (vs : List ℕ) → zone i ≤ a → a + length vs ≤ zoneEnd i → (j : ℕ) → j < 6 → (j ≡ i → ⊥) → rowAt (moved b i h n) (sets s a vs) j ≡ rowAt b s j
-  row-other = row-put-but b (moved b i h n) i laid moved-but
-
-  pub bucket-other : (sw sc : List ℕ) (a d : ℕ) (ws cs : List ℕ) → zone i ≤ a → a + length ws ≤ zoneEnd i → zone i ≤ d → d + length cs ≤ zoneEnd i → (j : ℕ) → j < 6 → (j ≡ i → ⊥)
-      → bucketAt (moved b i h n) (sets sw a ws) (sets sc d cs) j ≡ bucketAt b sw sc j
-  bucket-other = bucket-put-but b (moved b i h n) i laid moved-but
-
-  -- the same, place by place
+  -- another bucket, whatever became of the places of this one's zone
   pub bucket-else : (sw sc sw' sc' : List ℕ) → length sw' ≡ length sw → length sc' ≡ length sc → SameBut (zone i) (zoneEnd i) sw sw' → SameBut (zone i) (zoneEnd i) sc sc' → (j : ℕ) → j < 6 → (j ≡ i → ⊥)
       → bucketAt (moved b i h n) sw' sc' j ≡ bucketAt b sw sc j
   bucket-else = bucket-but b (moved b i h n) i laid moved-but
@@ -233,39 +195,19 @@ module _ (b : Buckets) (i h n s : ℕ) (laid : Laid b) (in-five : i < 5) where
   laid-turned lo hi sh si out =
       laid-but b (turned b i h n s) i h n s laid turned-but (record { head = turned-head; len = turned-len; side = turned-side }) lo hi sh (λ k. si) (λ k. out)
 
-  pub row-other-turned : (l : List ℕ) (a : ℕ) (vs : List ℕ) → zone i ≤ a → a + length vs ≤ zoneEnd i → (j : ℕ) → j < 6 → (j ≡ i → ⊥) → rowAt (turned b i h n s) (sets l a vs) j ≡ rowAt b l j
-  row-other-turned = row-put-but b (turned b i h n s) i laid turned-but
-
-  pub bucket-other-turned : (sw sc : List ℕ) (a d : ℕ) (ws cs : List ℕ) → zone i ≤ a → a + length ws ≤ zoneEnd i → zone i ≤ d → d + length cs ≤ zoneEnd i → (j : ℕ) → j < 6 → (j ≡ i → ⊥)
-      → bucketAt (turned b i h n s) (sets sw a ws) (sets sc d cs) j ≡ bucketAt b sw sc j
-  bucket-other-turned = bucket-put-but b (turned b i h n s) i laid turned-but
-
   pub bucket-else-turned : (sw sc sw' sc' : List ℕ) → length sw' ≡ length sw → length sc' ≡ length sc → SameBut (zone i) (zoneEnd i) sw sw' → SameBut (zone i) (zoneEnd i) sc sc' → (j : ℕ) → j < 6 → (j ≡ i → ⊥)
       → bucketAt (turned b i h n s) sw' sc' j ≡ bucketAt b sw sc j
   bucket-else-turned = bucket-but b (turned b i h n s) i laid turned-but
 
 -- ---- the buckets in the spaces
--- of good buckets, the one at i is canonical
-pub good-at : (cmp : ℕ → ℕ → Ordering) (p : ℕ) (g : ℕ → List (Term ℕ)) (k i cap : ℕ) → Good cmp p cap (listFrom g i k) → (j : ℕ) → i ≤ j → j < i + k → Canonical cmp p (g j)
-unfolding Good listFrom
-good-at cmp p g zero i cap h j l u = absurd (let z : ⊥ = omega arith in z)
-good-at cmp p g (suc k) i cap h j l u = by (decLe j i) (λ v. good-at cmp p g k (suc i) (4 * cap) (h .1) j v (omega arith))
-  where
-    by : Dec (j ≤ i) → (suc i ≤ j → Canonical cmp p (g j)) → Canonical cmp p (g j)
-    by (yes v) r = subst (λ (x : ℕ). Canonical cmp p (g x)) (let e : i ≡ j = omega arith in e) (h .0 .0)
-    by (no v) r = r (omega arith)
-
 module _ (b : Buckets) (laid : Laid b) (i : ℕ) (in-six : i < 6) where
   -- bucket i lies within the spaces
   pub row-end : headAt b i + lenAt b i ≤ allPlaces
   row-end = omega (arith, laid .high i in-six, zone-end i in-six)
 
-  -- in the work space, with its free area
+  -- in the work space
   pub row-work-end : i < 5 → headAt b i + lenAt b i ≤ workPlaces
   row-work-end k = omega (arith, laid .high i in-six, end-in-work i k)
-
-  pub side-work-end : i < 5 → sideAt b i + 2 * capacity i ≤ workPlaces
-  side-work-end k = omega (arith, side-high laid i k, end-in-work i k)
 
   pub row-work : i < 5 → (l r : List ℕ) → length l ≡ workPlaces → rowAt b (l ++ r) i ≡ rowAt b l i
   row-work k l r e = part-left l r (headAt b i) (lenAt b i) (omega (arith, row-work-end k))
@@ -282,9 +224,6 @@ module _ (b : Buckets) (laid : Laid b) (i : ℕ) (in-six : i < 6) where
 
   pub bucket-long : (sw sc : List ℕ) → length sw ≡ allPlaces → length sc ≡ allPlaces → length (bucketAt b sw sc i) ≡ lenAt b i
   bucket-long sw sc hw hc = length-terms (rowAt b sw i) (rowAt b sc i) (row-long sc hc ∙ sym (row-long sw hw)) ∙ row-long sw hw
-
-  pub bucket-poly : (p : ℕ) (cmp : ℕ → ℕ → Ordering) (sw sc : List ℕ) → length sw ≡ allPlaces → length sc ≡ allPlaces → Canonical cmp p (bucketAt b sw sc i) → Poly p (rowAt b sw i) (rowAt b sc i)
-  bucket-poly p cmp sw sc hw hc c = record { long = row-long sc hc ∙ sym (row-long sw hw); reduced = c .reduced }
 
 -- ---- the terms held
 pub held-append : (as' bs : List (List (Term ℕ))) → held (as' ++ bs) ≡ held as' + held bs
@@ -334,14 +273,14 @@ module _ (b : Buckets) (i : ℕ) (laid : Laid b) (in-six : i < 6) where
           ∙ ap₂ (λ (x y : ℕ). term (getD sw h 0) (getD sc h 0) ∷ terms (part x y sw) (part x y sc)) (sym (moved-head b i (h + 1) (n - 1) laid in-six)) (sym (moved-len b i (h + 1) (n - 1) laid in-six))
 
       pub dropped-other : (j : ℕ) → j < 6 → (j ≡ i → ⊥) → bucketAt (dropped b i) sw sc j ≡ bucketAt b sw sc j
-      dropped-other j k ne = bucket-other b i (headAt b i + 1) (lenAt b i - 1) laid in-six sw sc (zone i) (zone i) [] [] (omega arith) (omega (arith, zone-holds i)) (omega arith) (omega (arith, zone-holds i)) j k ne
+      dropped-other = bucket-else b i (headAt b i + 1) (lenAt b i - 1) laid in-six sw sc sw sc refl refl (λ m u. refl) (λ m u. refl)
 
       -- another coefficient is put at its lead
       pub put-other : (v j : ℕ) → j < 6 → (j ≡ i → ⊥) → bucketAt b sw (set sc (headAt b i) v) j ≡ bucketAt b sw sc j
       put-other v j k ne =
           let h = headAt b i in
           ap (λ (x : Buckets). bucketAt x sw (set sc h v) j) (sym moved-same)
-          ∙ bucket-other b i h (lenAt b i) laid in-six sw sc (zone i) h [] (v ∷ []) (omega arith) (omega (arith, zone-holds i)) (laid .low i in-six) (omega (arith, laid .high i in-six)) j k ne
+          ∙ bucket-else b i h (lenAt b i) laid in-six sw sc sw (set sc h v) refl (length-set sc h v) (λ m u. refl) (same-sets (zone i) (zoneEnd i) sc h (v ∷ []) (laid .low i in-six) (omega (arith, laid .high i in-six))) j k ne
 
       pub put-here : (v : ℕ) → bucketAt b sw (set sc (headAt b i) v) i ≡ term (getD sw (headAt b i) 0) v ∷ bucketAt (dropped b i) sw sc i
       put-here v =
@@ -393,6 +332,9 @@ module _ (cmp : ℕ → ℕ → Ordering) (p : ℕ) (g : ℕ → List (Term ℕ)
       by (yes v) r = subst (λ (x : ℕ). Canonical cmp p (g x)) (let e : i ≡ j = omega arith in e) (c .0)
       by (no v) r = r (omega arith)
 
+  pub good-at : (k i cap : ℕ) → Good cmp p cap (listFrom g i k) → (j : ℕ) → i ≤ j → j < i + k → Canonical cmp p (g j)
+  good-at k i cap h = canon-at k i (good-canon cmp p cap (listFrom g i k) h)
+
   pub good-from : (k i : ℕ) → Canon cmp p (listFrom g i k) → ((j : ℕ) → i ≤ j → j < i + k → length (g j) ≤ capacity j) → Good cmp p (capacity i) (listFrom g i k)
   unfolding Canon Good listFrom
   good-from zero i c h = tt
@@ -404,75 +346,28 @@ held-short g zero i h = omega (arith, ap start (let e : i + 0 ≡ i = omega arit
 held-short g (suc k) i h = omega (arith, h i (omega arith) (omega arith), held-short g k (suc i) (λ j u w. h j (omega arith) (omega arith)), next-start i, ap start (let e : i + suc k ≡ suc i + k = omega arith in e))
 
 -- ---- six empty buckets, whatever the spaces hold
+each-six : (P : ℕ → Type 0) → P 0 → P 1 → P 2 → P 3 → P 4 → P 5 → (i : ℕ) → i < 6 → P i
+each-six P a b c d e f zero h = a
+each-six P a b c d e f (suc zero) h = b
+each-six P a b c d e f (suc (suc zero)) h = c
+each-six P a b c d e f (suc (suc (suc zero))) h = d
+each-six P a b c d e f (suc (suc (suc (suc zero)))) h = e
+each-six P a b c d e f (suc (suc (suc (suc (suc zero))))) h = f
+each-six P a b c d e f (suc (suc (suc (suc (suc (suc i)))))) h = absurd (let z : ⊥ = omega arith in z)
+
+each-five : (P : ℕ → Type 0) → P 0 → P 1 → P 2 → P 3 → P 4 → (i : ℕ) → i < 5 → P i
+each-five P a b c d e i h = each-six (λ i. i < 5 → P i) (λ h. a) (λ h. b) (λ h. c) (λ h. d) (λ h. e) (λ h. absurd (let z : ⊥ = omega arith in z)) i (omega arith) h
+
 pub laid-none : Laid noBuckets
 unfolding start capacity zone zoneEnd
-laid-none = record { eighteen = refl; low = lows; high = highs; short = shorts; side-is = side-iss; side-apart = aparts }
-  where
-    lows : (i : ℕ) → i < 6 → zone i ≤ headAt noBuckets i
-    lows zero h = omega arith
-    lows (suc zero) h = omega arith
-    lows (suc (suc zero)) h = omega arith
-    lows (suc (suc (suc zero))) h = omega arith
-    lows (suc (suc (suc (suc zero)))) h = omega arith
-    lows (suc (suc (suc (suc (suc zero))))) h = omega arith
-    lows (suc (suc (suc (suc (suc (suc i)))))) h = absurd (let z : ⊥ = omega arith in z)
-
-    highs : (i : ℕ) → i < 6 → headAt noBuckets i + lenAt noBuckets i ≤ zoneEnd i
-    highs zero h = omega arith
-    highs (suc zero) h = omega arith
-    highs (suc (suc zero)) h = omega arith
-    highs (suc (suc (suc zero))) h = omega arith
-    highs (suc (suc (suc (suc zero)))) h = omega arith
-    highs (suc (suc (suc (suc (suc zero))))) h = omega arith
-    highs (suc (suc (suc (suc (suc (suc i)))))) h = absurd (let z : ⊥ = omega arith in z)
-
-    shorts : (i : ℕ) → i < 6 → lenAt noBuckets i ≤ capacity i
-    shorts zero h = omega arith
-    shorts (suc zero) h = omega arith
-    shorts (suc (suc zero)) h = omega arith
-    shorts (suc (suc (suc zero))) h = omega arith
-    shorts (suc (suc (suc (suc zero)))) h = omega arith
-    shorts (suc (suc (suc (suc (suc zero))))) h = omega arith
-    shorts (suc (suc (suc (suc (suc (suc i)))))) h = absurd (let z : ⊥ = omega arith in z)
-
-    side-iss : (i : ℕ) → i < 5 → (sideAt noBuckets i ≡ zone i) ⊎ (sideAt noBuckets i ≡ zone i + 2 * capacity i)
-    side-iss zero h = inr refl
-    side-iss (suc zero) h = inr refl
-    side-iss (suc (suc zero)) h = inr refl
-    side-iss (suc (suc (suc zero))) h = inr refl
-    side-iss (suc (suc (suc (suc zero)))) h = inr refl
-    side-iss (suc (suc (suc (suc (suc i))))) h = absurd (let z : ⊥ = omega arith in z)
-
-    aparts : (i : ℕ) → i < 5 → Apart (headAt noBuckets i) (lenAt noBuckets i) (sideAt noBuckets i) (2 * capacity i)
-    aparts zero h = inl (omega arith)
-    aparts (suc zero) h = inl (omega arith)
-    aparts (suc (suc zero)) h = inl (omega arith)
-    aparts (suc (suc (suc zero))) h = inl (omega arith)
-    aparts (suc (suc (suc (suc zero)))) h = inl (omega arith)
-    aparts (suc (suc (suc (suc (suc i))))) h = absurd (let z : ⊥ = omega arith in z)
-
--- eighteen numbers put one by one
-pub cleared : (b : Buckets) → length b ≡ 18 → set (set (set (set (set (set (set (set (set (set (set (set (set (set (set (set (set (set b 0 0) 1 16) 2 80) 3 336) 4 1360) 5 13652) 6 0) 7 0) 8 0) 9 0) 10 0) 11 0) 12 8) 13 48) 14 208) 15 848) 16 3408) 17 0 ≡ noBuckets
-cleared (a ∷ b ∷ c ∷ d ∷ e ∷ f ∷ g ∷ h ∷ i ∷ j ∷ k ∷ l ∷ m ∷ n ∷ o ∷ p ∷ q ∷ r ∷ []) long = refl
-cleared (a ∷ b ∷ c ∷ d ∷ e ∷ f ∷ g ∷ h ∷ i ∷ j ∷ k ∷ l ∷ m ∷ n ∷ o ∷ p ∷ q ∷ r ∷ x ∷ xs) long = absurd (let z : ⊥ = omega arith in z)
-cleared (a ∷ b ∷ c ∷ d ∷ e ∷ f ∷ g ∷ h ∷ i ∷ j ∷ k ∷ l ∷ m ∷ n ∷ o ∷ p ∷ q ∷ []) long = absurd (let z : ⊥ = omega arith in z)
-cleared (a ∷ b ∷ c ∷ d ∷ e ∷ f ∷ g ∷ h ∷ i ∷ j ∷ k ∷ l ∷ m ∷ n ∷ o ∷ p ∷ []) long = absurd (let z : ⊥ = omega arith in z)
-cleared (a ∷ b ∷ c ∷ d ∷ e ∷ f ∷ g ∷ h ∷ i ∷ j ∷ k ∷ l ∷ m ∷ n ∷ o ∷ []) long = absurd (let z : ⊥ = omega arith in z)
-cleared (a ∷ b ∷ c ∷ d ∷ e ∷ f ∷ g ∷ h ∷ i ∷ j ∷ k ∷ l ∷ m ∷ n ∷ []) long = absurd (let z : ⊥ = omega arith in z)
-cleared (a ∷ b ∷ c ∷ d ∷ e ∷ f ∷ g ∷ h ∷ i ∷ j ∷ k ∷ l ∷ m ∷ []) long = absurd (let z : ⊥ = omega arith in z)
-cleared (a ∷ b ∷ c ∷ d ∷ e ∷ f ∷ g ∷ h ∷ i ∷ j ∷ k ∷ l ∷ []) long = absurd (let z : ⊥ = omega arith in z)
-cleared (a ∷ b ∷ c ∷ d ∷ e ∷ f ∷ g ∷ h ∷ i ∷ j ∷ k ∷ []) long = absurd (let z : ⊥ = omega arith in z)
-cleared (a ∷ b ∷ c ∷ d ∷ e ∷ f ∷ g ∷ h ∷ i ∷ j ∷ []) long = absurd (let z : ⊥ = omega arith in z)
-cleared (a ∷ b ∷ c ∷ d ∷ e ∷ f ∷ g ∷ h ∷ i ∷ []) long = absurd (let z : ⊥ = omega arith in z)
-cleared (a ∷ b ∷ c ∷ d ∷ e ∷ f ∷ g ∷ h ∷ []) long = absurd (let z : ⊥ = omega arith in z)
-cleared (a ∷ b ∷ c ∷ d ∷ e ∷ f ∷ g ∷ []) long = absurd (let z : ⊥ = omega arith in z)
-cleared (a ∷ b ∷ c ∷ d ∷ e ∷ f ∷ []) long = absurd (let z : ⊥ = omega arith in z)
-cleared (a ∷ b ∷ c ∷ d ∷ e ∷ []) long = absurd (let z : ⊥ = omega arith in z)
-cleared (a ∷ b ∷ c ∷ d ∷ []) long = absurd (let z : ⊥ = omega arith in z)
-cleared (a ∷ b ∷ c ∷ []) long = absurd (let z : ⊥ = omega arith in z)
-cleared (a ∷ b ∷ []) long = absurd (let z : ⊥ = omega arith in z)
-cleared (a ∷ []) long = absurd (let z : ⊥ = omega arith in z)
-cleared [] long = absurd (let z : ⊥ = omega arith in z)
+laid-none = record {
+  eighteen = refl;
+  low = each-six (λ i. zone i ≤ headAt noBuckets i) (omega arith) (omega arith) (omega arith) (omega arith) (omega arith) (omega arith);
+  high = each-six (λ i. headAt noBuckets i + lenAt noBuckets i ≤ zoneEnd i) (omega arith) (omega arith) (omega arith) (omega arith) (omega arith) (omega arith);
+  short = each-six (λ i. lenAt noBuckets i ≤ capacity i) (omega arith) (omega arith) (omega arith) (omega arith) (omega arith) (omega arith);
+  side-is = each-five (λ i. (sideAt noBuckets i ≡ zone i) ⊎ (sideAt noBuckets i ≡ zone i + 2 * capacity i)) (inr refl) (inr refl) (inr refl) (inr refl) (inr refl);
+  side-apart = each-five (λ i. Apart (headAt noBuckets i) (lenAt noBuckets i) (sideAt noBuckets i) (2 * capacity i)) (inl (omega arith)) (inl (omega arith)) (inl (omega arith)) (inl (omega arith)) (inl (omega arith));
+}
 
 pub lists-none : (sw sc : List ℕ) → bucketsIn noBuckets sw sc ≡ empty
 unfolding listFrom

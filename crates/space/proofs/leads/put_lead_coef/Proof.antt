@@ -4,9 +4,6 @@ use Rattle.space.proofs.LeadLaws.{in-work, put-work, past-work, in-spac
 use borrow.Author.Needs.{needs}
 use Rattle.space.proofs.leads.put_lead_coef.Statement.{statement}
 use Rattle.space.proofs.leads.put_lead_coef.Tie as tie
-use Rattle.space.proofs.leads.put_lead_coef.Reads as reads
-use Rattle.space.proofs.leads.put_lead_coef.Lts as lts
-use Rattle.space.proofs.state.head_of.Reads as head-of-reads
 
 head-of-requires : tie.Need-head-of-requires
 head-of-requires c κs = search needs

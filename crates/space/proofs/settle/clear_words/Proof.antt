@@ -6,8 +6,6 @@ use Rattle.merge_common.proofs.Lists.{Begun, begun-none}
 use Rattle.space.proofs.SettleLaws.{cleared-more, cleared-all}
 use Rattle.space.proofs.settle.clear_words.Statement.{statement}
 use Rattle.space.proofs.settle.clear_words.Tie as tie
-use Rattle.space.proofs.settle.clear_words.Reads as reads
-use Rattle.space.proofs.settle.clear_words.Lts as lts
 
 abbrev Inv-loop : tie.InvT-loop
 Inv-loop s₀ at n i₀ s i = Begun (replicate n 0) s₀ at s i

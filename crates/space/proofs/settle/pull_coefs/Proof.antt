@@ -8,8 +8,6 @@ use Rattle.merge_common.proofs.Lists.{Begun, begun-none}
 use Rattle.space.proofs.SettleLaws.{pulled-more, pulled-all, as-it-is}
 use Rattle.space.proofs.settle.pull_coefs.Statement.{statement}
 use Rattle.space.proofs.settle.pull_coefs.Tie as tie
-use Rattle.space.proofs.settle.pull_coefs.Reads as reads
-use Rattle.space.proofs.settle.pull_coefs.Lts as lts
 
 abbrev Inv-loop : tie.InvT-loop
 Inv-loop s₀ from to n i₀ s i = Begun (map (λ c. c) (part from n s₀)) s₀ to s i

@@ -1,5 +1,6 @@
 -- `space::state::clear` meets its contract. Assumes nothing.
-use Rattle.space.proofs.SpaceLaws.{cleared}
+use Rattle.space.proofs.SpaceLaws.{put-all}
+use Rattle.space.specs.Space.{noBuckets}
 use native.Mathlib.Omega.{arith}
 use lib.ListN.{length-set}
 use borrow.Author.Needs.{needs}
@@ -64,7 +65,7 @@ same-length : tie.Need-same-length
 same-length c = search needs
 
 returns : tie.Need-returns
-returns c = cleared (c .args .b .now) (c .pre)
+returns c = put-all (c .args .b .now) noBuckets (omega (arith, c .pre))
 
 pub clear-spec : {M : Type 1} → statement M
 clear-spec =
