@@ -71,34 +71,30 @@ pub fn settle_buckets(
     let from = h - WORK_PLACES;
     let past = start + n;
     let left = cap - n;
-    pull_words(order, sw, from, start, n);
+    pull_terms(order, sw, sc, from, start, n);
     clear_words(sw, past, left);
-    pull_coefs(sc, from, start, n);
     clear_coefs(sc, past, left);
 }
 
-// Puts the words of the n keys from place `from` on from `to` on, which is no later place. The two
-// may overlap.
-pub fn pull_words(order: Order, s: &mut [u64], from: usize, to: usize, n: usize)
-    requires { ⌜ (from + n ≤ length (now s)) × (to ≤ from) ⌝ }
-    ensures { λ _. ⌜ now (s .exit) ≡ sets (now (s .entry)) to (map (fromKey order) (part from n (now (s .entry)))) ⌝ }
+// Puts the n terms from place `from` on from `to` on, which is no later place, with the words of their
+// keys. The two may overlap.
+pub fn pull_terms(
+    order: Order,
+    sw: &mut [u64],
+    sc: &mut [u32],
+    from: usize,
+    to: usize,
+    n: usize,
+)
+    requires { ⌜ (from + n ≤ length (now sw)) × (from + n ≤ length (now sc)) × (to ≤ from) ⌝ }
+    ensures { λ _. ⌜ (now (sw .exit) ≡ sets (now (sw .entry)) to (map (fromKey order) (part from n (now (sw .entry))))) × (now (sc .exit) ≡ sets (now (sc .entry)) to (part from n (now (sc .entry)))) ⌝ }
 {
     let mut i = 0;
     while i < n {
-        s[to + i] = order.word(s[from + i]);
-        i += 1;
-    }
-}
-
-// Puts the n coefficients from place `from` on also from `to` on, which is no later place. The two
-// may overlap.
-pub fn pull_coefs(s: &mut [u32], from: usize, to: usize, n: usize)
-    requires { ⌜ (from + n ≤ length (now s)) × (to ≤ from) ⌝ }
-    ensures { λ _. ⌜ now (s .exit) ≡ sets (now (s .entry)) to (part from n (now (s .entry))) ⌝ }
-{
-    let mut i = 0;
-    while i < n {
-        s[to + i] = s[from + i];
+        let read = from + i;
+        let put = to + i;
+        sw[put] = order.word(sw[read]);
+        sc[put] = sc[read];
         i += 1;
     }
 }

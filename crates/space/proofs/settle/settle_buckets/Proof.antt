@@ -132,17 +132,14 @@ add-past-2 c = omega (arith, last c .fit)
 sub-left-2 : tie.Need-sub-left-2 Inv-loop μ-loop
 sub-left-2 c = omega (arith, last c .fit)
 
-pull-words-requires : tie.Need-pull-words-requires Inv-loop μ-loop
-pull-words-requires c κs = let r = last (c .before) in (omega (arith, r .ends, c .before .before .before .before .loop .inv .1 .long), r .low)
+pull-terms-requires : tie.Need-pull-terms-requires Inv-loop μ-loop
+pull-terms-requires c κs = let r = last (c .before .before) in let v = c .before .before .before .before .before .loop .inv in (omega (arith, r .ends, v .1 .long), omega (arith, r .ends, v .2 .long), r .low)
 
 clear-words-requires-2 : tie.Need-clear-words-requires-2 Inv-loop μ-loop
-clear-words-requires-2 c κs = let t = c .before .before .before .before .before in omega (arith, last t .fit, c .before .before .before .before .before .before .before .before .loop .inv .1 .long)
-
-pull-coefs-requires : tie.Need-pull-coefs-requires Inv-loop μ-loop
-pull-coefs-requires c κs = let r = last (c .before .before .before .before .before .before .before .before .before) in (omega (arith, r .ends, c .before .before .before .before .before .before .before .before .before .before .before .before .loop .inv .2 .long), r .low)
+clear-words-requires-2 c κs = let t = c .before .before .before .before .before .before .before .before in omega (arith, last t .fit, stopped t .loop .inv .1 .long)
 
 clear-coefs-requires-2 : tie.Need-clear-coefs-requires-2 Inv-loop μ-loop
-clear-coefs-requires-2 c κs = let t = c .before .before .before .before .before .before .before .before .before .before .before .before .before in omega (arith, last t .fit, c .before .before .before .before .before .before .before .before .before .before .before .before .before .before .before .before .loop .inv .2 .long)
+clear-coefs-requires-2 c κs = let t = c .before .before .before .before .before .before .before .before .before .before .before .before in omega (arith, last t .fit, stopped t .loop .inv .2 .long)
 
 same-length : tie.Need-same-length Inv-loop μ-loop
 same-length c = search needs
@@ -151,9 +148,9 @@ same-length-2 : tie.Need-same-length-2 Inv-loop μ-loop
 same-length-2 c = search needs
 
 returns : tie.Need-returns Inv-loop μ-loop
-returns c = let t = c .before .before .before .before .before .before .before .before .before .before .before .before .before .before .before .before in let h = stopped t in let z = entry h in (
-  settling-last (h .loop .inv .1) (z .pre .0) (z .pre .3) (z .pre .1) (five t) (t .before .head-of2 .ensures) (t .len-of2 .ensures) (λ r. refl) (c .before .before .before .before .before .before .before .before .before .before .before .before .before .before .pull-words .ensures) (c .before .before .before .before .before .before .before .before .before .before .clear-words2 .ensures),
-  settling-last (h .loop .inv .2) (z .pre .0) (z .pre .4) (z .pre .2) (five t) (t .before .head-of2 .ensures) (t .len-of2 .ensures) as-read (c .before .before .before .before .before .before .pull-coefs .ensures) (c .before .before .clear-coefs2 .ensures),
+returns c = let t = c .before .before .before .before .before .before .before .before .before .before .before .before .before .before .before in let h = stopped t in let z = entry h in let q = c .before .before .before .before .before .before .before .before .before .before .before .before .pull-terms .ensures in (
+  settling-last (h .loop .inv .1) (z .pre .0) (z .pre .3) (z .pre .1) (five t) (t .before .head-of2 .ensures) (t .len-of2 .ensures) (λ r. refl) (q .0) (c .before .before .before .before .before .before .clear-words2 .ensures),
+  settling-last (h .loop .inv .2) (z .pre .0) (z .pre .4) (z .pre .2) (five t) (t .before .head-of2 .ensures) (t .len-of2 .ensures) as-read (q .1) (c .before .before .clear-coefs2 .ensures),
 )
 
 pub settle-buckets-spec : {M : Type 1} → statement M
@@ -190,9 +187,8 @@ settle-buckets-spec =
     sub-from
     add-past-2
     sub-left-2
-    pull-words-requires
+    pull-terms-requires
     clear-words-requires-2
-    pull-coefs-requires
     clear-coefs-requires-2
     same-length
     same-length-2
