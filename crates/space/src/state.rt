@@ -8,28 +8,20 @@ ghost use lib.ListN.{length};
 ghost use Rattle.space.specs.Space.{Laid, headAt, heldIn, lenAt, sideAt, moved, turned, noBuckets};
 
 // Six empty buckets: each of buckets 0 to 4 in its first area, and bucket 5 at the end of its place.
+const EMPTY: [usize; 18] = [
+    0, 16, 80, 336, 1360, 13652, 0, 0, 0, 0, 0, 0, 8, 48, 208, 848, 3408, 0,
+];
+
+// Leaves the six buckets empty.
 pub fn clear(b: &mut [usize])
     requires { ⌜ length (now b) ≡ 18 ⌝ }
     ensures { λ _. ⌜ now (b .exit) ≡ noBuckets ⌝ }
 {
-    b[0] = 0;
-    b[1] = 16;
-    b[2] = 80;
-    b[3] = 336;
-    b[4] = 1360;
-    b[5] = 13652;
-    b[6] = 0;
-    b[7] = 0;
-    b[8] = 0;
-    b[9] = 0;
-    b[10] = 0;
-    b[11] = 0;
-    b[12] = 8;
-    b[13] = 48;
-    b[14] = 208;
-    b[15] = 848;
-    b[16] = 3408;
-    b[17] = 0;
+    let mut i = 0;
+    while i < 18 {
+        b[i] = EMPTY[i];
+        i += 1;
+    }
 }
 
 // The place of bucket i's lead.

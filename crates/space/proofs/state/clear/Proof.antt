@@ -1,93 +1,68 @@
--- `space::state::clear` meets its contract. Assumes nothing.
-use Rattle.space.proofs.SpaceLaws.{put-all}
-use Rattle.space.specs.Space.{noBuckets}
+-- `space::state::clear` meets its contract: after i turns the first i numbers are put. Assumes nothing.
+use mathlib.Core.Path.{refl, _∙_, subst}
+use Prim.Native.Nat.{ℕ, _+_, _-_}
+use native.Mathlib.Nat.{zero-add}
 use native.Mathlib.Omega.{arith}
-use lib.ListN.{length-set}
-use borrow.Author.Needs.{needs}
+use lib.ListN.{set, getD}
+use Rattle.merge_common.proofs.Lists.{Begun, begun-none, begun-more, begun-all}
+use Rattle.space.specs.Space.{noBuckets}
+use Rattle.space.proofs.SpaceLaws.{put-all}
 use Rattle.space.proofs.state.clear.Statement.{statement}
 use Rattle.space.proofs.state.clear.Tie as tie
 
-slice-write-b : tie.Need-slice-write-b
-slice-write-b c = search needs
+abbrev Inv-loop : tie.InvT-loop
+Inv-loop b₀ i₀ b i = Begun noBuckets b₀ 0 b i
 
-slice-write-b-2 : tie.Need-slice-write-b-2
-slice-write-b-2 c = simp length-set (omega (arith, c .pre))
+abbrev μ-loop : tie.MeasureT-loop
+μ-loop b₀ i₀ b i = 18 - i
 
-slice-write-b-3 : tie.Need-slice-write-b-3
-slice-write-b-3 c = simp length-set (omega (arith, c .pre))
+loop-holds : tie.Need-loop-holds Inv-loop μ-loop
+loop-holds c = begun-none _ _ _
 
-slice-write-b-4 : tie.Need-slice-write-b-4
-slice-write-b-4 c = simp length-set (omega (arith, c .pre))
+mul-b : tie.Need-mul-b Inv-loop μ-loop
+mul-b c = omega arith
 
-slice-write-b-5 : tie.Need-slice-write-b-5
-slice-write-b-5 c = simp length-set (omega (arith, c .pre))
+array-read-b : tie.Need-array-read-b Inv-loop μ-loop
+array-read-b c = omega arith
 
-slice-write-b-6 : tie.Need-slice-write-b-6
-slice-write-b-6 c = simp length-set (omega (arith, c .pre))
+mul-b-2 : tie.Need-mul-b-2 Inv-loop μ-loop
+mul-b-2 c = omega arith
 
-slice-write-b-7 : tie.Need-slice-write-b-7
-slice-write-b-7 c = simp length-set (omega (arith, c .pre))
+slice-write-b : tie.Need-slice-write-b Inv-loop μ-loop
+slice-write-b c = omega arith
 
-slice-write-b-8 : tie.Need-slice-write-b-8
-slice-write-b-8 c = simp length-set (omega (arith, c .pre))
+add-i : tie.Need-add-i Inv-loop μ-loop
+add-i c = omega arith
 
-slice-write-b-9 : tie.Need-slice-write-b-9
-slice-write-b-9 c = simp length-set (omega (arith, c .pre))
+loop-less : tie.Need-loop-less Inv-loop μ-loop
+loop-less c = omega arith
 
-slice-write-b-10 : tie.Need-slice-write-b-10
-slice-write-b-10 c = simp length-set (omega (arith, c .pre))
+loop-again : tie.Need-loop-again Inv-loop μ-loop
+loop-again c =
+    let h = c .before in
+    let z = h .before in
+    let v : ℕ = getD noBuckets (h .loop .i) 0 in
+    subst (λ (k : ℕ). Begun noBuckets (z .args .b .now) 0 (set (h .loop .b) k v) (h .loop .i + 1)) (zero-add (h .loop .i)) (begun-more noBuckets (z .args .b .now) 0 (h .loop .b) (h .loop .i) v (h .loop .inv) (omega arith) refl)
 
-slice-write-b-11 : tie.Need-slice-write-b-11
-slice-write-b-11 c = simp length-set (omega (arith, c .pre))
+same-length : tie.Need-same-length Inv-loop μ-loop
+same-length c = c .before .loop .inv .long
 
-slice-write-b-12 : tie.Need-slice-write-b-12
-slice-write-b-12 c = simp length-set (omega (arith, c .pre))
-
-slice-write-b-13 : tie.Need-slice-write-b-13
-slice-write-b-13 c = simp length-set (omega (arith, c .pre))
-
-slice-write-b-14 : tie.Need-slice-write-b-14
-slice-write-b-14 c = simp length-set (omega (arith, c .pre))
-
-slice-write-b-15 : tie.Need-slice-write-b-15
-slice-write-b-15 c = simp length-set (omega (arith, c .pre))
-
-slice-write-b-16 : tie.Need-slice-write-b-16
-slice-write-b-16 c = simp length-set (omega (arith, c .pre))
-
-slice-write-b-17 : tie.Need-slice-write-b-17
-slice-write-b-17 c = simp length-set (omega (arith, c .pre))
-
-slice-write-b-18 : tie.Need-slice-write-b-18
-slice-write-b-18 c = simp length-set (omega (arith, c .pre))
-
-same-length : tie.Need-same-length
-same-length c = search needs
-
-returns : tie.Need-returns
-returns c = put-all (c .args .b .now) noBuckets (omega (arith, c .pre))
+returns : tie.Need-returns Inv-loop μ-loop
+returns c = let h = c .before in let b = h .before .args .b .now in begun-all noBuckets b 0 (h .loop .b) (h .loop .i) (h .loop .inv) (omega arith) ∙ put-all b noBuckets (omega arith)
 
 pub clear-spec : {M : Type 1} → statement M
 clear-spec =
     tie.close
     (tie.spec
+    Inv-loop
+    μ-loop
+    loop-holds
+    mul-b
+    array-read-b
+    mul-b-2
     slice-write-b
-    slice-write-b-2
-    slice-write-b-3
-    slice-write-b-4
-    slice-write-b-5
-    slice-write-b-6
-    slice-write-b-7
-    slice-write-b-8
-    slice-write-b-9
-    slice-write-b-10
-    slice-write-b-11
-    slice-write-b-12
-    slice-write-b-13
-    slice-write-b-14
-    slice-write-b-15
-    slice-write-b-16
-    slice-write-b-17
-    slice-write-b-18
+    add-i
+    loop-less
+    loop-again
     same-length
     returns)
