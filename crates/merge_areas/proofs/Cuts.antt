@@ -1,13 +1,14 @@
 -- A turn at the front of two falling lists, and one at their end. Assumes nothing.
 use mathlib.Core.Path.{_≡_, refl, sym, ap, _∙_, subst}
 use mathlib.Core.List.{List, [], _∷_, _++_}
-use Prim.Native.Nat.{ℕ, zero, suc, _+_, _%_, _<_, compare, Ordering, Ordering·lt, Ordering·eq, Ordering·gt}
+use Prim.Native.Nat.{ℕ, _+_, _%_, _<_, compare, Ordering, Ordering·lt, Ordering·eq, Ordering·gt}
 use native.Mathlib.Omega.{arith}
 use lib.ListN.{length, length-append}
 use Rattle.monomial.proofs.OrderLaws.{numbers-order}
 use Rattle.polynomial.specs.Terms.{Term, term, All, here, Under, Falling}
 use Rattle.polynomial.specs.Merge.{keep, merge}
 use Rattle.polynomial.proofs.MergeLaws.{merge-less, merge-same, merge-more, turned-gt, under-more}
+use Rattle.merge_common.proofs.State.{keep-some}
 use Rattle.polynomial.proofs.TwoEnded.{keep-append, alike, alike-parts, alike-last-more, alike-last-less, alike-last-same, merge-last-more, merge-last-less, merge-last-same}
 
 -- ---- parts of falling lists
@@ -22,12 +23,6 @@ falling-left cmp (t ∷ ts) us f = (all-left (λ u. cmp (t .mono) (u .mono) ≡ 
 pub falling-right : {A : Type 0} (cmp : A → A → Ordering) (ts us : List (Term A)) → Falling cmp (ts ++ us) → Falling cmp us
 falling-right cmp [] us f = f
 falling-right cmp (t ∷ ts) us f = falling-right cmp ts us (f .1)
-
--- a coefficient that is not 0 is kept
-pub keep-some : (w v : ℕ) → 0 < v → (ts : List (Term ℕ)) → keep w v ts ≡ term w v ∷ ts
-unfolding keep
-keep-some w zero h ts = absurd (let z : ⊥ = omega arith in z)
-keep-some w (suc v) h ts = refl
 
 -- the term of word w and coefficient v, if any, is the first of the merge of xs and ys, and xs' and ys' are left; or the last
 pub record First (p : ℕ) (xs ys : List (Term ℕ)) (w v : ℕ) (xs' ys' : List (Term ℕ)) : Type 0 where
@@ -45,7 +40,7 @@ module _ (p x c y d : ℕ) (pc : 0 < c) (pd : 0 < d) (xs ys : List (Term ℕ)) w
         let k = turned-gt compare numbers-order x y h in
         let q = alike-parts compare numbers-order [] (term x c ∷ xs) (term y d ∷ []) ys tt ((k, under-more compare numbers-order y x k xs (f .0)), tt) in
         record {
-          whole = merge-less compare p (term x c) xs (term y d) ys h ∙ ap (λ (l : List (Term ℕ)). l ++ merge compare p (term x c ∷ xs) ys) (sym (keep-some y d pd []));
+          whole = merge-less compare p (term x c) xs (term y d) ys h ∙ ap (λ (l : List (Term ℕ)). l ++ merge compare p (term x c ∷ xs) ys) (sym (keep-some y d [] pd));
           count = omega (arith, q);
         }
 
@@ -53,7 +48,7 @@ module _ (p x c y d : ℕ) (pc : 0 < c) (pd : 0 < d) (xs ys : List (Term ℕ)) w
     first-more h =
         let q = alike-parts compare numbers-order (term x c ∷ []) xs [] (term y d ∷ ys) ((h, under-more compare numbers-order x y h ys (g .0)), tt) tt in
         record {
-          whole = merge-more compare p (term x c) xs (term y d) ys h ∙ ap (λ (l : List (Term ℕ)). l ++ merge compare p xs (term y d ∷ ys)) (sym (keep-some x c pc []));
+          whole = merge-more compare p (term x c) xs (term y d) ys h ∙ ap (λ (l : List (Term ℕ)). l ++ merge compare p xs (term y d ∷ ys)) (sym (keep-some x c [] pc));
           count = omega (arith, q);
         }
 
@@ -73,13 +68,13 @@ module _ (p x c y d : ℕ) (pc : 0 < c) (pd : 0 < d) (xs ys : List (Term ℕ)) w
 
     pub last-less : compare x y ≡ Ordering·lt → Last p (xs ++ term x c ∷ []) (ys ++ term y d ∷ []) x c xs (ys ++ term y d ∷ [])
     last-less h = record {
-      whole = merge-last-less compare numbers-order p xs (term x c) ys (term y d) g h ∙ ap (λ (l : List (Term ℕ)). merge compare p xs (ys ++ term y d ∷ []) ++ l) (sym (keep-some x c pc []));
+      whole = merge-last-less compare numbers-order p xs (term x c) ys (term y d) g h ∙ ap (λ (l : List (Term ℕ)). merge compare p xs (ys ++ term y d ∷ []) ++ l) (sym (keep-some x c [] pc));
       count = omega (arith, sizes, alike-last-less compare numbers-order xs (term x c) ys (term y d) g h);
     }
 
     pub last-more : compare x y ≡ Ordering·gt → Last p (xs ++ term x c ∷ []) (ys ++ term y d ∷ []) y d (xs ++ term x c ∷ []) ys
     last-more h = record {
-      whole = merge-last-more compare numbers-order p xs (term x c) ys (term y d) f h ∙ ap (λ (l : List (Term ℕ)). merge compare p (xs ++ term x c ∷ []) ys ++ l) (sym (keep-some y d pd []));
+      whole = merge-last-more compare numbers-order p xs (term x c) ys (term y d) f h ∙ ap (λ (l : List (Term ℕ)). merge compare p (xs ++ term x c ∷ []) ys ++ l) (sym (keep-some y d [] pd));
       count = omega (arith, sizes, alike-last-more compare numbers-order xs (term x c) ys (term y d) f h);
     }
 

@@ -6,15 +6,15 @@ use Prim.Native.Nat.{ℕ, suc, _+_, _-_, _<_, _≤_, compare}
 use native.Mathlib.Decide.{decLe}
 use native.Mathlib.Omega.{arith}
 use lib.ListN.{length, take, drop, getD, length-drop}
-use lib.Seq.{sets, length-sets, ext-getD, length-take-le}
+use lib.Seq.{sets, length-sets, length-take-le}
 use Rattle.polynomial.specs.Terms.{Term, terms}
 use Rattle.polynomial.specs.Merge.{merge}
 use Rattle.polynomial.proofs.MergeLaws.{merge-nil}
 use Rattle.monomial.proofs.OrderLaws.{numbers-order}
 use Rattle.polynomial.proofs.TwoEnded.{alike, alike-above, above-nil}
 use Rattle.merge_common.specs.Lent.{part, restOf, Apart}
-use Rattle.merge_common.proofs.Lists.{rest-left, rest-right, length-part, getD-part, getD-sets-other}
-use Rattle.merge_common.proofs.ReadBack.{getD-sets}
+use Rattle.merge_common.proofs.Lists.{rest-left, rest-right, length-part, getD-sets-other}
+use Rattle.merge_common.proofs.ReadBack.{part-sets}
 use Rattle.merge_areas.specs.declared.turns.Ends.{Ends}
 use Rattle.merge_areas.specs.Ways.{between, leftOf, rightOf, size, Ready, MovedLeft, Source}
 use Rattle.merge_areas.proofs.Windows.{between-none}
@@ -32,9 +32,7 @@ module _ (l o : List ℕ) (from to n : ℕ) (hf : from + n ≤ length l) (ht : t
   part-moved : part to n o ≡ part from n l
   part-moved =
       let q = length-part from n l hf in
-      let k = length-part to n o (omega (arith, moved-long)) in
-      ext-getD 0 (part to n o) (part from n l) (k ∙ sym q)
-      (λ t h. getD-part to n o t (omega arith) ∙ (ap (λ (x : List ℕ). getD x (to + t) 0) e ∙ getD-sets l to (part from n l) t (omega arith) (omega arith)))
+      ap₂ (λ (m : ℕ) (x : List ℕ). part to m x) (sym q) e ∙ part-sets l to (part from n l) (omega arith)
 
 -- terms that are moved
 pub between-moved : (ww wc ww' wc' : List ℕ) (from to n : ℕ) → length wc ≡ length ww → from + n ≤ length ww → to + n ≤ length ww → ww' ≡ sets ww to (part from n ww) → wc' ≡ sets wc to (part from n wc) → between ww' wc' to (to + n) ≡ between ww wc from (from + n)
@@ -69,46 +67,33 @@ module _ {ww wc : List ℕ} {s : Ends} (y : Ready ww wc s) (i j : ℕ) (i1 : s .
           ap length (rest-right (take (s .ie) ww) (drop j (take (s .je) ww)) i (omega (arith, a))) ∙ omega (arith, length-drop j (take (s .je) ww), b)
 
   module _ {from : ℕ} (f : Source i (s .ie) j from) where
+    -- they are the terms of the one list, or of the other
+    source-at : ((from ≡ i) × (s .je ≤ j)) ⊎ ((from ≡ j) × (s .ie ≤ i))
+    source-at = go (decLe (suc i) (s .ie))
+      where
+        go : Dec (suc i ≤ s .ie) → ((from ≡ i) × (s .je ≤ j)) ⊎ ((from ≡ j) × (s .ie ≤ i))
+        go (yes h) = inl (f .0 h, ⊎-elim (λ u. omega arith) (λ u. u) one)
+        go (no h) = let z : s .ie ≤ i = omega arith in inr (f .1 z, z)
+
     -- they lie apart from the free places
     pub source-apart : (from + many ≤ s .d) ⊎ (s .e ≤ from)
-    source-apart = go (decLe (suc i) (s .ie))
-      where
-        go : Dec (suc i ≤ s .ie) → (from + many ≤ s .d) ⊎ (s .e ≤ from)
-        go (yes h) =
-            let k : s .je ≤ j = ⊎-elim (λ u. omega arith) (λ u. u) one in
-            let e = f .0 h in
-            ⊎-elim (λ u. inl (omega arith)) (λ u. inr (omega arith)) (y .left-apart)
-        go (no h) =
-            let e = f .1 (let z : s .ie ≤ i = omega arith in z) in
-            ⊎-elim (λ u. inl (omega arith)) (λ u. inr (omega arith)) (y .right-apart)
+    source-apart =
+        ⊎-elim (λ a. ⊎-elim (λ u. inl (omega arith)) (λ u. inr (omega arith)) (y .left-apart))
+        (λ a. ⊎-elim (λ u. inl (omega arith)) (λ u. inr (omega arith)) (y .right-apart)) source-at
 
     pub source-end : from + many ≤ length ww
-    source-end = go (decLe (suc i) (s .ie))
-      where
-        go : Dec (suc i ≤ s .ie) → from + many ≤ length ww
-        go (yes h) =
-            let k : s .je ≤ j = ⊎-elim (λ u. omega arith) (λ u. u) one in
-            let e = f .0 h in
-            omega (arith, y .left-end)
-        go (no h) =
-            let e = f .1 (let z : s .ie ≤ i = omega arith in z) in
-            omega (arith, y .right-end)
+    source-end = ⊎-elim (λ a. omega (arith, y .left-end)) (λ a. omega (arith, y .right-end)) source-at
 
-    -- they are the terms of the one list, or of the other
     pub source-is : between ww wc from (from + many) ≡ between ww wc i (s .ie) ++ between ww wc j (s .je)
-    source-is = go (decLe (suc i) (s .ie))
-      where
-        go : Dec (suc i ≤ s .ie) → between ww wc from (from + many) ≡ between ww wc i (s .ie) ++ between ww wc j (s .je)
-        go (yes h) =
-            let k : s .je ≤ j = ⊎-elim (λ u. omega arith) (λ u. u) one in
-            let e = f .0 h in
-            let q : from + many ≡ s .ie = omega arith in
-            ap₂ (between ww wc) e q ∙ (sym (append-nil (between ww wc i (s .ie))) ∙ ap (λ (x : List (Term ℕ)). between ww wc i (s .ie) ++ x) (sym (between-none ww wc j (s .je) k)))
-        go (no h) =
-            let k : s .ie ≤ i = omega arith in
-            let e = f .1 k in
-            let q : from + many ≡ s .je = omega arith in
-            ap₂ (between ww wc) e q ∙ ap (λ (x : List (Term ℕ)). x ++ between ww wc j (s .je)) (sym (between-none ww wc i (s .ie) k))
+    source-is =
+        ⊎-elim
+        (λ a.
+        let q : from + many ≡ s .ie = omega arith in
+        ap₂ (between ww wc) (a .0) q ∙ (sym (append-nil (between ww wc i (s .ie))) ∙ ap (λ (x : List (Term ℕ)). between ww wc i (s .ie) ++ x) (sym (between-none ww wc j (s .je) (a .1)))))
+        (λ a.
+        let q : from + many ≡ s .je = omega arith in
+        ap₂ (between ww wc) (a .0) q ∙ ap (λ (x : List (Term ℕ)). x ++ between ww wc j (s .je)) (sym (between-none ww wc i (s .ie) (a .1))))
+        source-at
 
     -- they are moved to free places
     module _ {to n : ℕ} (en : n ≡ many) (low : s .d ≤ to) (high : to + n ≤ s .e) where

@@ -36,11 +36,24 @@ module _ {ws : List ℕ} {from end last k : ℕ} (s : Scanned ws from end last k
       at t a b (yes g) = s .below t g b
       at t a b (no g) = let e : k - 1 ≡ t = omega arith in subst (λ (n : ℕ). getD ws n 0 < last) e l
 
-  pub scan-stop : last ≤ getD ws (k - 1) 0 → Above ws from end last k
-  scan-stop l = record { low = s .low; high = s .high; below = s .below; stop = inr l }
+  pub scanned : (k ≡ from) ⊎ (last ≤ getD ws (k - 1) 0) → Above ws from end last k
+  scanned stop = record { low = s .low; high = s .high; below = s .below; stop = stop }
 
-  pub scan-end : k ≤ from → Above ws from end last k
-  scan-end l = record { low = s .low; high = s .high; below = s .below; stop = inl (omega (arith, s)) }
+-- ---- whether any are below, by the last one
+module _ {ws : List ℕ} {from end last k : ℕ} (a : Above ws from end last k) (h : from < end) where
+  none-below : last ≤ getD ws (end - 1) 0 → end ≤ k
+  none-below l = go (decLe end k)
+    where
+      go : Dec (end ≤ k) → end ≤ k
+      go (yes u) = u
+      go (no u) = let z = a .below (end - 1) (omega arith) (omega arith) in omega arith
+
+  some-below : getD ws (end - 1) 0 < last → k < end
+  some-below l = go (decLe end k)
+    where
+      go : Dec (end ≤ k) → k < end
+      go (yes u) = let q : k ≡ end = omega (arith, a) in let e = ap (λ (n : ℕ). getD ws (n - 1) 0) q in ⊎-elim (λ v. omega arith) (λ v. omega arith) (a .stop)
+      go (no u) = omega arith
 
 -- ---- room for the rest
 rest-room : (i ie j je i' j' n d e : ℕ) → i ≤ i' → j ≤ j' → n ≡ (ie - i') + (je - j') → d + ((ie - i) + (je - j)) ≤ e → d + n ≤ e
@@ -120,41 +133,13 @@ module _ (xs : List (Term ℕ)) (x : Term ℕ) (ys : List (Term ℕ)) (y : Term 
 
 module _ {ww wc : List ℕ} {s : Ends} (y : Ready ww wc s) (hi : s .i < s .ie) (hj : s .j < s .je) {i j : ℕ}
     (a : Above ww (s .i) (s .ie) (getD ww (s .je - 1) 0) i) (b : Above ww (s .j) (s .je) (getD ww (s .ie - 1) 0) j) where
-  -- which of the two has a rest, by the keys of their lasts
-  left-none : getD ww (s .je - 1) 0 ≤ getD ww (s .ie - 1) 0 → s .ie ≤ i
-  left-none h = go (decLe (s .ie) i)
-    where
-      go : Dec (s .ie ≤ i) → s .ie ≤ i
-      go (yes k) = k
-      go (no k) = let z = a .below (s .ie - 1) (omega arith) (omega arith) in omega arith
-
-  right-none : getD ww (s .ie - 1) 0 ≤ getD ww (s .je - 1) 0 → s .je ≤ j
-  right-none h = go (decLe (s .je) j)
-    where
-      go : Dec (s .je ≤ j) → s .je ≤ j
-      go (yes k) = k
-      go (no k) = let z = b .below (s .je - 1) (omega arith) (omega arith) in omega arith
-
+  -- one of the two has no rest, by the keys of their lasts
   pub one-rest : (s .ie ≤ i) ⊎ (s .je ≤ j)
   one-rest = go (decLe (getD ww (s .ie - 1) 0) (getD ww (s .je - 1) 0))
     where
       go : Dec (getD ww (s .ie - 1) 0 ≤ getD ww (s .je - 1) 0) → (s .ie ≤ i) ⊎ (s .je ≤ j)
-      go (yes h) = inr (right-none h)
-      go (no h) = inl (left-none (omega arith))
-
-  left-some : getD ww (s .ie - 1) 0 < getD ww (s .je - 1) 0 → i < s .ie
-  left-some h = go (decLe (s .ie) i)
-    where
-      go : Dec (s .ie ≤ i) → i < s .ie
-      go (yes k) = let e : getD ww (i - 1) 0 ≡ getD ww (s .ie - 1) 0 = (let q : i ≡ s .ie = omega (arith, a) in ap (λ (n : ℕ). getD ww (n - 1) 0) q) in ⊎-elim (λ u. omega arith) (λ u. omega arith) (a .stop)
-      go (no k) = omega arith
-
-  right-some : getD ww (s .je - 1) 0 < getD ww (s .ie - 1) 0 → j < s .je
-  right-some h = go (decLe (s .je) j)
-    where
-      go : Dec (s .je ≤ j) → j < s .je
-      go (yes k) = let e : getD ww (j - 1) 0 ≡ getD ww (s .je - 1) 0 = (let q : j ≡ s .je = omega (arith, b) in ap (λ (n : ℕ). getD ww (n - 1) 0) q) in ⊎-elim (λ u. omega arith) (λ u. omega arith) (b .stop)
-      go (no k) = omega arith
+      go (yes h) = inr (none-below b hj h)
+      go (no h) = inl (none-below a hi (omega arith))
 
   -- what is left, and the rest
   abbrev X : List (Term ℕ)
@@ -186,25 +171,25 @@ module _ {ww wc : List ℕ} {s : Ends} (y : Ready ww wc s) (hi : s .i < s .ie) (
 
       go : Tri (x .mono) (z .mono) → Off (leftOf ww wc s) (rightOf ww wc s) X Y R
       go (less h e) =
-          let n = right-none (omega arith) in
+          let n = none-below b hj (omega arith) in
           let q : j ≡ s .je = omega (arith, b) in
-          let k = left-some h in
+          let k = some-below a hi h in
           let r = at-back ww wc (y .long) i (s .ie) k (y .left-end) in
           let f : leftOf ww wc s ≡ X ++ (between ww wc i (s .ie - 1) ++ x ∷ []) = split ww wc (y .long) (s .i) i (s .ie) (a .low) (a .high) (y .left-end) ∙ ap (λ (l : List (Term ℕ)). X ++ l) r in
           off-is f right-last refl (ap (between ww wc (s .j)) q ∙ right-last) (ap (λ (l : List (Term ℕ)). between ww wc i (s .ie) ++ l) (between-none ww wc j (s .je) n) ∙ (append-nil (between ww wc i (s .ie)) ∙ r))
           (off-left (between ww wc i (s .ie - 1)) x (between ww wc (s .j) (s .je - 1)) z X (falls (leftOf ww wc s) (X ++ (between ww wc i (s .ie - 1) ++ x ∷ [])) f (y .left-falls)) (falls (rightOf ww wc s) (between ww wc (s .j) (s .je - 1) ++ z ∷ []) right-last (y .right-falls))
           (not-over ww wc (y .long) (y .left-end) a (y .left-falls)) (subst (λ (l : List (Term ℕ)). Under compare (z .mono) l) r (under-rest ww wc (y .long) (y .left-end) a)))
       go (same h e) =
-          let n = right-none (omega arith) in
-          let m = left-none (omega arith) in
+          let n = none-below b hj (omega arith) in
+          let m = none-below a hi (omega arith) in
           let q : j ≡ s .je = omega (arith, b) in
           let k : i ≡ s .ie = omega (arith, a) in
           off-is left-last right-last (ap (between ww wc (s .i)) k ∙ left-last) (ap (between ww wc (s .j)) q ∙ right-last) (ap₂ (λ (u v : List (Term ℕ)). u ++ v) (between-none ww wc i (s .ie) m) (between-none ww wc j (s .je) n))
           (off-none (between ww wc (s .i) (s .ie - 1)) x (between ww wc (s .j) (s .je - 1)) z (falls (leftOf ww wc s) (between ww wc (s .i) (s .ie - 1) ++ x ∷ []) left-last (y .left-falls)) (falls (rightOf ww wc s) (between ww wc (s .j) (s .je - 1) ++ z ∷ []) right-last (y .right-falls)) e)
       go (more h e) =
-          let n = left-none (omega arith) in
+          let n = none-below a hi (omega arith) in
           let q : i ≡ s .ie = omega (arith, a) in
-          let k = right-some h in
+          let k = some-below b hj h in
           let r = at-back ww wc (y .long) j (s .je) k (y .right-end) in
           let g : rightOf ww wc s ≡ Y ++ (between ww wc j (s .je - 1) ++ z ∷ []) = split ww wc (y .long) (s .j) j (s .je) (b .low) (b .high) (y .right-end) ∙ ap (λ (l : List (Term ℕ)). Y ++ l) r in
           off-is left-last g (ap (between ww wc (s .i)) q ∙ left-last) refl (ap (λ (l : List (Term ℕ)). l ++ between ww wc j (s .je)) (between-none ww wc i (s .ie) n) ∙ r)

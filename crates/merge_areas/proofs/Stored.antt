@@ -1,32 +1,23 @@
 -- A turn of a merge: a term is stored in front or at the back. Assumes nothing.
 use mathlib.Core.Path.{_≡_, refl, sym, ap, ap₂, _∙_, subst}
-use mathlib.Core.Bool.{Bool, not}
 use mathlib.Core.List.{List, [], _∷_, _++_, append-nil}
 use mathlib.Core.Logic.{_⊎_, inl, inr, ⊎-elim}
 use Prim.Native.Nat.{ℕ, zero, suc, _+_, _-_, _%_, _<_, _≤_, compare}
 use native.Mathlib.Omega.{arith}
-use borrow.Author.Tests.{ne-eqb}
-use lib.Dec.{eqb}
 use lib.ListN.{length, set, getD, length-set}
 use lib.Seq.{getD-set-same, getD-set-other}
 use Rattle.polynomial.specs.Terms.{Term, term, All, Falling}
 use Rattle.polynomial.specs.Merge.{keep, merge}
-use Rattle.polynomial.proofs.MergeLaws.{Stands, less, same, more, stands, length-keep}
+use Rattle.polynomial.proofs.MergeLaws.{length-keep}
 use Rattle.polynomial.proofs.TwoEnded.{alike, all-right}
-use Rattle.merge_common.specs.Lent.{flag}
 use Rattle.merge_common.specs.Joining.{made, joined, joinedLast}
 use Rattle.merge_common.specs.declared.merging.Joined.{Joined}
 use Rattle.merge_common.proofs.Joins as joins
+use Rattle.merge_common.proofs.State.{kept-is}
 use Rattle.merge_areas.specs.declared.turns.Ends.{Ends}
 use Rattle.merge_areas.specs.Ways.{between, leftOf, rightOf, size, Ready, Reducing, Turned}
 use Rattle.merge_areas.proofs.Windows.{length-between, between-one, at-front, at-back, between-none, between-like}
 use Rattle.merge_areas.proofs.Cuts.{First, Last, first-less, first-same, first-more, last-less, last-same, last-more}
-
--- how many terms a sum makes
-kept-is : (w v : ℕ) → flag (not (eqb v 0)) ≡ length (keep w v [])
-unfolding keep
-kept-is w zero = refl
-kept-is w (suc v) = ap (λ (b : Bool). flag (not b)) (ne-eqb (suc v) 0 (λ e. let z : ⊥ = omega arith in z))
 
 -- the stored term is read
 module _ (ww wc : List ℕ) (long : length wc ≡ length ww) (w v : ℕ) (d : ℕ) (h : d < length ww) where
@@ -160,11 +151,9 @@ module _ {ww wc : List ℕ} {s : Ends} (y : Ready ww wc s) (p w v : ℕ) where
           right-one = omega arith;
         }
 
-first-is : {p w v : ℕ} {xs xs1 ys ys1 us us1 vs vs1 : List (Term ℕ)} → xs ≡ xs1 → ys ≡ ys1 → us ≡ us1 → vs ≡ vs1 → First p xs1 ys1 w v us1 vs1 → First p xs ys w v us vs
-first-is a b c d q = rw (a, b, c, d) q
-
-last-is : {p w v : ℕ} {xs xs1 ys ys1 us us1 vs vs1 : List (Term ℕ)} → xs ≡ xs1 → ys ≡ ys1 → us ≡ us1 → vs ≡ vs1 → Last p xs1 ys1 w v us1 vs1 → Last p xs ys w v us vs
-last-is a b c d q = rw (a, b, c, d) q
+-- what holds of four lists holds of the same ones
+four : (R : (xs ys us vs : List (Term ℕ)) → Type 0) {xs xs1 ys ys1 us us1 vs vs1 : List (Term ℕ)} → xs ≡ xs1 → ys ≡ ys1 → us ≡ us1 → vs ≡ vs1 → R xs1 ys1 us1 vs1 → R xs ys us vs
+four R a b c d q = rw (a, b, c, d) q
 
 -- a turn, by the comparison of the two terms
 module _ {p : ℕ} {ww wc : List ℕ} {s : Ends} (y : Ready ww wc s) (g : Reducing p ww wc s) (hi : s .i < s .ie) (hj : s .j < s .je) where
@@ -200,44 +189,27 @@ module _ {p : ℕ} {ww wc : List ℕ} {s : Ends} (y : Ready ww wc s) (g : Reduci
       (front-step y p w v l r hl hr one (omega arith) (omega arith) q)
 
   pub front-turn : {t : Joined} → t ≡ joined (getD ww (s .i) 0) (getD wc (s .i) 0) (getD ww (s .j) 0) (getD wc (s .j) 0) p → After (s .d) atFront t
-  front-turn {t} e = go (stands compare a b)
-    where
-      a : ℕ
-      a = getD ww (s .i) 0
-
-      b : ℕ
-      b = getD ww (s .j) 0
-
-      c : ℕ
-      c = getD wc (s .i) 0
-
-      d : ℕ
-      d = getD wc (s .j) 0
-
-      xs : List (Term ℕ)
-      xs = between ww wc (s .i + 1) (s .ie)
-
-      ys : List (Term ℕ)
-      ys = between ww wc (s .j + 1) (s .je)
-
-      f : Falling compare (term a c ∷ xs)
-      f = subst (λ (l : List (Term ℕ)). Falling compare l) left-lead (y .left-falls)
-
-      h : Falling compare (term b d ∷ ys)
-      h = subst (λ (l : List (Term ℕ)). Falling compare l) right-lead (y .right-falls)
-
-      go : Stands compare a b → After (s .d) atFront t
-      go (less q) =
-          let z : s .i + 0 ≡ s .i = omega arith in
-          subst (After (s .d) atFront) (sym (e ∙ joins.joined-less a c b d p q))
-          (front-by b d 0 1 (omega arith) (omega arith) (omega arith) (first-is left-lead right-lead (ap (λ (n : ℕ). between ww wc n (s .ie)) z ∙ left-lead) refl (first-less p a c b d (left-coef .0) (right-coef .0) xs ys f h q)))
-      go (same q) =
-          subst (After (s .d) atFront) (sym (e ∙ joins.joined-same a c b d p q))
-          (front-by a ((c + d) % p) 1 1 (omega arith) (omega arith) (omega arith) (first-is left-lead right-lead refl refl (first-same p a c b d (left-coef .0) (right-coef .0) xs ys f h q)))
-      go (more q) =
-          let z : s .j + 0 ≡ s .j = omega arith in
-          subst (After (s .d) atFront) (sym (e ∙ joins.joined-more a c b d p q))
-          (front-by a c 1 0 (omega arith) (omega arith) (omega arith) (first-is left-lead right-lead refl (ap (λ (n : ℕ). between ww wc n (s .je)) z ∙ right-lead) (first-more p a c b d (left-coef .0) (right-coef .0) xs ys f h q)))
+  front-turn {t} e =
+      let a : ℕ = getD ww (s .i) 0 in
+      let b : ℕ = getD ww (s .j) 0 in
+      let c : ℕ = getD wc (s .i) 0 in
+      let d : ℕ = getD wc (s .j) 0 in
+      let xs : List (Term ℕ) = between ww wc (s .i + 1) (s .ie) in
+      let ys : List (Term ℕ) = between ww wc (s .j + 1) (s .je) in
+      let f : Falling compare (term a c ∷ xs) = subst (λ (l : List (Term ℕ)). Falling compare l) left-lead (y .left-falls) in
+      let h : Falling compare (term b d ∷ ys) = subst (λ (l : List (Term ℕ)). Falling compare l) right-lead (y .right-falls) in
+      joins.by-order compare a b
+      (λ q.
+      let z : s .i + 0 ≡ s .i = omega arith in
+      subst (After (s .d) atFront) (sym (e ∙ joins.joined-less a c b d p q))
+      (front-by b d 0 1 (omega arith) (omega arith) (omega arith) (four (λ k l m n. First p k l b d m n) left-lead right-lead (ap (λ (n : ℕ). between ww wc n (s .ie)) z ∙ left-lead) refl (first-less p a c b d (left-coef .0) (right-coef .0) xs ys f h q))))
+      (λ q.
+      subst (After (s .d) atFront) (sym (e ∙ joins.joined-same a c b d p q))
+      (front-by a ((c + d) % p) 1 1 (omega arith) (omega arith) (omega arith) (four (λ k l m n. First p k l a ((c + d) % p) m n) left-lead right-lead refl refl (first-same p a c b d (left-coef .0) (right-coef .0) xs ys f h q))))
+      (λ q.
+      let z : s .j + 0 ≡ s .j = omega arith in
+      subst (After (s .d) atFront) (sym (e ∙ joins.joined-more a c b d p q))
+      (front-by a c 1 0 (omega arith) (omega arith) (omega arith) (four (λ k l m n. First p k l a c m n) left-lead right-lead refl (ap (λ (n : ℕ). between ww wc n (s .je)) z ∙ right-lead) (first-more p a c b d (left-coef .0) (right-coef .0) xs ys f h q))))
 
   -- ---- at the back
   left-last : leftOf ww wc s ≡ between ww wc (s .i) (s .ie - 1) ++ term (getD ww (s .ie - 1) 0) (getD wc (s .ie - 1) 0) ∷ []
@@ -258,41 +230,24 @@ module _ {p : ℕ} {ww wc : List ℕ} {s : Ends} (y : Ready ww wc s) (g : Reduci
       (back-step y p w v l r hl hr one (omega arith) (omega arith) q)
 
   pub back-turn : {t : Joined} → t ≡ joinedLast (getD ww (s .ie - 1) 0) (getD wc (s .ie - 1) 0) (getD ww (s .je - 1) 0) (getD wc (s .je - 1) 0) p → After (s .e - 1) atBack t
-  back-turn {t} e = go (stands compare a b)
-    where
-      a : ℕ
-      a = getD ww (s .ie - 1) 0
-
-      b : ℕ
-      b = getD ww (s .je - 1) 0
-
-      c : ℕ
-      c = getD wc (s .ie - 1) 0
-
-      d : ℕ
-      d = getD wc (s .je - 1) 0
-
-      xs : List (Term ℕ)
-      xs = between ww wc (s .i) (s .ie - 1)
-
-      ys : List (Term ℕ)
-      ys = between ww wc (s .j) (s .je - 1)
-
-      f : Falling compare (xs ++ term a c ∷ [])
-      f = subst (λ (l : List (Term ℕ)). Falling compare l) left-last (y .left-falls)
-
-      h : Falling compare (ys ++ term b d ∷ [])
-      h = subst (λ (l : List (Term ℕ)). Falling compare l) right-last (y .right-falls)
-
-      go : Stands compare a b → After (s .e - 1) atBack t
-      go (less q) =
-          let z : s .je - 0 ≡ s .je = omega arith in
-          subst (After (s .e - 1) atBack) (sym (e ∙ joins.last-less a c b d p q))
-          (back-by a c 1 0 (omega arith) (omega arith) (omega arith) (last-is left-last right-last refl (ap (between ww wc (s .j)) z ∙ right-last) (last-less p a c b d (left-last-coef .0) (right-last-coef .0) xs ys f h q)))
-      go (same q) =
-          subst (After (s .e - 1) atBack) (sym (e ∙ joins.last-same a c b d p q))
-          (back-by a ((c + d) % p) 1 1 (omega arith) (omega arith) (omega arith) (last-is left-last right-last refl refl (last-same p a c b d (left-last-coef .0) (right-last-coef .0) xs ys f h q)))
-      go (more q) =
-          let z : s .ie - 0 ≡ s .ie = omega arith in
-          subst (After (s .e - 1) atBack) (sym (e ∙ joins.last-more a c b d p q))
-          (back-by b d 0 1 (omega arith) (omega arith) (omega arith) (last-is left-last right-last (ap (between ww wc (s .i)) z ∙ left-last) refl (last-more p a c b d (left-last-coef .0) (right-last-coef .0) xs ys f h q)))
+  back-turn {t} e =
+      let a : ℕ = getD ww (s .ie - 1) 0 in
+      let b : ℕ = getD ww (s .je - 1) 0 in
+      let c : ℕ = getD wc (s .ie - 1) 0 in
+      let d : ℕ = getD wc (s .je - 1) 0 in
+      let xs : List (Term ℕ) = between ww wc (s .i) (s .ie - 1) in
+      let ys : List (Term ℕ) = between ww wc (s .j) (s .je - 1) in
+      let f : Falling compare (xs ++ term a c ∷ []) = subst (λ (l : List (Term ℕ)). Falling compare l) left-last (y .left-falls) in
+      let h : Falling compare (ys ++ term b d ∷ []) = subst (λ (l : List (Term ℕ)). Falling compare l) right-last (y .right-falls) in
+      joins.by-order compare a b
+      (λ q.
+      let z : s .je - 0 ≡ s .je = omega arith in
+      subst (After (s .e - 1) atBack) (sym (e ∙ joins.last-less a c b d p q))
+      (back-by a c 1 0 (omega arith) (omega arith) (omega arith) (four (λ k l m n. Last p k l a c m n) left-last right-last refl (ap (between ww wc (s .j)) z ∙ right-last) (last-less p a c b d (left-last-coef .0) (right-last-coef .0) xs ys f h q))))
+      (λ q.
+      subst (After (s .e - 1) atBack) (sym (e ∙ joins.last-same a c b d p q))
+      (back-by a ((c + d) % p) 1 1 (omega arith) (omega arith) (omega arith) (four (λ k l m n. Last p k l a ((c + d) % p) m n) left-last right-last refl refl (last-same p a c b d (left-last-coef .0) (right-last-coef .0) xs ys f h q))))
+      (λ q.
+      let z : s .ie - 0 ≡ s .ie = omega arith in
+      subst (After (s .e - 1) atBack) (sym (e ∙ joins.last-more a c b d p q))
+      (back-by b d 0 1 (omega arith) (omega arith) (omega arith) (four (λ k l m n. Last p k l b d m n) left-last right-last (ap (between ww wc (s .i)) z ∙ left-last) refl (last-more p a c b d (left-last-coef .0) (right-last-coef .0) xs ys f h q))))

@@ -2,14 +2,14 @@
 use mathlib.Core.Path.{_≡_, sym, ap, ap₂, _∙_}
 use mathlib.Core.List.{List, [], _∷_, _++_}
 use Prim.Native.Nat.{ℕ, _+_, _-_, _<_, _≤_}
-use native.Mathlib.Decide.{decLe}
 use native.Mathlib.Omega.{arith}
 use lib.ListN.{length, take, drop, getD}
-use lib.Seq.{drop-cons, drop-drop, take-add, ext-getD}
+use lib.Seq.{drop-cons, drop-drop, take-add}
 use Rattle.polynomial.specs.Terms.{Term, term, terms, words, coefs}
 use Rattle.polynomial.proofs.TermLists.{length-terms, terms-append, words-terms, coefs-terms}
 use Rattle.merge_common.specs.Lent.{part}
-use Rattle.merge_common.proofs.Lists.{length-part, getD-part}
+use Rattle.merge_common.proofs.Lists.{length-part}
+use Rattle.merge_common.proofs.ReadBack.{part-same}
 use Rattle.merge_areas.specs.Ways.{between}
 
 -- a part in two
@@ -18,18 +18,6 @@ part-split l a b e h k =
     let q : e - a ≡ (b - a) + (e - b) = omega arith in
     let r : a + (b - a) ≡ b = omega arith in
     ap (λ (n : ℕ). take n (drop a l)) q ∙ (take-add (b - a) (e - b) (drop a l) ∙ ap (λ (x : List ℕ). part a (b - a) l ++ take (e - b) x) (drop-drop (b - a) a l ∙ ap (λ (n : ℕ). drop n l) r))
-
--- a part that has the same numbers
-part-like : (l o : List ℕ) (a e : ℕ) → length o ≡ length l → e ≤ length l → ((t : ℕ) → a ≤ t → t < e → getD o t 0 ≡ getD l t 0) → part a (e - a) o ≡ part a (e - a) l
-part-like l o a e q h s = go (decLe a e)
-  where
-    go : Dec (a ≤ e) → part a (e - a) o ≡ part a (e - a) l
-    go (yes k) =
-        let n = length-part a (e - a) o (omega arith) in
-        let m = length-part a (e - a) l (omega arith) in
-        ext-getD 0 (part a (e - a) o) (part a (e - a) l) (n ∙ sym m)
-        (λ t u. getD-part a (e - a) o t (omega arith) ∙ (s (a + t) (omega arith) (omega arith) ∙ sym (getD-part a (e - a) l t (omega arith))))
-    go (no k) = let z : e - a ≡ 0 = omega arith in ap (λ (n : ℕ). part a n o) z ∙ sym (ap (λ (n : ℕ). part a n l) z)
 
 module _ (ws cs : List ℕ) (long : length cs ≡ length ws) where
   part-long : (a e : ℕ) → a ≤ e → e ≤ length ws → length (part a (e - a) cs) ≡ length (part a (e - a) ws)
@@ -77,4 +65,4 @@ between-none ws cs a e h = let z : e - a ≡ 0 = omega arith in ap (λ (n : ℕ)
 pub between-like : (ws cs ws' cs' : List ℕ) (a e : ℕ) → length cs ≡ length ws → length ws' ≡ length ws → length cs' ≡ length cs → e ≤ length ws
     → ((t : ℕ) → a ≤ t → t < e → getD ws' t 0 ≡ getD ws t 0) → ((t : ℕ) → a ≤ t → t < e → getD cs' t 0 ≡ getD cs t 0) → between ws' cs' a e ≡ between ws cs a e
 unfolding between
-between-like ws cs ws' cs' a e long qw qc h sw sc = ap₂ terms (part-like ws ws' a e qw h sw) (part-like cs cs' a e qc (omega arith) sc)
+between-like ws cs ws' cs' a e long qw qc h sw sc = ap₂ terms (part-same ws ws' a (e - a) qw (λ t u v. sw t u (omega arith))) (part-same cs cs' a (e - a) qc (λ t u v. sc t u (omega arith)))

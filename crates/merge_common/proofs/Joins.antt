@@ -13,6 +13,15 @@ use Rattle.merge_common.specs.Joining.{made, joined, joinedLast}
 use Rattle.merge_common.specs.declared.merging.Joined.{Joined}
 use Rattle.merge_common.proofs.Steps.{flag-small}
 
+-- by which of two is larger
+pub by-order : {C : Type 0} (cmp : ℕ → ℕ → Ordering) (x y : ℕ) → (cmp x y ≡ Ordering·lt → C) → (cmp x y ≡ Ordering·eq → C) → (cmp x y ≡ Ordering·gt → C) → C
+by-order {C} cmp x y l s m = go (stands cmp x y)
+  where
+    go : Stands cmp x y → C
+    go (less h) = l h
+    go (same h) = s h
+    go (more h) = m h
+
 -- x is larger for l, y is for m
 pub record Flags (x y l m : ℕ) : Type 0 where
   pub x-larger : l ≡ flag (isLarger (compare x y))
@@ -22,15 +31,10 @@ back : (x y : ℕ) {o : Ordering} → compare x y ≡ o → compare y x ≡ turn
 back x y h = numbers-order .turn x y ∙ ap turned h
 
 pub one-at-most : {x y l m : ℕ} → Flags x y l m → l + m ≤ 1
-one-at-most {x} {y} {l} {m} f = go (stands compare x y)
+one-at-most {x} {y} {l} {m} f = by-order compare x y (λ h. omega (arith, by h)) (λ h. omega (arith, by h)) (λ h. omega (arith, by h))
   where
     by : {o : Ordering} → compare x y ≡ o → l + m ≡ flag (isLarger o) + flag (isLarger (turned o))
     by h = ap₂ (λ (u v : ℕ). u + v) (f .x-larger ∙ ap (λ (u : Ordering). flag (isLarger u)) h) (f .y-larger ∙ ap (λ (u : Ordering). flag (isLarger u)) (back x y h))
-
-    go : Stands compare x y → l + m ≤ 1
-    go (less h) = omega (arith, by h)
-    go (same h) = omega (arith, by h)
-    go (more h) = omega (arith, by h)
 
 module _ (x c y d p : ℕ) where
   -- ---- by the comparison
@@ -92,17 +96,13 @@ small-made w v l r hl hr e = subst Small (sym e) (hl, hr, flag-small (not (eqb v
 
 module _ (x c y d p : ℕ) {t : Joined} where
   pub joined-small : t ≡ joined x c y d p → Small t
-  joined-small e = go (stands compare x y)
-    where
-      go : Stands compare x y → Small t
-      go (less h) = small-made y d 0 1 (omega arith) (omega arith) (e ∙ joined-less x c y d p h)
-      go (same h) = small-made x ((c + d) % p) 1 1 (omega arith) (omega arith) (e ∙ joined-same x c y d p h)
-      go (more h) = small-made x c 1 0 (omega arith) (omega arith) (e ∙ joined-more x c y d p h)
+  joined-small e =
+      by-order compare x y (λ h. small-made y d 0 1 (omega arith) (omega arith) (e ∙ joined-less x c y d p h))
+      (λ h. small-made x ((c + d) % p) 1 1 (omega arith) (omega arith) (e ∙ joined-same x c y d p h))
+      (λ h. small-made x c 1 0 (omega arith) (omega arith) (e ∙ joined-more x c y d p h))
 
   pub last-small : t ≡ joinedLast x c y d p → Small t
-  last-small e = go (stands compare x y)
-    where
-      go : Stands compare x y → Small t
-      go (less h) = small-made x c 1 0 (omega arith) (omega arith) (e ∙ last-less x c y d p h)
-      go (same h) = small-made x ((c + d) % p) 1 1 (omega arith) (omega arith) (e ∙ last-same x c y d p h)
-      go (more h) = small-made y d 0 1 (omega arith) (omega arith) (e ∙ last-more x c y d p h)
+  last-small e =
+      by-order compare x y (λ h. small-made x c 1 0 (omega arith) (omega arith) (e ∙ last-less x c y d p h))
+      (λ h. small-made x ((c + d) % p) 1 1 (omega arith) (omega arith) (e ∙ last-same x c y d p h))
+      (λ h. small-made y d 0 1 (omega arith) (omega arith) (e ∙ last-more x c y d p h))

@@ -35,13 +35,6 @@ rest-left a b i h = rw (drop-cons a i 0 h)
 pub rest-right : (a b : List ℕ) (i : ℕ) → length a ≤ i → restOf (drop i a) b ≡ b
 rest-right a b i h = rw (drop-of-length-le a h)
 
-length-restOf : (xs ys : List ℕ) → length (restOf xs ys) ≤ length xs + length ys
-length-restOf [] ys = omega arith
-length-restOf (x ∷ xs) ys = omega arith
-
-pub rest-room : (a b : List ℕ) (i j : ℕ) → length (restOf (drop i a) (drop j b)) ≤ (length a - i) + (length b - j)
-rest-room a b i j = omega (arith, length-restOf (drop i a) (drop j b), length-drop i a, length-drop j b)
-
 -- ---- places that stores leave alone
 pub getD-sets-other : (l : List ℕ) (to : ℕ) (vs : List ℕ) (i : ℕ) → (i < to) ⊎ (to + length vs ≤ i) → getD (sets l to vs) i 0 ≡ getD l i 0
 getD-sets-other l to [] i h = refl

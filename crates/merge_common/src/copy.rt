@@ -48,8 +48,10 @@ pub fn move_terms(ww: &mut [u64], wc: &mut [u32], from: usize, to: usize, n: usi
 {
     let mut i = 0;
     while i < n {
-        ww[to + i] = ww[from + i];
-        wc[to + i] = wc[from + i];
+        let read = from + i;
+        let put = to + i;
+        ww[put] = ww[read];
+        wc[put] = wc[read];
         i += 1;
     }
 }

@@ -27,7 +27,9 @@ fn shift_terms(sw: &mut [u64], sc: &mut [u32], from: usize, to: usize, n: usize)
     let mut i = n;
     while i > 0 {
         i -= 1;
-        sw[to + i] = sw[from + i];
-        sc[to + i] = sc[from + i];
+        let read = from + i;
+        let put = to + i;
+        sw[put] = sw[read];
+        sc[put] = sc[read];
     }
 }

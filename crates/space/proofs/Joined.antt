@@ -1,14 +1,14 @@
 -- Two lists as one, the second past the first: what is read and what is put in one of them, in both. Assumes nothing.
-use Prim.Native.Nat.{ℕ, suc, _+_, _-_, _<_, _≤_, min}
+use Prim.Native.Nat.{ℕ, suc, _+_, _-_, _<_, _≤_}
 use mathlib.Core.Path.{_≡_, refl, sym, ap, _∙_}
 use mathlib.Core.List.{List, [], _∷_, _++_}
 use mathlib.Core.Logic.{_⊎_, inl, inr, ⊎-elim}
 use native.Mathlib.Decide.{decLe}
 use native.Mathlib.Omega.{arith}
-use lib.ListN.{length, getD, set, take, drop, length-take, length-drop, length-append, List·getD-append}
-use lib.Seq.{sets, ext-getD, take-append-le, drop-append-le, drop-append-add, getD-append-add, set-append-left}
+use lib.ListN.{length, getD, set, take, drop, length-drop, length-append, List·getD-append}
+use lib.Seq.{sets, take-append-le, drop-append-le, drop-append-add, getD-append-add, set-append-left}
 use Rattle.merge_common.specs.Lent.{part}
-use Rattle.merge_common.proofs.Lists.{getD-part, getD-sets-other}
+use Rattle.merge_common.proofs.Lists.{getD-sets-other}
 
 -- ---- in the first list: at the same place
 pub getD-left : (l r : List ℕ) (i : ℕ) → i < length l → getD (l ++ r) i 0 ≡ getD l i 0
@@ -65,12 +65,3 @@ same-left {lo} {hi} l l' r e f i h = by (decLe (length l) i)
     by : Dec (length l ≤ i) → getD (l' ++ r) i 0 ≡ getD (l ++ r) i 0
     by (yes u) = getD-past l' r e i u ∙ sym (getD-past l r refl i u)
     by (no u) = getD-left l' r i (omega arith) ∙ (f i h ∙ sym (getD-left l r i (omega arith)))
-
--- a part of which each place is the same
-pub part-same : (s s' : List ℕ) (h n : ℕ) → length s' ≡ length s → ((i : ℕ) → h ≤ i → i < h + n → getD s' i 0 ≡ getD s i 0) → part h n s' ≡ part h n s
-part-same s s' h n e f =
-    let l : length (part h n s') ≡ length (part h n s) = length-take n (drop h s') ∙ (ap (min n) (length-drop h s' ∙ (ap (λ (m : ℕ). m - h) e ∙ sym (length-drop h s))) ∙ sym (length-take n (drop h s))) in
-    ext-getD 0 (part h n s') (part h n s) l
-    (λ i k.
-    let m : i < n = omega (arith, length-take n (drop h s')) in
-    getD-part h n s' i m ∙ (f (h + i) (omega arith) (omega arith) ∙ sym (getD-part h n s i m)))

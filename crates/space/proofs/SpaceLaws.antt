@@ -10,7 +10,7 @@ use lib.Seq.{sets, length-sets, sets-eq, getD-set-same, getD-set-other, set-getD
 use Rattle.limits.specs.Limits.{bucketPlaces, workPlaces}
 use Rattle.merge_common.specs.Lent.{part, Apart}
 use Rattle.merge_common.proofs.Lists.{getD-sets-other, length-part}
-use Rattle.merge_common.proofs.ReadBack.{part-sets}
+use Rattle.merge_common.proofs.ReadBack.{part-sets, part-same}
 use Rattle.polynomial.specs.Terms.{Term, term, terms, Canonical}
 use Rattle.polynomial.proofs.TermLists.{length-terms}
 use Rattle.residue.specs.Modular.{Modulus}
@@ -18,7 +18,7 @@ use Rattle.geobucket.specs.Buckets.{empty, held, Good, Canon}
 use Rattle.geobucket.proofs.EventLaws.{good-canon}
 use Rattle.space.specs.Space.{Buckets, headAt, lenAt, sideAt, capacity, start, allPlaces, zone, zoneEnd, listFrom, rowAt, bucketAt, bucketsIn, Laid, Stands, moved, dropped, turned, noBuckets, heldIn}
 use Rattle.space.proofs.Starts.{zone-areas, next-start, next-capacity, cap-small, end-in-work, zone-past, zones-apart, zone-end, zone-holds}
-use Rattle.space.proofs.Joined.{SameBut, same-sets, part-same, part-left, part-past}
+use Rattle.space.proofs.Joined.{SameBut, same-sets, part-left, part-past}
 
 -- ---- f of each number from i on
 module _ {A : Type 0} where

@@ -1,7 +1,8 @@
 -- `merge_areas::rest::above` meets its contract: the keys from k on are below the last one. Assumes nothing.
+use mathlib.Core.Logic.{inl, inr}
 use native.Mathlib.Omega.{arith}
 use borrow.Author.Tests.{ltb-true, ltb-false}
-use Rattle.merge_areas.proofs.Resting.{Scanned, scan-start, scan-on, scan-stop, scan-end}
+use Rattle.merge_areas.proofs.Resting.{Scanned, scan-start, scan-on, scanned}
 use Rattle.merge_areas.proofs.rest.above.Statement.{statement}
 use Rattle.merge_areas.proofs.rest.above.Tie as tie
 
@@ -33,10 +34,10 @@ loop-again : tie.Need-loop-again Inv-loop μ-loop
 loop-again c = scan-on (c .before .before .before .loop .inv) (c .before .before .loop-test .taken) (ltb-true _ _ (c .if1 .taken))
 
 returns : tie.Need-returns Inv-loop μ-loop
-returns c = scan-stop (c .before .before .before .loop .inv) (ltb-false _ _ (c .if1 .left))
+returns c = scanned (c .before .before .before .loop .inv) (inr (ltb-false _ _ (c .if1 .left)))
 
 returns-2 : tie.Need-returns-2 Inv-loop μ-loop
-returns-2 c = scan-end (c .before .loop .inv) (c .loop-test .left)
+returns-2 c = let s = c .before .loop .inv in scanned s (inl (omega (arith, s, c .loop-test .left)))
 
 pub above-spec : {M : Type 1} → statement M
 above-spec =

@@ -15,8 +15,11 @@ abbrev μ-loop : tie.MeasureT-loop
 loop-holds : tie.Need-loop-holds Inv-loop μ-loop
 loop-holds c = (begun-none _ _ _, begun-none _ _ _)
 
-add-ww : tie.Need-add-ww Inv-loop μ-loop
-add-ww c = omega arith
+add-read : tie.Need-add-read Inv-loop μ-loop
+add-read c = omega arith
+
+add-put : tie.Need-add-put Inv-loop μ-loop
+add-put c = omega arith
 
 mul-ww : tie.Need-mul-ww Inv-loop μ-loop
 mul-ww c = omega arith
@@ -24,26 +27,17 @@ mul-ww c = omega arith
 slice-read-ww : tie.Need-slice-read-ww Inv-loop μ-loop
 slice-read-ww c = omega arith
 
-add-ww-2 : tie.Need-add-ww-2 Inv-loop μ-loop
-add-ww-2 c = omega arith
-
 mul-ww-2 : tie.Need-mul-ww-2 Inv-loop μ-loop
 mul-ww-2 c = omega arith
 
 slice-write-ww : tie.Need-slice-write-ww Inv-loop μ-loop
 slice-write-ww c = omega arith
 
-add-wc : tie.Need-add-wc Inv-loop μ-loop
-add-wc c = omega arith
-
 mul-wc : tie.Need-mul-wc Inv-loop μ-loop
 mul-wc c = omega arith
 
 slice-read-wc : tie.Need-slice-read-wc Inv-loop μ-loop
 slice-read-wc c = omega arith
-
-add-wc-2 : tie.Need-add-wc-2 Inv-loop μ-loop
-add-wc-2 c = omega arith
 
 mul-wc-2 : tie.Need-mul-wc-2 Inv-loop μ-loop
 mul-wc-2 c = omega arith
@@ -76,16 +70,14 @@ move-terms-spec =
     Inv-loop
     μ-loop
     loop-holds
-    add-ww
+    add-read
+    add-put
     mul-ww
     slice-read-ww
-    add-ww-2
     mul-ww-2
     slice-write-ww
-    add-wc
     mul-wc
     slice-read-wc
-    add-wc-2
     mul-wc-2
     slice-write-wc
     add-i

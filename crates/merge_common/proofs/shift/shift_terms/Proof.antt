@@ -16,8 +16,11 @@ loop-holds c = (left-all _ _ _ _ (c .pre .0) (c .pre .1), left-all _ _ _ _ (c .p
 sub-i : tie.Need-sub-i Inv-loop μ-loop
 sub-i c = omega arith
 
-add-sw : tie.Need-add-sw Inv-loop μ-loop
-add-sw c = omega arith
+add-read : tie.Need-add-read Inv-loop μ-loop
+add-read c = omega arith
+
+add-put : tie.Need-add-put Inv-loop μ-loop
+add-put c = omega arith
 
 mul-sw : tie.Need-mul-sw Inv-loop μ-loop
 mul-sw c = omega arith
@@ -25,26 +28,17 @@ mul-sw c = omega arith
 slice-read-sw : tie.Need-slice-read-sw Inv-loop μ-loop
 slice-read-sw c = omega arith
 
-add-sw-2 : tie.Need-add-sw-2 Inv-loop μ-loop
-add-sw-2 c = omega arith
-
 mul-sw-2 : tie.Need-mul-sw-2 Inv-loop μ-loop
 mul-sw-2 c = omega arith
 
 slice-write-sw : tie.Need-slice-write-sw Inv-loop μ-loop
 slice-write-sw c = omega arith
 
-add-sc : tie.Need-add-sc Inv-loop μ-loop
-add-sc c = omega arith
-
 mul-sc : tie.Need-mul-sc Inv-loop μ-loop
 mul-sc c = omega arith
 
 slice-read-sc : tie.Need-slice-read-sc Inv-loop μ-loop
 slice-read-sc c = omega arith
-
-add-sc-2 : tie.Need-add-sc-2 Inv-loop μ-loop
-add-sc-2 c = omega arith
 
 mul-sc-2 : tie.Need-mul-sc-2 Inv-loop μ-loop
 mul-sc-2 c = omega arith
@@ -75,16 +69,14 @@ shift-terms-spec =
     μ-loop
     loop-holds
     sub-i
-    add-sw
+    add-read
+    add-put
     mul-sw
     slice-read-sw
-    add-sw-2
     mul-sw-2
     slice-write-sw
-    add-sc
     mul-sc
     slice-read-sc
-    add-sc-2
     mul-sc-2
     slice-write-sc
     loop-less
