@@ -135,19 +135,20 @@ module _ {cmp : ℕ → ℕ → Ordering} {p : ℕ} {F : Searched ℕ} {bs : Lis
   pub pass-long : length (P .buckets) ≡ length bs
   pass-long = shrunk-long (P .buckets) bs (the-pass .short)
 
-  -- the pass ends with no candidate
-  module _ (e : P .answer ≡ none) where
-    whole-none : searchIn cmp p (f .fuel) bs ≡ P
-    whole-none = search-none cmp p bs P eP (f .fuel) (f .enough) e
+  -- the pass is the last one
+  module _ (w : searchIn cmp p (f .fuel) bs ≡ P) where
+    pub last-answer : F .answer ≡ P .answer
+    last-answer = sym (f .answer-is) ∙ ap (λ (s : Searched ℕ). s .answer) w
 
-    pub none-answer : F .answer ≡ none
-    none-answer = sym (f .answer-is) ∙ (ap (λ (s : Searched ℕ). s .answer) whole-none ∙ e)
+    pub last-buckets : F .buckets ≡ P .buckets
+    last-buckets = sym (f .buckets-are) ∙ ap (λ (s : Searched ℕ). s .buckets) w
 
-    pub none-buckets : F .buckets ≡ P .buckets
-    none-buckets = sym (f .buckets-are) ∙ ap (λ (s : Searched ℕ). s .buckets) whole-none
+    pub last-count : length (F .pairs) ≡ n + length (P .pairs)
+    last-count = omega (arith, f .count-is, ap (λ (s : Searched ℕ). length (s .pairs)) w)
 
-    pub none-count : length (F .pairs) ≡ n + length (P .pairs)
-    none-count = omega (arith, f .count-is, ap (λ (s : Searched ℕ). length (s .pairs)) whole-none)
+  -- it ends with no candidate
+  pub whole-none : P .answer ≡ none → searchIn cmp p (f .fuel) bs ≡ P
+  whole-none = search-none cmp p bs P eP (f .fuel) (f .enough)
 
   -- it ends with a candidate
   module _ (at : ℕ) (t : Term ℕ) (e : P .answer ≡ lead at t) where
@@ -162,17 +163,8 @@ module _ {cmp : ℕ → ℕ → Ordering} {p : ℕ} {F : Searched ℕ} {bs : Lis
 
     -- not of coefficient 0: it is the lead
     module _ (ne : t .coef ≡ 0 → ⊥) where
-      whole-lead : searchIn cmp p (f .fuel) bs ≡ P
+      pub whole-lead : searchIn cmp p (f .fuel) bs ≡ P
       whole-lead = search-lead cmp p bs P eP (f .fuel) (f .enough) at (t .coef - 1) t e (omega (arith, ne))
-
-      pub lead-answer : F .answer ≡ lead at t
-      lead-answer = sym (f .answer-is) ∙ (ap (λ (s : Searched ℕ). s .answer) whole-lead ∙ e)
-
-      pub lead-buckets : F .buckets ≡ P .buckets
-      lead-buckets = sym (f .buckets-are) ∙ ap (λ (s : Searched ℕ). s .buckets) whole-lead
-
-      pub lead-count : length (F .pairs) ≡ n + length (P .pairs)
-      lead-count = omega (arith, f .count-is, ap (λ (s : Searched ℕ). length (s .pairs)) whole-lead)
 
       pub lead-canon : Canon cmp p (putBack at t (P .buckets))
       lead-canon = canon-put cmp p at t (P .buckets) (omega (arith, ne)) (tops .0) (tops .1) (the-pass .canon)

@@ -10,13 +10,14 @@ use Rattle.monomial.specs.TotalOrder.{TotalOrder}
 use Rattle.polynomial.specs.Terms.{Term, term}
 use Rattle.geobucket.specs.Buckets.{held, Good, Canon}
 use Rattle.geobucket.specs.Search.{Pass, Lead, none, lead, Searched, pass, search, putBack, withLead}
+use Rattle.geobucket.proofs.EventLaws.{good-canon}
 use Rattle.space.specs.Space.{Buckets, allPlaces, headAt, listFrom, bucketAt, bucketsIn, Laid, Stands, dropped}
 use Rattle.space.proofs.Starts.{cap-zero, six}
-use Rattle.space.proofs.SpaceLaws.{from-long, good-at, canon-from, canon-at, good-from, held-short, bucket-short, bucket-none, bucket-lead, dropped-laid, dropped-other, some-of, drop-here}
+use Rattle.space.proofs.SpaceLaws.{from-long, canon-at, good-from, held-short, bucket-short, bucket-none, bucket-lead, dropped-laid, dropped-other, some-of, drop-here}
 use Rattle.search.specs.declared.candidate.Candidate.{Candidate}
 use Rattle.search.specs.Candidates.{candidateOf}
 use Rattle.search.specs.Searching.{Seek, SeekDone, passFrom, FirstHeld, Removal, FindDone}
-use Rattle.search.proofs.FindLaws.{pass-first, pass-none, put-append, Fronted, fronted, seek-few, Finding, finding-start, pass-long, none-answer, none-buckets, none-count, lead-in, fewer, lead-answer, lead-buckets, lead-count, lead-canon, finding-on}
+use Rattle.search.proofs.FindLaws.{pass-first, pass-none, put-append, Fronted, fronted, seek-few, Finding, finding-start, pass-long, last-answer, last-buckets, last-count, whole-none, whole-lead, lead-in, fewer, lead-canon, finding-on}
 
 pub record Finds (cmp : ℕ → ℕ → Ordering) (p : ℕ) (bs : List (List (Term ℕ))) (sw : List ℕ) (b : Buckets) (n : ℕ) (sc : List ℕ) (i : ℕ) : Type 0 where
   pub modulus : Modulus p
@@ -28,7 +29,7 @@ pub record Finds (cmp : ℕ → ℕ → Ordering) (p : ℕ) (bs : List (List (Te
 
 -- good buckets are canonical
 pub stands-canon : {cmp : ℕ → ℕ → Ordering} {p : ℕ} {b : Buckets} {sw sc : List ℕ} → Stands cmp p b sw sc → Canon cmp p (bucketsIn b sw sc)
-stands-canon {cmp} {p} {b} {sw} {sc} s = canon-from cmp p (bucketAt b sw sc) 6 0 (λ j u w. good-at cmp p (bucketAt b sw sc) 6 0 4 (s .good) j u w)
+stands-canon {cmp} {p} {b} {sw} {sc} s = good-canon cmp p 4 (bucketsIn b sw sc) (s .good)
 
 -- ---- the start
 pub finds-start : {cmp : ℕ → ℕ → Ordering} {p : ℕ} {b : Buckets} {sw sc : List ℕ} {i : ℕ} → Stands cmp p b sw sc → FirstHeld b i → Finds cmp p (bucketsIn b sw sc) sw b 0 sc i
@@ -68,12 +69,13 @@ module _ {cmp : ℕ → ℕ → Ordering} {p : ℕ} {bs : List (List (Term ℕ))
     pub find-none : {c : Candidate} → c ≡ candidateOf none n → FindDone cmp p bs b sw sc c
     find-none {c} e =
         let P : Searched ℕ = record { answer = none; buckets = bucketsIn b sw sc; pairs = [] } in
-        let a = none-answer O pos (v .state) P all-none refl in
-        let k : length (search cmp p bs .pairs) ≡ n = none-count O pos (v .state) P all-none refl ∙ (let z : n + 0 ≡ n = omega arith in z) in
+        let w = whole-none O pos (v .state) P all-none refl in
+        let a = last-answer O pos (v .state) P all-none w in
+        let k : length (search cmp p bs .pairs) ≡ n = last-count O pos (v .state) P all-none w ∙ (let z : n + 0 ≡ n = omega arith in z) in
         record {
           candidate-is = e ∙ ap₂ candidateOf (sym a) (sym k);
           few = omega (arith, v .state .few, ap (λ (x : Candidate). x .count) e);
-          lists-are = sym (ap₂ withLead a (none-buckets O pos (v .state) P all-none refl));
+          lists-are = sym (ap₂ withLead a (last-buckets O pos (v .state) P all-none w));
           stands = stands-by (v .modulus) (v .words-long) (v .coefs-long) (v .laid) (v .state .canon);
         }
 
@@ -117,9 +119,6 @@ module _ {cmp : ℕ → ℕ → Ordering} {p : ℕ} {bs : List (List (Term ℕ))
       coef-is : S .lead .coef ≡ c .coef
       coef-is = ap (λ (t : Term ℕ). t .coef) (sym (d .term-is))
 
-      abbrev bs' : List (List (Term ℕ))
-      bs' = bucketsIn b sw sc
-
       in-six : i + S .at < 6
       in-six = omega (arith, lead-in O pos (v .state) P is-pass (i + S .at) (S .lead) refl, from-long (bucketAt b sw sc) 0 6)
 
@@ -133,13 +132,12 @@ module _ {cmp : ℕ → ℕ → Ordering} {p : ℕ} {bs : List (List (Term ℕ))
       pub find-lead : (c .coef ≡ 0 → ⊥) → FindDone cmp p bs b' sw sc' c
       find-lead ne =
           let ne' : S .lead .coef ≡ 0 → ⊥ = λ e. ne (sym coef-is ∙ e) in
-          let a = lead-answer O pos (v .state) P is-pass (i + S .at) (S .lead) refl ne' in
-          let k = lead-count O pos (v .state) P is-pass (i + S .at) (S .lead) refl ne' in
-          let bk = lead-buckets O pos (v .state) P is-pass (i + S .at) (S .lead) refl ne' in
+          let w = whole-lead O pos (v .state) P is-pass (i + S .at) (S .lead) refl ne' in
+          let a = last-answer O pos (v .state) P is-pass w in
           record {
-            candidate-is = same c (d .bucket-is) (d .term-is) (d .count-is ∙ sym k) ∙ ap (λ (l : Lead ℕ). candidateOf l (length (search cmp p bs .pairs))) (sym a);
+            candidate-is = same c (d .bucket-is) (d .term-is) (d .count-is ∙ sym (last-count O pos (v .state) P is-pass w)) ∙ ap (λ (l : Lead ℕ). candidateOf l (length (search cmp p bs .pairs))) (sym a);
             few = omega (arith, v .state .few, d .count-is, few);
-            lists-are = lists ∙ sym (ap₂ withLead a bk);
+            lists-are = lists ∙ sym (ap₂ withLead a (last-buckets O pos (v .state) P is-pass w));
             stands = stands-by (v .modulus) (v .words-long) (d .coefs-long) (d .laid) (subst (Canon cmp p) (sym lists) (lead-canon O pos (v .state) P is-pass (i + S .at) (S .lead) refl ne'));
           }
         where

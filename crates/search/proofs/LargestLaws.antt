@@ -6,6 +6,7 @@ use mathlib.Core.Logic.{_⊎_, ⊎-elim, inl, inr}
 use Prim.Native.Nat.{ℕ, _+_, _-_, _<_, _≤_, compare, Ordering, Ordering·lt, Ordering·eq, Ordering·gt}
 use native.Mathlib.Omega.{arith}
 use native.Mathlib.Nat.{add-zero}
+use borrow.Author.Count.{below-more}
 use borrow.Author.Tests.{eq-eqb, ne-eqb}
 use lib.Dec.{eqb}
 use lib.ListN.{length, getD}
@@ -21,7 +22,6 @@ use Rattle.search.specs.declared.candidate.Candidate.{Candidate}
 use Rattle.search.specs.declared.largest.Largest.{Largest}
 use Rattle.search.specs.Largest.{unseen, met, asCandidate, Looked}
 use Rattle.search.specs.Searching.{Seek, FirstHeld, FindDone, passFrom}
-use Rattle.search.proofs.FirstLaws.{one-more}
 use Rattle.search.proofs.SeekState.{Seeks, lists, seeks-start, seeks-end, own-six, own-some, on-empty, on-past, on-up}
 use Rattle.search.proofs.FindState.{finds-start, stands-canon, seek-asks, find-lead}
 
@@ -143,7 +143,7 @@ module _ {b : Buckets} {ws : List ℕ} {t : Largest} {i : ℕ} (v : Looks b ws t
     most = omega arith;
     few = omega (arith, v .few);
     few-like = omega (arith, v .few-like);
-    halfway = λ p cs st z. ⊎-elim (λ n. inl (n .0, one-more b i (n .1) e)) (λ u. inr (goes-empty st u h e)) (v .halfway p cs st z);
+    halfway = λ p cs st z. ⊎-elim (λ n. inl (n .0, below-more _ _ (n .1) e)) (λ u. inr (goes-empty st u h e)) (v .halfway p cs st z);
   }
 
   module _ (h : i < 6) (pos : 0 < lenAt b i) {key : ℕ} (ek : key ≡ getD ws (headAt b i) 0) where

@@ -1,6 +1,5 @@
 pub mod SeekLaws
 pub mod SeekState
-pub mod FirstLaws
 pub mod FindLaws
 pub mod FindState
 pub mod TakeLaws

@@ -91,17 +91,22 @@ module _ {cmp : ℕ → ℕ → Ordering} {p : ℕ} {G : List (List (Term ℕ))}
     not-own : i ≡ c .bucket → ⊥
     not-own e = let z : ⊥ = omega (arith, v .state .below) in z
 
-    pub on-empty : lenAt b i ≡ 0 → Seeks cmp p G A L N sw b c sc (i + 1)
-    on-empty e = record {
+    -- a turn: the buckets ahead stay
+    on : (b' : Buckets) (d : Candidate) (sc' : List ℕ) → length sc' ≡ allPlaces → Laid b' → Seeking cmp p G A L N (bucketAt b' sw sc') (d .bucket) (suc i) (term (d .word) (d .coef)) (d .count) → ((j : ℕ) → i < j → j < 6 → bucketAt b' sw sc' j ≡ bucketAt b sw sc j) → d .coef < p → d .count ≤ c .count + 1
+        → Seeks cmp p G A L N sw b' d sc' (i + 1)
+    on b' d sc' hc l s stay small one = record {
       modulus = v .modulus;
       words-long = v .words-long;
-      coefs-long = v .coefs-long;
-      laid = v .laid;
-      state = rw (add-one i) (goes-empty (v .state) h (bucket-none b i (v .laid) h sw sc e));
-      ahead = λ j u w. v .ahead j (omega arith) w;
-      small = v .small;
+      coefs-long = hc;
+      laid = l;
+      state = rw (add-one i) s;
+      ahead = λ j u w. subst (λ (l : List (Term ℕ)). Reduced p l) (sym (stay j (omega arith) w)) (v .ahead j (omega arith) w);
+      small = small;
       few = omega (arith, v .few);
     }
+
+    pub on-empty : lenAt b i ≡ 0 → Seeks cmp p G A L N sw b c sc (i + 1)
+    on-empty e = on b c sc (v .coefs-long) (v .laid) (goes-empty (v .state) h (bucket-none b i (v .laid) h sw sc e)) (λ j u w. refl) (v .small) (omega arith)
 
     -- the bucket is not empty
     pub lead-some : {len : ℕ} → len ≡ lenAt b i → (len ≡ 0 → ⊥) → 0 < lenAt b i
@@ -125,17 +130,7 @@ module _ {cmp : ℕ → ℕ → Ordering} {p : ℕ} {G : List (List (Term ℕ))}
       pub on-past : TotalOrder ℕ cmp → {key : ℕ} → key ≡ getD sw (headAt b i) 0 → (l : ℕ) → l ≡ flag (isLarger (cmp key (c .word))) → (l ≡ 1 → ⊥) → (key ≡ c .word → ⊥) → {d : Candidate} → d ≡ passedBy c → Seeks cmp p G A L N sw b d sc (i + 1)
       on-past O {key} ek l el not-one ne {d} ed =
           let o : cmp (c .word) key ≡ Ordering·gt = turned-gt cmp O key (c .word) (less-by cmp O key (c .word) l el not-one ne) in
-          subst (λ (x : Candidate). Seeks cmp p G A L N sw b x sc (i + 1)) (sym ed)
-          (record {
-            modulus = v .modulus;
-            words-long = v .words-long;
-            coefs-long = v .coefs-long;
-            laid = v .laid;
-            state = rw (add-one i) (goes-past (v .state) h (term key (getD sc (headAt b i) 0)) ys (lead-is ek refl) o);
-            ahead = λ j u w. v .ahead j (omega arith) w;
-            small = v .small;
-            few = omega (arith, v .few);
-          })
+          rw (ed) (on b (passedBy c) sc (v .coefs-long) (v .laid) (goes-past (v .state) h (term key (getD sc (headAt b i) 0)) ys (lead-is ek refl) o) (λ j u w. refl) (v .small) (omega arith))
 
       -- the lead is like the candidate: its coefficient joins, and it is removed
       pub on-like : TotalOrder ℕ cmp → {key coef : ℕ} → key ≡ getD sw (headAt b i) 0 → coef ≡ getD sc (headAt b i) 0 → key ≡ c .word → {d : Candidate} → d ≡ joined c coef p → {sc₁ : List ℕ} → sc₁ ≡ set sc (headAt b (d .bucket)) (d .coef) → {b₁ : Buckets} → b₁ ≡ dropped b i
@@ -152,20 +147,12 @@ module _ {cmp : ℕ → ℕ → Ordering} {p : ℕ} {G : List (List (Term ℕ))}
           let put : (j : ℕ) → j < 6 → (j ≡ own → ⊥) → bucketAt b' sw sc' j ≡ bucketAt b' sw sc j = λ j u w. ap (λ (m : ℕ). bucketAt b' sw (set sc m sum) j) (sym same-head) ∙ put-other b' own laid' own-six some' sw sc (v .words-long) (v .coefs-long) sum j u w in
           let others : (j : ℕ) → j < 6 → (j ≡ own → ⊥) → (j ≡ i → ⊥) → bucketAt b' sw sc' j ≡ bucketAt b sw sc j = λ j u w z. put j u w ∙ dropped-other b i (v .laid) h pos sw sc (v .words-long) (v .coefs-long) j u z in
           let go : Seeks cmp p G A L N sw b' (joined c coef p) sc' (i + 1) =
-          record {
-            modulus = v .modulus;
-            words-long = v .words-long;
-            coefs-long = length-set sc (headAt b own) sum ∙ v .coefs-long;
-            laid = laid';
-            state = rw (add-one i) (
-                goes-like (v .state) h (term key coef) ys (lead-is ek ec) (same-by cmp O (c .word) key (sym e)) (bucketAt b' sw sc')
-                (ap (λ (m : ℕ). bucketAt b' sw (set sc m sum) own) (sym same-head) ∙ put-at b' own laid' own-six sw sc (v .words-long) (v .coefs-long) (term (c .word) (c .coef)) (v .state .rest) own' sum)
-                (put i h not-own) others
-                );
-            ahead = λ j u w. subst (λ (l : List (Term ℕ)). Reduced p l) (sym (others j w (λ q. let z : ⊥ = omega (arith, v .state .below) in z) (λ q. let z : ⊥ = omega arith in z))) (v .ahead j (omega arith) w);
-            small = mod-lt (c .coef + coef) (omega (arith, v .modulus .two));
-            few = omega (arith, v .few);
-          } in
+          on b' (joined c coef p) sc' (length-set sc (headAt b own) sum ∙ v .coefs-long) laid'
+          (goes-like (v .state) h (term key coef) ys (lead-is ek ec) (same-by cmp O (c .word) key (sym e)) (bucketAt b' sw sc')
+          (ap (λ (m : ℕ). bucketAt b' sw (set sc m sum) own) (sym same-head) ∙ put-at b' own laid' own-six sw sc (v .words-long) (v .coefs-long) (term (c .word) (c .coef)) (v .state .rest) own' sum)
+          (put i h not-own) others)
+          (λ j u w. others j w (λ q. let z : ⊥ = omega (arith, v .state .below) in z) (λ q. let z : ⊥ = omega arith in z))
+          (mod-lt (c .coef + coef) (omega (arith, v .modulus .two))) (omega arith) in
           let there : sc₁ ≡ sc' = es ∙ ap (λ (x : Candidate). set sc (headAt b (x .bucket)) (x .coef)) ed in
           rw (eb, there, ed) go
 
@@ -209,13 +196,6 @@ module _ {cmp : ℕ → ℕ → Ordering} {p : ℕ} {G : List (List (Term ℕ))}
         on-up O {key} {coef} ek ec l el one {d} ed eo en {b₁} eb =
             let o : cmp (c .word) key ≡ Ordering·lt = turned-lt cmp O key (c .word) (more-by cmp key (c .word) l el one) in
             let back : b₁ ≡ b'' = eb ∙ ap₂ (λ (x y : ℕ). moved b (c .bucket) (x + z) (y - z)) eo en in
-            rw (back, ed) (record {
-              modulus = v .modulus;
-              words-long = v .words-long;
-              coefs-long = v .coefs-long;
-              laid = left .left-laid;
-              state = rw (add-one i) (goes-up (v .state) h (term key coef) ys (lead-is ek ec) o (bucketAt b'' sw sc) (left .left-own) (left .left-other));
-              ahead = λ j u w. subst (λ (l : List (Term ℕ)). Reduced p l) (sym (left .left-other j w (λ q. let n : ⊥ = omega (arith, v .state .below) in n))) (v .ahead j (omega arith) w);
-              small = lead-small ec;
-              few = omega (arith, v .few);
-            })
+            rw (back, ed) (on b'' (replacedBy c i key coef) sc (v .coefs-long) (left .left-laid)
+            (goes-up (v .state) h (term key coef) ys (lead-is ek ec) o (bucketAt b'' sw sc) (left .left-own) (left .left-other))
+            (λ j u w. left .left-other j w (λ q. let n : ⊥ = omega (arith, v .state .below) in n)) (lead-small ec) (omega arith))

@@ -17,7 +17,7 @@ use Rattle.residue.specs.Modular.{Modulus}
 use Rattle.geobucket.specs.Buckets.{empty, held, Good, Canon}
 use Rattle.geobucket.proofs.EventLaws.{good-canon}
 use Rattle.space.specs.Space.{Buckets, headAt, lenAt, sideAt, capacity, start, allPlaces, zone, zoneEnd, listFrom, rowAt, bucketAt, bucketsIn, Laid, Stands, moved, dropped, turned, noBuckets, heldIn}
-use Rattle.space.proofs.Starts.{zone-areas, next-start, next-capacity, cap-small, end-in-work, zone-past, zones-apart, zone-end, zone-holds}
+use Rattle.space.proofs.Starts.{zone-areas, next-start, next-capacity, cap-small, end-in-work, zone-past, zones-apart, zone-end}
 use Rattle.space.proofs.Joined.{SameBut, same-sets, part-left, part-past}
 
 -- ---- f of each number from i on

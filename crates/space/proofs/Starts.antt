@@ -116,11 +116,3 @@ zone-end i h = by (decLe 5 i)
     by : Dec (5 ≤ i) → zoneEnd i ≤ allPlaces
     by (yes u) = omega (arith, end-past i u, start-end i h)
     by (no u) = omega (arith, end-in-work i (omega arith))
-
--- a zone holds its bucket
-pub zone-holds : (i : ℕ) → zone i + capacity i ≤ zoneEnd i
-zone-holds i = by (decLe 5 i)
-  where
-    by : Dec (5 ≤ i) → zone i + capacity i ≤ zoneEnd i
-    by (yes u) = omega (arith, end-past i u, zone-past i u, next-start i)
-    by (no u) = omega (arith, zone-areas i (omega arith))

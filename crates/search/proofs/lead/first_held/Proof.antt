@@ -2,10 +2,10 @@
 use mathlib.Core.Path.{_≡_, sym, _∙_}
 use Prim.Native.Nat.{ℕ, _-_, _<_, _≤_}
 use native.Mathlib.Omega.{arith}
+use borrow.Author.Count.{below-more}
 use borrow.Author.Needs.{needs}
 use borrow.Author.Tests.{eqb-true, eqb-false}
 use Rattle.space.specs.Space.{lenAt}
-use Rattle.search.proofs.FirstLaws.{one-more}
 use Rattle.search.proofs.lead.first_held.Statement.{statement}
 use Rattle.search.proofs.lead.first_held.Tie as tie
 
@@ -28,7 +28,7 @@ loop-less : tie.Need-loop-less Inv-loop μ-loop
 loop-less c = search needs
 
 loop-again : tie.Need-loop-again Inv-loop μ-loop
-loop-again c = let k = c .before .before .before .loop in (omega (arith, c .before .before .loop-test .taken), one-more (c .before .before .before .before .before .args .b .now) (k .i) (k .inv .1) (sym (c .before .len-of .ensures) ∙ eqb-true _ _ (c .if1 .taken)))
+loop-again c = let k = c .before .before .before .loop in (omega (arith, c .before .before .loop-test .taken), below-more _ _ (k .inv .1) (sym (c .before .len-of .ensures) ∙ eqb-true _ _ (c .if1 .taken)))
 
 returns : tie.Need-returns Inv-loop μ-loop
 returns c = let k = c .before .before .before .loop in record { most = k .inv .0; below = k .inv .1; held = λ h. omega (arith, eqb-false (c .before .len-of .result) 0 (c .if1 .left), c .before .len-of .ensures) }
