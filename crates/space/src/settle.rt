@@ -78,14 +78,7 @@ pub fn settle_buckets(
 
 // Puts the n terms from place `from` on from `to` on, which is no later place, with the words of their
 // keys. The two may overlap.
-pub fn pull_terms(
-    order: Order,
-    sw: &mut [u64],
-    sc: &mut [u32],
-    from: usize,
-    to: usize,
-    n: usize,
-)
+pub fn pull_terms(order: Order, sw: &mut [u64], sc: &mut [u32], from: usize, to: usize, n: usize)
     requires { ⌜ (from + n ≤ length (now sw)) × (from + n ≤ length (now sc)) × (to ≤ from) ⌝ }
     ensures { λ _. ⌜ (now (sw .exit) ≡ sets (now (sw .entry)) to (map (fromKey order) (part from n (now (sw .entry))))) × (now (sc .exit) ≡ sets (now (sc .entry)) to (part from n (now (sc .entry)))) ⌝ }
 {

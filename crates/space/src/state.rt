@@ -9,7 +9,24 @@ ghost use Rattle.space.specs.Space.{Laid, headAt, heldIn, lenAt, sideAt,
 
 // Six empty buckets: each of buckets 0 to 4 in its first area, and bucket 5 at the end of its place.
 const EMPTY: [usize; 18] = [
-    0, 16, 80, 336, 1360, 13652, 0, 0, 0, 0, 0, 0, 8, 48, 208, 848, 3408, 0,
+    0,
+    16,
+    80,
+    336,
+    1360,
+    13652,
+    0,
+    0,
+    0,
+    0,
+    0,
+    0,
+    8,
+    48,
+    208,
+    848,
+    3408,
+    0,
 ];
 
 // Leaves the six buckets empty.
