@@ -79,8 +79,7 @@ pub fn turn(b: &mut [usize], i: usize, head: usize, len: usize, side: usize)
     requires { ⌜ (length (now b) ≡ 18) × (i < 5) ⌝ }
     ensures { λ _. ⌜ now (b .exit) ≡ turned (now (b .entry)) i head len side ⌝ }
 {
-    b[i] = head;
-    b[6 + i] = len;
+    place(b, i, head, len);
     b[12 + i] = side;
 }
 

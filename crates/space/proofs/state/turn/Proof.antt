@@ -1,9 +1,13 @@
 -- `space::state::turn` meets its contract. Assumes nothing.
-use native.Mathlib.Omega.{arith}
-use lib.ListN.{length-set}
 use borrow.Author.Needs.{needs}
 use Rattle.space.proofs.state.turn.Statement.{statement}
 use Rattle.space.proofs.state.turn.Tie as tie
+
+place-requires : tie.Need-place-requires
+place-requires c κs = search needs
+
+add-b : tie.Need-add-b
+add-b c = search needs
 
 mul-b : tie.Need-mul-b
 mul-b c = search needs
@@ -11,41 +15,11 @@ mul-b c = search needs
 slice-write-b : tie.Need-slice-write-b
 slice-write-b c = search needs
 
-add-b : tie.Need-add-b
-add-b c = search needs
-
-mul-b-2 : tie.Need-mul-b-2
-mul-b-2 c = search needs
-
-slice-write-b-2 : tie.Need-slice-write-b-2
-slice-write-b-2 c = simp length-set (omega (arith, c .pre .0))
-
-add-b-2 : tie.Need-add-b-2
-add-b-2 c = search needs
-
-mul-b-3 : tie.Need-mul-b-3
-mul-b-3 c = search needs
-
-slice-write-b-3 : tie.Need-slice-write-b-3
-slice-write-b-3 c = simp length-set (omega (arith, c .pre .0))
-
 same-length : tie.Need-same-length
 same-length c = search needs
 
 returns : tie.Need-returns
-returns c = search needs
+returns c = rw (c .before .before .place .ensures)
 
 pub turn-spec : {M : Type 1} → statement M
-turn-spec =
-    tie.close
-    (tie.spec
-    mul-b
-    slice-write-b
-    add-b
-    mul-b-2
-    slice-write-b-2
-    add-b-2
-    mul-b-3
-    slice-write-b-3
-    same-length
-    returns)
+turn-spec = tie.close (tie.spec place-requires add-b mul-b slice-write-b same-length returns)
