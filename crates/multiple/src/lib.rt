@@ -1,2 +1,2 @@
 // The multiple of a polynomial by a term, on lent slices.
-pub mod multiple; // whether it goes over 127, and the multiple
+pub mod multiple; // whether it goes over 127, by the highest exponents, and the multiple
