@@ -1,7 +1,6 @@
 -- The inverses of the divisors' lead coefficients, each in one number with its share, and the factors that they make. Assumes nothing.
 use mathlib.Core.Path.{_≡_, refl, sym, ap, _∙_, subst}
 use mathlib.Core.List.{List}
-use mathlib.Core.Logic.{_⊎_, inl, inr, ⊎-elim}
 use Prim.Native.Nat.{ℕ, _+_, _-_, _*_, _/_, _%_, _<_, _≤_}
 use native.Mathlib.Nat.{add-mul, mul-comm, mul-right-comm, mul-le-mul-right, mul-le-mul-left, mul-one, add-mul-div-right, div-add-mod', mod-lt}
 use native.Mathlib.Decide.{decLe}
@@ -9,15 +8,12 @@ use native.Mathlib.Omega.{arith}
 use borrow.Author.Tests.{le-leb, lt-leb}
 use lib.Arith.{digits-mod, digits-div}
 use lib.Dec.{lit<}
-use lib.ListN.{length, getD, set, length-set, replicate, length-replicate, getD-replicate}
-use lib.Seq.{getD-set-same, getD-set-other}
 use Rattle.residue.specs.Modular.{Modulus, product, inverseOf}
 use Rattle.residue.specs.declared.factor.Factor.{Factor}
 use Rattle.residue.specs.Share.{shareOf, FactorOf, Prepared}
 use Rattle.residue.proofs.Inverses.{inverse-below}
 use Rattle.residue.proofs.Shoup.{estimate, share-below}
-use Rattle.divisors.specs.Divisors.{leadCoef, lowPart, inOne, inverseIn, Inverses, Inverting, Multiplying}
-use Rattle.divisors.proofs.DivisorLaws.{same-or-not}
+use Rattle.divisors.specs.Divisors.{leadCoef, lowPart, inOne, inverseIn, Inverting, Multiplying}
 
 -- ---- a quotient from its estimate
 module _ (n e p : ℕ) (low : e * p ≤ n) where
@@ -142,11 +138,8 @@ module _ {p x y : ℕ} (a : Multiplying p x y) (l : 65536 < p) where
   pub made : {v : ℕ} {f : Factor} → v ≡ product p (y % 4294967296) x → FactorOf p v f → FactorOf p (product p x (inverseIn p y)) f
   made {v} {f} e = subst (λ (n : ℕ). FactorOf p n f) (e ∙ (ap (λ (z : ℕ). z % p) (mul-comm (y % 4294967296) x) ∙ ap (λ (z : ℕ). x * z % p) (sym same-32)))
 
--- ---- the inverses
-pub none-kept : (p : ℕ) (coefs starts : List ℕ) → Inverses p coefs starts (replicate 1024 0)
-none-kept p coefs starts = record { long = length-replicate {A = ℕ} 1024 0; each = λ j h. inl (getD-replicate 1024 j 0 0 h) }
-
-module _ {p : ℕ} {coefs starts : List ℕ} {k : ℕ} {inverses : List ℕ} (v : Inverting p coefs starts k inverses) where
+-- ---- the inverse that is asked for
+module _ {p : ℕ} {coefs starts : List ℕ} {k : ℕ} {kept : List ℕ} (v : Inverting p coefs starts k kept) where
   pub inverse-small : inverseOf p (leadCoef coefs starts k) < p
   inverse-small = inverse-below p (leadCoef coefs starts k) (v .prime) (v .pos) (v .small)
 
@@ -155,20 +148,3 @@ module _ {p : ℕ} {coefs starts : List ℕ} {k : ℕ} {inverses : List ℕ} (v 
 
   pub one-is : {x : ℕ} → x ≡ inverseOf p (leadCoef coefs starts k) → {y : ℕ} → y ≡ inOne p x → y ≡ inOne p (inverseOf p (leadCoef coefs starts k))
   one-is e h = h ∙ ap (inOne p) e
-
-module _ {p : ℕ} {coefs starts : List ℕ} {k : ℕ} {inverses : List ℕ} (v : Inverting p coefs starts k inverses) (few : k ≤ 1024) where
-  at-k : k - 1 + 1 ≡ k
-  at-k = omega (arith, v .low)
-
-  pub kept-is : (getD inverses (k - 1) 0 ≡ 0 → ⊥) → getD inverses (k - 1) 0 ≡ inOne p (inverseOf p (leadCoef coefs starts k))
-  kept-is ne = ⊎-elim (λ e. absurd (ne e)) (λ e. e ∙ ap (λ (i : ℕ). inOne p (inverseOf p (leadCoef coefs starts i))) at-k) (v .kept .each (k - 1) (omega (arith, v .low)))
-
-  pub kept-now : {x : ℕ} → x ≡ inOne p (inverseOf p (leadCoef coefs starts k)) → Inverses p coefs starts (set inverses (k - 1) x)
-  kept-now {x} e = record { long = length-set inverses (k - 1) x ∙ v .kept .long; each = λ j h. by j h (same-or-not j (k - 1)) }
-    where
-      by : (j : ℕ) → j < 1024 → (j ≡ k - 1) ⊎ (j ≡ k - 1 → ⊥) → (getD (set inverses (k - 1) x) j 0 ≡ 0) ⊎ (getD (set inverses (k - 1) x) j 0 ≡ inOne p (inverseOf p (leadCoef coefs starts (j + 1))))
-      by j h (inl q) = inr (ap (λ (i : ℕ). getD (set inverses (k - 1) x) i 0) q ∙ (getD-set-same inverses (k - 1) x 0 (let z : k - 1 < length inverses = omega (arith, v .low, v .kept .long) in z) ∙ (e ∙ ap (λ (i : ℕ). inOne p (inverseOf p (leadCoef coefs starts i))) (let z : k ≡ j + 1 = omega (arith, v .low) in z))))
-      by j h (inr q) = ⊎-elim (λ a. inl (same j q ∙ a)) (λ a. inr (same j q ∙ a)) (v .kept .each j h)
-        where
-          same : (j : ℕ) → (j ≡ k - 1 → ⊥) → getD (set inverses (k - 1) x) j 0 ≡ getD inverses j 0
-          same j q = getD-set-other inverses (k - 1) j x 0 q

@@ -1,14 +1,16 @@
--- The divisors as they are lent: what the search for a fitting one, and the inverse of its lead coefficient, ask and give. Assumes nothing.
-use Prim.Native.Nat.{ℕ, _+_, _*_, _/_, _%_, _<_, _≤_}
+-- The divisors as they are lent: what the search for a fitting one, the inverse of its lead coefficient and the highest exponents of its tail ask and give. Assumes nothing.
+use Prim.Native.Nat.{ℕ, _+_, _-_, _*_, _/_, _%_, _<_, _≤_}
 use mathlib.Core.Path.{_≡_}
 use mathlib.Core.Bool.{true, false, cond}
 use mathlib.Core.List.{List}
 use mathlib.Core.Logic.{_⊎_}
 use lib.Dec.{leb}
-use lib.ListN.{length, getD}
+use lib.ListN.{length, getD, set, drop}
 use Rattle.residue.specs.Modular.{Modulus, inverseOf}
 use Rattle.residue.specs.Prime.{Prime}
 use Rattle.monomial.specs.Words.{Packed, dividesWord}
+use Rattle.polynomial.specs.Opening.{partOf}
+use Rattle.multiple.specs.Multiplying.{highestWord}
 
 -- the lead of polynomial k
 abbrev pub leadWord : (words starts : List ℕ) → ℕ → ℕ
@@ -16,6 +18,10 @@ leadWord words starts k = getD words (getD starts k 0) 0
 
 abbrev pub leadCoef : (coefs starts : List ℕ) → ℕ → ℕ
 leadCoef coefs starts k = getD coefs (getD starts k 0) 0
+
+-- the words, or the coefficients, of its tail
+abbrev pub tailOf : (starts : List ℕ) → (k : ℕ) → List ℕ → List ℕ
+tailOf starts k l = drop 1 (partOf starts k l)
 
 -- the leads of the divisors are there
 pub record Leads (words starts : List ℕ) : Type 0 where
@@ -72,17 +78,32 @@ pub record Multiplying (p x kept : ℕ) : Type 0 where
   pub below : inverseIn p kept < p
   pub kept-is : kept ≡ inOne p (inverseIn p kept)
 
--- the inverses of the lead coefficients of the first 1,024 divisors, as far as they were asked for
-pub record Inverses (p : ℕ) (coefs starts inverses : List ℕ) : Type 0 where
-  pub long : length inverses ≡ 1024
-  pub each : (j : ℕ) → j < 1024 → (getD inverses j 0 ≡ 0) ⊎ (getD inverses j 0 ≡ inOne p (inverseOf p (leadCoef coefs starts (j + 1))))
+-- ---- what is kept of the first 1,024 divisors, as far as it was asked for: the inverses of the lead coefficients, then the highest exponents of the tails. 0 stands for what was not asked for yet
 
-pub record Inverting (p : ℕ) (coefs starts : List ℕ) (k : ℕ) (inverses : List ℕ) : Type 0 where
+-- at each divisor's place is its number, or 0
+abbrev pub KeptAt : (place number : ℕ → ℕ) → List ℕ → Type 0
+KeptAt place number kept = (k : ℕ) → 1 ≤ k → k ≤ 1024 → (getD kept (place k) 0 ≡ 0) ⊎ (getD kept (place k) 0 ≡ number k)
+
+pub record KeptNumbers (p : ℕ) (words coefs starts kept : List ℕ) : Type 0 where
+  pub long : length kept ≡ 2048
+  pub inverses : KeptAt (λ k. k - 1) (λ k. inOne p (inverseOf p (leadCoef coefs starts k))) kept
+  pub tails : KeptAt (λ k. 1023 + k) (λ k. highestWord (tailOf starts k words)) kept
+
+-- the number x of divisor k belongs at this place
+pub record Keepable (k at x : ℕ) (kept : List ℕ) : Type 0 where
+  pub low : 1 ≤ k
+  pub long : length kept ≡ 2048
+  pub here : k ≤ 1024 → (getD kept at 0 ≡ 0) ⊎ (getD kept at 0 ≡ x)
+
+-- it was put there, or nothing was changed
+abbrev pub PutOrNot : (k at x : ℕ) (kept kept' : List ℕ) → Type 0
+PutOrNot k at x kept kept' = (kept' ≡ kept) ⊎ ((k ≤ 1024) × (kept' ≡ set kept at x))
+
+pub record Inverting (p : ℕ) (coefs starts : List ℕ) (k : ℕ) (kept : List ℕ) : Type 0 where
   pub modulus : Modulus p
   pub prime : Prime p
-  pub low : 1 ≤ k
   pub there : k < length starts
   pub inside : getD starts k 0 < length coefs
   pub pos : 0 < leadCoef coefs starts k
   pub small : leadCoef coefs starts k < p
-  pub kept : Inverses p coefs starts inverses
+  pub keepable : Keepable k (k - 1) (inOne p (inverseOf p (leadCoef coefs starts k))) kept

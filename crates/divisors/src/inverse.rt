@@ -4,10 +4,10 @@
 use residue::factor::Factor;
 use residue::inverse::invert;
 ghost use mathlib.Core.Path.{_≡_};
-ghost use Prim.Native.Nat.{_+_, _*_, _/_, _<_, _≤_};
+ghost use Prim.Native.Nat.{_+_, _-_, _*_, _/_, _<_, _≤_};
 ghost use Rattle.residue.specs.Modular.{Modulus, product, inverseOf};
 ghost use Rattle.residue.specs.Share.{FactorOf};
-ghost use Rattle.divisors.specs.Divisors.{leadCoef, inOne, inverseIn, Inverting, Inverses, Multiplying};
+ghost use Rattle.divisors.specs.Divisors.{leadCoef, inOne, inverseIn, PutOrNot, Inverting, Multiplying};
 
 const HALF: u64 = 65536;
 
@@ -15,20 +15,20 @@ const WORD: u64 = 4294967296;
 
 // The inverse of the lead coefficient of divisor k, in one number. Those of the first 1,024 divisors
 // are kept, and 0 stands for one that was not asked for yet.
-pub fn lead_inverse(p: u32, coefs: &[u32], starts: &[usize], k: usize, inverses: &mut [u64]) -> u64
-    requires { ⌜ Inverting p (now coefs) (now starts) k (now inverses) ⌝ }
-    ensures { λ r. ⌜ (r ≡ inOne p (inverseOf p (leadCoef (now (coefs .entry)) (now (starts .entry)) k))) × Inverses p (now (coefs .entry)) (now (starts .entry)) (now (inverses .exit)) ⌝ }
+pub fn lead_inverse(p: u32, coefs: &[u32], starts: &[usize], k: usize, kept: &mut [u64]) -> u64
+    requires { ⌜ Inverting p (now coefs) (now starts) k (now kept) ⌝ }
+    ensures { λ r. ⌜ (r ≡ inOne p (inverseOf p (leadCoef (now (coefs .entry)) (now (starts .entry)) k))) × PutOrNot k (k - 1) r (now (kept .entry)) (now (kept .exit)) ⌝ }
 {
     let c = coefs[starts[k]];
     if k > 1024 {
         return in_one(invert(c, p), p);
     }
-    let kept = inverses[k - 1];
-    if kept != 0 {
-        return kept;
+    let known = kept[k - 1];
+    if known != 0 {
+        return known;
     }
     let inverse = in_one(invert(c, p), p);
-    inverses[k - 1] = inverse;
+    kept[k - 1] = inverse;
     inverse
 }
 
