@@ -19,7 +19,8 @@ use Rattle.monomial.proofs.LayoutLaws.{layout-packed}
 use Rattle.polynomial.specs.Terms.{Term, term, terms, All, Canonical}
 use Rattle.polynomial.specs.Opening.{partOf, Within}
 use Rattle.polynomial.proofs.StartLaws.{part-long}
-use Rattle.multiple.specs.Multiplying.{AllPacked, anyOver}
+use Rattle.multiple.specs.Multiplying.{AllPacked, overOne, anyOver, highestWord}
+use Rattle.multiple.proofs.HighestLaws.{highest-packed, any-over}
 use Rattle.geobucket.specs.Buckets.{held}
 use Rattle.space.specs.Space.{Buckets, heldIn, dropped, Spaces, wordsIn}
 use Rattle.space.proofs.InWords.{held-is as held-places}
@@ -33,10 +34,11 @@ use Rattle.division.specs.Divisors.{Valid}
 use Rattle.division.specs.Steps.{anyTooLarge, overWord}
 use Rattle.division.proofs.TailLaws.{multiplier-good, Added as Addable, tail-added}
 use Rattle.division.proofs.WordOperations.{word-operations}
-use Rattle.divisors.specs.Divisors.{leadWord, leadCoef, inOne, inverseIn, Inverting, Multiplying}
+use Rattle.divisors.specs.Divisors.{leadWord, leadCoef, tailOf, inOne, inverseIn, KeptNumbers, Keepable, PutOrNot, Inverting, Multiplying}
 use Rattle.reducer.specs.Divisors.{OfLayout}
-use Rattle.reducer.specs.Dividing.{timesTail, TailAddition, TailAdded, tailOf, Dividing, toAdd, DividedTo, over, many, divided, Divided}
+use Rattle.reducer.specs.Dividing.{timesTail, TailAddition, TailAdded, Dividing, toAdd, DividedTo, over, many, divided, Divided}
 use Rattle.divisors.proofs.InverseLaws.{multiplying}
+use Rattle.divisors.proofs.KeptLaws.{inverse-asks, inverse-kept, tail-asks, tail-kept}
 
 -- the same places, with the buckets elsewhere
 abbrev pub placed : Buckets → Spaces → Spaces
@@ -69,7 +71,7 @@ part-cons starts k l w rises = by (getD starts (k + 1) 0 - getD starts k 0) (let
 pub from-one : (l : List ℕ) → 1 ≤ length l → take (length l - 1) (drop 1 l) ≡ drop 1 l
 from-one l h = take-all (length l - 1) (drop 1 l) (omega (arith, length-drop 1 l))
 
-module _ {o : Order} {p : ℕ} {words coefs starts : List ℕ} {k : ℕ} {s : State} {lead : Candidate} {inverses : List ℕ} {x : Spaces} (a : Dividing o p words coefs starts k s lead inverses x) where
+module _ {o : Order} {p : ℕ} {words coefs starts : List ℕ} {k : ℕ} {s : State} {lead : Candidate} {kept : List ℕ} {x : Spaces} (a : Dividing o p words coefs starts k s lead kept x) where
   -- ---- the divisor
   pub words-part : Within starts k (length words)
   words-part = a .checked .parts k (a .high)
@@ -115,18 +117,6 @@ module _ {o : Order} {p : ℕ} {words coefs starts : List ℕ} {k : ℕ} {s : St
   tail-packed = all-packed o (a .checked .weights) (a .checked .small) (tailOf starts k words) (tailOf starts k coefs) tail-long (valid .are .1)
 
   -- ---- the factor
-  pub inverting : Inverting p coefs starts k inverses
-  inverting = record {
-    modulus = a .checked .modulus;
-    prime = a .checked .prime;
-    low = a .low;
-    there = omega (arith, a .high);
-    inside = inside;
-    pos = valid .canonical .reduced .0 .0;
-    small = valid .canonical .reduced .0 .1;
-    kept = a .kept;
-  }
-
   abbrev multiplier : ℕ
   multiplier = product p (negative p (lead .coef)) (inverseOf p (leadCoef coefs starts k))
 
@@ -149,7 +139,7 @@ module _ {o : Order} {p : ℕ} {words coefs starts : List ℕ} {k : ℕ} {s : St
       made : timesTail f q' tw tc ≡ toAdd o p words coefs starts k s lead x
       made = rw (ef .prime-is, ef .value-is, ev, eq, etw, etc) refl
 
-      pub tail-addition : TailAddition o p f q' tw tc r (placed b₁ x)
+      tail-addition : TailAddition o p f q' tw tc r (placed b₁ x)
       tail-addition =
           subst (λ (y : State). TailAddition o p f q' tw tc y (placed b₁ x)) (sym er)
           (subst (λ (y : Buckets). TailAddition o p f q' tw tc (finishedOne s) (placed y x)) (sym eb₁)
@@ -171,7 +161,7 @@ module _ {o : Order} {p : ℕ} {words coefs starts : List ℕ} {k : ℕ} {s : St
             few-brought = a .few-brought;
           }))
 
-      pub divided-done : {s' : State} {x' : Spaces} → TailAdded o p f q' tw tc r (placed b₁ x) s' x' → DividedTo o p words coefs starts k s lead x s' x'
+      divided-done : {s' : State} {x' : Spaces} → TailAdded o p f q' tw tc r (placed b₁ x) s' x' → DividedTo o p words coefs starts k s lead x s' x'
       divided-done {s'} {x'} d =
           divided none few (d .comparisons)
           (subst (λ (l : List (Term ℕ)). Added o p (without (lead .bucket) x) l x' (d .comparisons)) made (subst (λ (y : Buckets). Added o p (placed y x) (timesTail f q' tw tc) x' (d .comparisons)) eb₁ (d .done)))
@@ -188,29 +178,8 @@ module _ {x : ℕ} {l gs : List ℕ} (cons : l ≡ x ∷ drop 1 l) (e : gs ≡ l
   pub part-tail : take (length gs - 1) (drop 1 gs) ≡ drop 1 l
   part-tail = from-one gs part-some ∙ ap (drop 1) e
 
--- ---- the tests, as the code makes them
-module _ {o : Order} {p : ℕ} {words coefs starts : List ℕ} {k : ℕ} {s : State} {lead : Candidate} {inverses : List ℕ} {x : Spaces} (a : Dividing o p words coefs starts k s lead inverses x) where
-  module _ {q' : ℕ} (eq : q' ≡ lead .word - leadWord words starts k) {tw : List ℕ} (etw : tw ≡ tailOf starts k words) where
-    pub any-asks : Packed q' × AllPacked tw
-    any-asks = (subst Packed (sym eq) (quotient-packed a), subst AllPacked (sym etw) (tail-packed a))
-
-  module _ {t : Bool} {q' : ℕ} {tw : List ℕ} (eb : t ≡ anyOver q' tw) (eq : q' ≡ lead .word - leadWord words starts k) (etw : tw ≡ tailOf starts k words) where
-    is-over : t ≡ anyOver (lead .word - leadWord words starts k) (tailOf starts k words)
-    is-over = eb ∙ ap₂ anyOver eq etw
-
-    pub over-done : t ≡ true → {s' : State} → s' ≡ halted s ExponentOver → Divided o p words coefs starts k s lead x s' inverses x
-    over-done h e = record { kept = a .kept; done = over (sym is-over ∙ h) e refl }
-
-    module _ (no : t ≡ false) {n : ℕ} (en : n ≡ heldIn (x .places)) where
-      pub not-over : anyOver (lead .word - leadWord words starts k) (tailOf starts k words) ≡ false
-      not-over = sym is-over ∙ no
-
-      pub many-done : mostTerms < n - 1 + length tw → {s' : State} → s' ≡ halted s TooManyTerms → Divided o p words coefs starts k s lead x s' inverses x
-      many-done h e = record { kept = a .kept; done = many not-over (let z : mostTerms < held (wordsIn o (without (lead .bucket) x)) + length (tailOf starts k words) = omega (arith, a .one-less, held-is a, ap length etw) in z) e refl }
-
-      pub few-held : n - 1 + length tw ≤ mostTerms → held (wordsIn o (without (lead .bucket) x)) + length (tailOf starts k words) ≤ mostTerms
-      few-held h = omega (arith, a .one-less, held-is a, ap length etw)
-
+-- ---- what the code finds and tests: gw and gc are the divisor, q' is the quotient
+module _ {o : Order} {p : ℕ} {words coefs starts : List ℕ} {k : ℕ} {s : State} {lead : Candidate} {kept : List ℕ} {x : Spaces} (a : Dividing o p words coefs starts k s lead kept x) where
   module _ {n : ℕ} (en : n ≡ heldIn (x .places)) where
     pub held-some : 1 ≤ n
     held-some = omega (arith, a .one-less, held-is a)
@@ -218,7 +187,7 @@ module _ {o : Order} {p : ℕ} {words coefs starts : List ℕ} {k : ℕ} {s : St
     pub held-few : n ≤ mostTerms
     held-few = omega (arith, a .room, held-is a)
 
-  -- ---- −c divided by the lead coefficient
+  -- −c divided by the lead coefficient
   module _ {v : ℕ} (ev : v ≡ negative p (lead .coef)) {i : ℕ} (ei : i ≡ inOne p (inverseOf p (leadCoef coefs starts k))) where
     asked : Multiplying p v i × (inverseIn p i ≡ inverseOf p (leadCoef coefs starts k))
     asked = multiplying (a .checked .modulus) (inverse-below p (leadCoef coefs starts k) (a .checked .prime) (valid a .canonical .reduced .0 .0) (valid a .canonical .reduced .0 .1)) (omega (arith, ev, negative-below p pos (lead .coef))) ei
@@ -229,5 +198,67 @@ module _ {o : Order} {p : ℕ} {words coefs starts : List ℕ} {k : ℕ} {s : St
     pub factor-asks : Multiplying p v i
     factor-asks = asked .0
 
-    pub multiplier-is : product p v (inverseIn p i) ≡ product p (negative p (lead .coef)) (inverseOf p (leadCoef coefs starts k))
+    multiplier-is : product p v (inverseIn p i) ≡ product p (negative p (lead .coef)) (inverseOf p (leadCoef coefs starts k))
     multiplier-is = ap₂ (product p) ev (asked .1)
+
+  module _ {gw : List ℕ} (ew : gw ≡ partOf starts k words) {q' : ℕ} (eq : q' ≡ lead .word - getD gw 0 0) where
+    abbrev tw : List ℕ
+    tw = take (length gw - 1) (drop 1 gw)
+
+    quotient-is : q' ≡ lead .word - leadWord words starts k
+    quotient-is = eq ∙ ap (λ (y : ℕ). lead .word - y) (part-lead (words-cons a) ew)
+
+    tail-is : tw ≡ tailOf starts k words
+    tail-is = part-tail (words-cons a) ew
+
+    packed : AllPacked tw
+    packed = subst AllPacked (sym tail-is) (tail-packed a)
+
+    pub highest-asks : AllPacked tw × Keepable k (1023 + k) (highestWord tw) kept
+    highest-asks = (packed, tail-asks (a .numbers) (a .low) tail-is)
+
+    -- h are the highest exponents of the tail
+    module _ {h : ℕ} {kept₁ : List ℕ} (eh : (h ≡ highestWord tw) × PutOrNot k (1023 + k) h kept kept₁) where
+      pub over-asks : Packed q' × Packed h
+      over-asks = (subst Packed (sym quotient-is) (quotient-packed a), subst Packed (sym (eh .0)) (highest-packed tw packed))
+
+      still-kept : KeptNumbers p words coefs starts kept₁
+      still-kept = tail-kept (a .numbers) (a .low) tail-is (eh .0) (eh .1)
+
+      pub inverting : Inverting p coefs starts k kept₁
+      inverting = record {
+        modulus = a .checked .modulus;
+        prime = a .checked .prime;
+        there = omega (arith, a .high);
+        inside = inside a;
+        pos = valid a .canonical .reduced .0 .0;
+        small = valid a .canonical .reduced .0 .1;
+        keepable = inverse-asks still-kept (a .low);
+      }
+
+      module _ {t : Bool} (et : t ≡ overOne q' h) where
+        is-over : t ≡ anyOver (lead .word - leadWord words starts k) (tailOf starts k words)
+        is-over = et ∙ (ap (overOne q') (eh .0) ∙ (any-over q' tw (over-asks .0) packed ∙ ap₂ anyOver quotient-is tail-is))
+
+        pub over-done : t ≡ true → {s' : State} → s' ≡ halted s ExponentOver → Divided o p words coefs starts k s lead x s' kept₁ x
+        over-done y e = record { numbers = still-kept; done = over (sym is-over ∙ y) e refl }
+
+        module _ (no : t ≡ false) {n : ℕ} (en : n ≡ heldIn (x .places)) where
+          not-over : anyOver (lead .word - leadWord words starts k) (tailOf starts k words) ≡ false
+          not-over = sym is-over ∙ no
+
+          pub many-done : mostTerms < n - 1 + length tw → {s' : State} → s' ≡ halted s TooManyTerms → Divided o p words coefs starts k s lead x s' kept₁ x
+          many-done l e = record { numbers = still-kept; done = many not-over (let z : mostTerms < held (wordsIn o (without (lead .bucket) x)) + length (tailOf starts k words) = omega (arith, a .one-less, held-is a, ap length tail-is) in z) e refl }
+
+          module _ (l : n - 1 + length tw ≤ mostTerms) {gc : List ℕ} (ec : gc ≡ partOf starts k coefs) {i : ℕ} {kept₂ : List ℕ} (ei : (i ≡ inOne p (inverseOf p (leadCoef coefs starts k))) × PutOrNot k (k - 1) i kept₁ kept₂) {v : ℕ} (ev : v ≡ negative p (lead .coef)) {f : Factor} (ef : FactorOf p (product p v (inverseIn p i)) f) {b₁ : Buckets} (eb₁ : b₁ ≡ dropped (x .places) (lead .bucket)) {r : State} (er : r ≡ finishedOne s) where
+            abbrev tc : List ℕ
+            tc = take (length gc - 1) (drop 1 gc)
+
+            few : held (wordsIn o (without (lead .bucket) x)) + length (tailOf starts k words) ≤ mostTerms
+            few = omega (arith, a .one-less, held-is a, ap length tail-is)
+
+            pub add-asks : TailAddition o p f q' tw tc r (placed b₁ x)
+            add-asks = tail-addition a not-over few quotient-is tail-is (part-tail (coefs-cons a) ec) (multiplier-is ev (ei .0)) ef er eb₁
+
+            pub divided-so : {s' : State} {x' : Spaces} → TailAdded o p f q' tw tc r (placed b₁ x) s' x' → Divided o p words coefs starts k s lead x s' kept₂ x'
+            divided-so d = record { numbers = inverse-kept still-kept (a .low) (ei .0) (ei .1); done = divided-done a not-over few quotient-is tail-is (part-tail (coefs-cons a) ec) (multiplier-is ev (ei .0)) ef er eb₁ d }

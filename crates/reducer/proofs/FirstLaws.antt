@@ -16,9 +16,8 @@ use Rattle.division.specs.Choice.{unfit, fits, firstFrom, chosen}
 use Rattle.division.specs.Divisors.{Valid}
 use Rattle.division.proofs.FitLaws.{first-none, first-here, first-later}
 use Rattle.call.specs.Lending.{polynomial, divisorsOf}
-use Rattle.divisors.specs.Divisors.{leadWord, leadCoef, Leads, FirstFit}
+use Rattle.divisors.specs.Divisors.{leadWord, leadCoef, tailOf, Leads, FirstFit}
 use Rattle.reducer.specs.Divisors.{OfLayout, Checked}
-use Rattle.reducer.specs.Dividing.{tailOf}
 use Rattle.reducer.proofs.DivideLaws.{part-cons}
 
 module _ {o : Order} {p : ℕ} {words coefs starts : List ℕ} (c : Checked o p words coefs starts) where

@@ -28,7 +28,7 @@ use Rattle.division.specs.Divisors.{AllOf}
 use Rattle.division.specs.Steps.{overWord, stepsFrom, reductionOfWords}
 use Rattle.division.proofs.HeldTerms.{Every, add-every}
 use Rattle.division.proofs.Endings.{begins, begins-not}
-use Rattle.divisors.specs.Divisors.{KeptLeads, Inverses}
+use Rattle.divisors.specs.Divisors.{KeptLeads, KeptNumbers}
 use Rattle.reducer.specs.Divisors.{OfLayout}
 use Rattle.reducer.specs.Stepping.{Ended, Going, Reaches, Sound, Stepping, Stepped, Beginning, Begun, refused, added, Reducible, Reduced}
 use Rattle.reducer.proofs.BeginLaws.{held-none, none-held, none-standing}
@@ -39,9 +39,9 @@ abbrev pub leftBy : Bool → ℕ → ℕ
 leftBy true n = suc n
 leftBy false n = 0
 
-pub record Turning (o : Order) (p : ℕ) (words coefs starts : List ℕ) (limit : ℕ) (ow₀ oc₀ : List ℕ) (x : Spaces) (ww wc bw bc ow oc inverses : List ℕ) (s : State) : Type 0 where
+pub record Turning (o : Order) (p : ℕ) (words coefs starts : List ℕ) (limit : ℕ) (ow₀ oc₀ : List ℕ) (x : Spaces) (ww wc bw bc ow oc kept : List ℕ) (s : State) : Type 0 where
   pub sound : Sound o p words coefs starts limit s x ow oc
-  pub kept : Inverses p coefs starts inverses
+  pub numbers : KeptNumbers p words coefs starts kept
   pub slices : Slices ww wc bw bc
   pub out-long : length ow ≡ length ow₀
   pub coefs-out-long : length oc ≡ length oc₀
@@ -72,8 +72,8 @@ module _ {o : Order} {p : ℕ} {words coefs starts : List ℕ} {limit : ℕ} (a 
       pub beginning : Beginning p b
       beginning = record { none = l .none; modulus = a .checked .modulus }
 
-      module _ {inverses ww' wc' bw' bc' : List ℕ} (i : Inverses p coefs starts inverses) (q' : Slices ww' wc' bw' bc') where
-        pub turn-start : {s : State} {x' : Spaces} → Begun o p (terms fw fc) (spaces b ww wc bw bc) s x' → Turning o p words coefs starts limit ow oc x' ww' wc' bw' bc' ow oc inverses s
+      module _ {kept ww' wc' bw' bc' : List ℕ} (i : KeptNumbers p words coefs starts kept) (q' : Slices ww' wc' bw' bc') where
+        pub turn-start : {s : State} {x' : Spaces} → Begun o p (terms fw fc) (spaces b ww wc bw bc) s x' → Turning o p words coefs starts limit ow oc x' ww' wc' bw' bc' ow oc kept s
         turn-start {s} {x'} d = by d
           where
             gs : List (List (Term ℕ))
@@ -88,10 +88,10 @@ module _ {o : Order} {p : ℕ} {words coefs starts : List ℕ} {limit : ℕ} (a 
             f-is : terms fw fc ≡ polynomial words coefs starts 0
             f-is = ap₂ terms ew ec
 
-            from : (x : State) (y : Spaces) → Sound o p words coefs starts limit x y ow oc → Reaches o p (divisorsOf words coefs starts) (length ow) limit x y ow oc (reductionOfWords o p (divisorsOf words coefs starts) (length ow) limit (polynomial words coefs starts 0)) → Turning o p words coefs starts limit ow oc y ww' wc' bw' bc' ow oc inverses x
+            from : (x : State) (y : Spaces) → Sound o p words coefs starts limit x y ow oc → Reaches o p (divisorsOf words coefs starts) (length ow) limit x y ow oc (reductionOfWords o p (divisorsOf words coefs starts) (length ow) limit (polynomial words coefs starts 0)) → Turning o p words coefs starts limit ow oc y ww' wc' bw' bc' ow oc kept x
             from x y s r = record {
               sound = s;
-              kept = i;
+              numbers = i;
               slices = q';
               out-long = refl;
               coefs-out-long = refl;
@@ -100,11 +100,11 @@ module _ {o : Order} {p : ℕ} {words coefs starts : List ℕ} {limit : ℕ} (a 
               coefs-past = refl;
             }
 
-            by : Begun o p (terms fw fc) (spaces b ww wc bw bc) s x' → Turning o p words coefs starts limit ow oc x' ww' wc' bw' bc' ow oc inverses s
+            by : Begun o p (terms fw fc) (spaces b ww wc bw bc) s x' → Turning o p words coefs starts limit ow oc x' ww' wc' bw' bc' ow oc kept s
             by (refused h es ex) =
                 let x : State = halted begun TooManyTerms in
                 rw ex
-                (subst (λ (y : State). Turning o p words coefs starts limit ow oc (spaces b ww wc bw bc) ww' wc' bw' bc' ow oc inverses y) (sym es)
+                (subst (λ (y : State). Turning o p words coefs starts limit ow oc (spaces b ww wc bw bc) ww' wc' bw' bc' ow oc kept y) (sym es)
                 (from x (spaces b ww wc bw bc)
                 (record {
                   checked = a .checked;
@@ -129,7 +129,7 @@ module _ {o : Order} {p : ℕ} {words coefs starts : List ℕ} {limit : ℕ} (a 
                 let valid = a .checked .valid 0 (omega (arith, a .checked .some)) in
                 let lists : wordsIn o x' ≡ add (compareWords o) p f empty = e .lists-are ∙ ap (add (compareWords o) p f) none in
                 let x : State = brought (counted begun n) (length f) in
-                subst (λ (y : State). Turning o p words coefs starts limit ow oc x' ww' wc' bw' bc' ow oc inverses y) (sym es)
+                subst (λ (y : State). Turning o p words coefs starts limit ow oc x' ww' wc' bw' bc' ow oc kept y) (sym es)
                 (from x x'
                 (record {
                   checked = a .checked;
@@ -160,27 +160,27 @@ module _ {o : Order} {p : ℕ} {words coefs starts : List ℕ} {limit : ℕ} (a 
                 }))
 
   -- ---- in a turn
-  module _ {ow₀ oc₀ : List ℕ} {x : Spaces} {ww wc bw bc ow oc inverses : List ℕ} {s : State} (v : Turning o p words coefs starts limit ow₀ oc₀ x ww wc bw bc ow oc inverses s) where
+  module _ {ow₀ oc₀ : List ℕ} {x : Spaces} {ww wc bw bc ow oc kept : List ℕ} {s : State} (v : Turning o p words coefs starts limit ow₀ oc₀ x ww wc bw bc ow oc kept s) where
     module _ (more : goesOn (s .course) ≡ true) where
-      pub turn-asks : {leads : List ℕ} → KeptLeads words starts leads → Stepping o p words coefs starts leads limit s inverses x ow oc
+      pub turn-asks : {leads : List ℕ} → KeptLeads words starts leads → Stepping o p words coefs starts leads limit s kept x ow oc
       turn-asks l = record {
         few-steps = a .few-steps;
         more = more;
         sound = v .sound;
         leads-kept = l;
-        kept = v .kept;
+        numbers = v .numbers;
       }
 
-      module _ {s' : State} {inverses' : List ℕ} {x' : Spaces} {ow' oc' : List ℕ} (d : Stepped o p words coefs starts limit s x ow oc s' inverses' x' ow' oc') where
+      module _ {s' : State} {kept' : List ℕ} {x' : Spaces} {ow' oc' : List ℕ} (d : Stepped o p words coefs starts limit s x ow oc s' kept' x' ow' oc') where
         past : {i j : ℕ} (l m : List ℕ) → i ≤ j → drop i l ≡ drop i m → drop j l ≡ drop j m
         past {i} {j} l m le e =
             let z : i + (j - i) ≡ j = omega arith in
             ap (λ (n : ℕ). drop n l) (sym z) ∙ (sym (drop-drop (j - i) i l) ∙ (ap (drop (j - i)) e ∙ (drop-drop (j - i) i m ∙ ap (λ (n : ℕ). drop n m) z)))
 
-        pub turn-on : {ww' wc' bw' bc' : List ℕ} → length ww' ≡ length ww → length wc' ≡ length wc → length bw' ≡ length bw → length bc' ≡ length bc → length ow' ≡ length ow → length oc' ≡ length oc → Turning o p words coefs starts limit ow₀ oc₀ x' ww' wc' bw' bc' ow' oc' inverses' s'
+        pub turn-on : {ww' wc' bw' bc' : List ℕ} → length ww' ≡ length ww → length wc' ≡ length wc → length bw' ≡ length bw → length bc' ≡ length bc → length ow' ≡ length ow → length oc' ≡ length oc → Turning o p words coefs starts limit ow₀ oc₀ x' ww' wc' bw' bc' ow' oc' kept' s'
         turn-on lw lc lbw lbc low loc = record {
           sound = d .sound;
-          kept = d .kept;
+          numbers = d .numbers;
           slices = record { work-words = lw ∙ v .slices .work-words; work-coefs = lc ∙ v .slices .work-coefs; words-long = lbw ∙ v .slices .words-long; coefs-long = lbc ∙ v .slices .coefs-long };
           out-long = low ∙ v .out-long;
           coefs-out-long = loc ∙ v .coefs-out-long;

@@ -46,10 +46,10 @@ use Rattle.division.proofs.TailLaws.{Added as Addable}
 use Rattle.division.proofs.Lasts.{with-every}
 use Rattle.division.proofs.WholeLaws.{left-none, left-held}
 use Rattle.division.proofs.StepLaws.{step-none, step-limit, step-kept, step-full, step-large, step-many, step-divided}
-use Rattle.divisors.specs.Divisors.{leadWord, leadCoef, Leads, FirstFit, KeptLeads, Inverses}
+use Rattle.divisors.specs.Divisors.{leadWord, leadCoef, tailOf, Leads, FirstFit, KeptLeads, KeptNumbers}
 use Rattle.call.specs.Lending.{divisorsOf}
 use Rattle.reducer.specs.Divisors.{OfLayout}
-use Rattle.reducer.specs.Dividing.{Dividing, DividedTo, over, many, divided, Divided, tailOf}
+use Rattle.reducer.specs.Dividing.{Dividing, DividedTo, over, many, divided, Divided}
 use Rattle.reducer.specs.Stepping.{Searched, no-lead, no-step, one-step, Keeping, Kept, full, put, remainderIn, Ended, Sound, Stepping, Stepped}
 use Rattle.reducer.proofs.DivideLaws.{placed, over-terms, tail-long, to-add}
 use Rattle.reducer.proofs.FirstLaws.{leads-there, fit-none, fit-some}
@@ -70,11 +70,11 @@ of-every P [] a = tt
 of-every P (b ∷ bs) a = (a .0, of-every P bs (a .1))
 
 -- ---- the search
-pub searches : {o : Order} {p : ℕ} {words coefs starts leads : List ℕ} {limit : ℕ} {s : State} {inverses : List ℕ} {x₀ : Spaces} {ow oc : List ℕ} → Stepping o p words coefs starts leads limit s inverses x₀ ow oc → {x₁ : Spaces} {k : Candidate} → Found o p x₀ x₁ k → Countable (s .comparisons) (k .count)
+pub searches : {o : Order} {p : ℕ} {words coefs starts leads : List ℕ} {limit : ℕ} {s : State} {kept : List ℕ} {x₀ : Spaces} {ow oc : List ℕ} → Stepping o p words coefs starts leads limit s kept x₀ ow oc → {x₁ : Spaces} {k : Candidate} → Found o p x₀ x₁ k → Countable (s .comparisons) (k .count)
 searches a d = omega (arith, a .sound .few-comparisons (a .more), a .sound .few-leads, a .few-steps, d .few)
 
 -- ---- once the lead was searched for
-module _ {o : Order} {p : ℕ} {words coefs starts leads : List ℕ} {limit : ℕ} {s : State} {inverses : List ℕ} {x₀ : Spaces} {ow oc : List ℕ} (a : Stepping o p words coefs starts leads limit s inverses x₀ ow oc)
+module _ {o : Order} {p : ℕ} {words coefs starts leads : List ℕ} {limit : ℕ} {s : State} {kept : List ℕ} {x₀ : Spaces} {ow oc : List ℕ} (a : Stepping o p words coefs starts leads limit s kept x₀ ow oc)
     {x₁ : Spaces} {k : Candidate} (d : Found o p x₀ x₁ k) {t : State} (et : t ≡ counted s (k .count)) where
   abbrev cmp : ℕ → ℕ → Ordering
   cmp = compareWords o
@@ -141,12 +141,12 @@ module _ {o : Order} {p : ℕ} {words coefs starts leads : List ℕ} {limit : �
       })
 
   halted-step : (r : Course) → goesOn r ≡ false → ((w : events.Work ℕ) → Counts o s x₀ w → stepsFrom (compareWords o) (chosen dividesWord (divisorsOf words coefs starts)) _-_ _+_ overWord p (length ow) (limit - s .finished) (s .finished) (remainderIn s ow oc) w ≡ stoppedBy (compareWords o) p (stopOf r) (s .finished) (remainderIn s ow oc) w)
-      → {s' : State} → s' ≡ turned t r → {inverses' : List ℕ} → Inverses p coefs starts inverses' → Stepped o p words coefs starts limit s x₀ ow oc s' inverses' x₁ ow oc
-  halted-step r off steps {s'} es {inverses'} i =
-      subst (λ (x : State). Stepped o p words coefs starts limit s x₀ ow oc x inverses' x₁ ow oc) (sym (es ∙ ap (λ (x : State). turned x r) et))
+      → {s' : State} → s' ≡ turned t r → {kept' : List ℕ} → KeptNumbers p words coefs starts kept' → Stepped o p words coefs starts limit s x₀ ow oc s' kept' x₁ ow oc
+  halted-step r off steps {s'} es {kept'} i =
+      subst (λ (x : State). Stepped o p words coefs starts limit s x₀ ow oc x kept' x₁ ow oc) (sym (es ∙ ap (λ (x : State). turned x r) et))
       (record {
         sound = halted-sound r off;
-        kept = i;
+        numbers = i;
         further = λ e. absurd (false-true (sym off ∙ e));
         reaches = λ R g. record {
           going = λ e. absurd (false-true (sym off ∙ e));
@@ -158,11 +158,11 @@ module _ {o : Order} {p : ℕ} {words coefs starts leads : List ℕ} {limit : �
       })
 
   -- ---- zero was found
-  pub zero-step : k .bucket ≡ 6 → {s' : State} → s' ≡ closed t → Stepped o p words coefs starts limit s x₀ ow oc s' inverses x₁ ow oc
+  pub zero-step : k .bucket ≡ 6 → {s' : State} → s' ≡ closed t → Stepped o p words coefs starts limit s x₀ ow oc s' kept x₁ ow oc
   zero-step h es =
       halted-step Finished refl
       (λ w c. step-none cmp (chosen dividesWord (divisorsOf words coefs starts)) _-_ _+_ overWord p (length ow) (limit - s .finished) (s .finished) (remainderIn s ow oc) w (ap (λ (x : List (List (Term ℕ))). search cmp p x .answer) (sym (c .buckets-are)) ∙ no-answer (a .sound .stands) d h))
-      es (a .kept)
+      es (a .numbers)
 
   -- ---- a lead was found
   module _ (ne : k .bucket ≡ 6 → ⊥) where
@@ -197,13 +197,13 @@ module _ {o : Order} {p : ℕ} {words coefs starts leads : List ℕ} {limit : �
     taken = d .removed ne
 
     -- no step is left
-    pub limit-step : t .finished ≡ limit → {s' : State} → s' ≡ halted t StepLimit → Stepped o p words coefs starts limit s x₀ ow oc s' inverses x₁ ow oc
+    pub limit-step : t .finished ≡ limit → {s' : State} → s' ≡ halted t StepLimit → Stepped o p words coefs starts limit s x₀ ow oc s' kept x₁ ow oc
     limit-step h es =
         let h' : s .finished ≡ limit = ap (λ (x : State). x .finished) (sym et) ∙ h in
         let none-left : limit - s .finished ≡ 0 = omega arith in
         halted-step (Refused StepLimit) refl
         (λ w c. ap (λ (m : ℕ). stepsFrom cmp (chosen dividesWord (divisorsOf words coefs starts)) _-_ _+_ overWord p (length ow) m (s .finished) (remainderIn s ow oc) w) none-left ∙ step-limit cmp (chosen dividesWord (divisorsOf words coefs starts)) _-_ _+_ overWord p (length ow) (s .finished) (remainderIn s ow oc) w (L .at) (L .term) (in-work w c))
-        es (a .kept)
+        es (a .numbers)
 
     pub first-asks : Leads words starts × KeptLeads words starts leads × Packed (k .word)
     first-asks = (leads-there (a .sound .checked), a .leads-kept, layout-packed o 6 (a .sound .checked .weights) (k .word) (omega arith) word-layout (a .sound .checked .small))
@@ -224,7 +224,7 @@ module _ {o : Order} {p : ℕ} {words coefs starts leads : List ℕ} {limit : �
 
       -- ---- the lead is divided by divisor i
       module _ {i : ℕ} (f : FirstFit words starts (k .word) i) where
-        pub divide-asks : i + 1 < length starts → Dividing o p words coefs starts i t k inverses x₁
+        pub divide-asks : i + 1 < length starts → Dividing o p words coefs starts i t k kept x₁
         divide-asks high =
             record {
               checked = a .sound .checked;
@@ -239,7 +239,7 @@ module _ {o : Order} {p : ℕ} {words coefs starts leads : List ℕ} {limit : �
               of-layout = word-layout;
               coef-pos = omega (arith, coef-is, reduced .0);
               coef-small = omega (arith, coef-is, reduced .1);
-              kept = a .kept;
+              numbers = a .numbers;
               few-leads = subst (λ (x : State). x .finished < 10000000000000) (sym et) (omega (arith, few, a .few-steps));
               few-comparisons = subst (λ (x : State). x .comparisons < 2000000000000000000) (sym et) (omega (arith, few, a .few-steps, a .sound .few-comparisons (a .more), d .few));
               few-brought = subst (λ (x : State). x .brought < 2000000000000000000) (sym et) (omega (arith, few, a .few-steps, a .sound .few-brought (a .more)));
@@ -252,7 +252,7 @@ module _ {o : Order} {p : ℕ} {words coefs starts leads : List ℕ} {limit : �
 
         -- the definition finds the same divisor
         module _ (high : i + 1 < length starts) where
-          D : Dividing o p words coefs starts i t k inverses x₁
+          D : Dividing o p words coefs starts i t k kept x₁
           D = divide-asks high
 
           g : Term ℕ
@@ -280,11 +280,11 @@ module _ {o : Order} {p : ℕ} {words coefs starts leads : List ℕ} {limit : �
           at-more : (w : events.Work ℕ) {x : Reduction ℕ} → Steps (suc (limit - suc (s .finished))) (s .finished) (remainderIn s ow oc) w ≡ x → Steps (limit - s .finished) (s .finished) (remainderIn s ow oc) w ≡ x
           at-more w e = ap (λ (m : ℕ). Steps m (s .finished) (remainderIn s ow oc) w) one-left ∙ e
 
-          divided-to : {inverses' : List ℕ} → Inverses p coefs starts inverses' → {x' : Spaces} {m : ℕ}
+          divided-to : {kept' : List ℕ} → KeptNumbers p words coefs starts kept' → {x' : Spaces} {m : ℕ}
               → anyOver (k .word - leadWord words starts i) (tailOf starts i words) ≡ false → held (wordsIn o (without (k .bucket) x₁)) + length (tailOf starts i words) ≤ mostTerms
               → Added o p (without (k .bucket) x₁) (tailMultiple _-_ _+_ p (L .term) (term (leadWord words starts i) (leadCoef coefs starts i)) (terms (tailOf starts i words) (tailOf starts i coefs))) x' m
               → Addable (compareWords o) p (OfLayout o (a .sound .checked .weights)) (L .term) (tailMultiple _-_ _+_ p (L .term) (term (leadWord words starts i) (leadCoef coefs starts i)) (terms (tailOf starts i words) (tailOf starts i coefs)))
-              → Stepped o p words coefs starts limit s x₀ ow oc (brought (counted (finishedOne (counted s (k .count))) m) (length (tailOf starts i words))) inverses' x' ow oc
+              → Stepped o p words coefs starts limit s x₀ ow oc (brought (counted (finishedOne (counted s (k .count))) m) (length (tailOf starts i words))) kept' x' ow oc
           divided-to i' {x'} {m} no-over small e u = record {
             sound = record {
               checked = a .sound .checked;
@@ -298,7 +298,7 @@ module _ {o : Order} {p : ℕ} {words coefs starts leads : List ℕ} {limit : �
               few-comparisons = λ q. omega (arith, a .sound .few-comparisons (a .more), d .few, e .few);
               few-brought = λ q. omega (arith, a .sound .few-brought (a .more), small);
             };
-            kept = i';
+            numbers = i';
             further = λ q. (refl, few);
             reaches = λ R v. record {
               going = λ q. record {
@@ -333,24 +333,24 @@ module _ {o : Order} {p : ℕ} {words coefs starts leads : List ℕ} {limit : �
                   let z : m ≡ length (addCompared cmp p h (search cmp p (w .buckets) .buckets)) = e .count-is ∙ ap (λ (x : List (List (Term ℕ))). length (addCompared cmp p h x)) (sym (rest-is w c)) in
                   omega (arith, x, y, z, length-append (w .pairs) (search cmp p (w .buckets) .pairs), length-append (w .pairs ++ search cmp p (w .buckets) .pairs) (addCompared cmp p h (search cmp p (w .buckets) .buckets)))
 
-          pub divided-step : {s' : State} {inverses' : List ℕ} {x' : Spaces} → Divided o p words coefs starts i t k x₁ s' inverses' x' → Stepped o p words coefs starts limit s x₀ ow oc s' inverses' x' ow oc
+          pub divided-step : {s' : State} {kept' : List ℕ} {x' : Spaces} → Divided o p words coefs starts i t k x₁ s' kept' x' → Stepped o p words coefs starts limit s x₀ ow oc s' kept' x' ow oc
           unfolding D divide-asks
-          divided-step {s'} {inverses'} {x'} v = by (v .done)
+          divided-step {s'} {kept'} {x'} v = by (v .done)
             where
-              by : DividedTo o p words coefs starts i t k x₁ s' x' → Stepped o p words coefs starts limit s x₀ ow oc s' inverses' x' ow oc
+              by : DividedTo o p words coefs starts i t k x₁ s' x' → Stepped o p words coefs starts limit s x₀ ow oc s' kept' x' ow oc
               by (over h es ex) =
                   rw ex
                   (halted-step (Refused ExponentOver) refl
                   (λ w c. at-more w (step-large cmp (chosen dividesWord (divisorsOf words coefs starts)) _-_ _+_ overWord p (length ow) (limit - suc (s .finished)) (s .finished) (remainderIn s ow oc) w (L .at) (L .term) (in-work w c) i (term (leadWord words starts i) (leadCoef coefs starts i)) (terms (tailOf starts i words) (tailOf starts i coefs)) fit (large-is ∙ h)))
-                  es (v .kept))
+                  es (v .numbers))
               by (many h l es ex) =
                   rw ex
                   (halted-step (Refused TooManyTerms) refl
                   (λ w c. at-more w (step-many cmp (chosen dividesWord (divisorsOf words coefs starts)) _-_ _+_ overWord p (length ow) (limit - suc (s .finished)) (s .finished) (remainderIn s ow oc) w (L .at) (L .term) (in-work w c) i (term (leadWord words starts i) (leadCoef coefs starts i)) (terms (tailOf starts i words) (tailOf starts i coefs)) fit (large-is ∙ h) (omega (arith, ap held (rest-is w c), tail-is))))
-                  es (v .kept))
+                  es (v .numbers))
               by (divided h l m e es) =
-                  subst (λ (x : State). Stepped o p words coefs starts limit s x₀ ow oc x inverses' x' ow oc) (sym (es ∙ ap (λ (x : State). brought (counted (finishedOne x) m) (length (tailOf starts i words))) et))
-                  (divided-to (v .kept) h l
+                  subst (λ (x : State). Stepped o p words coefs starts limit s x₀ ow oc x kept' x' ow oc) (sym (es ∙ ap (λ (x : State). brought (counted (finishedOne x) m) (length (tailOf starts i words))) et))
+                  (divided-to (v .numbers) h l
                   (subst (λ (x : Term ℕ). Added o p (without (k .bucket) x₁) (tailMultiple _-_ _+_ p x (term (leadWord words starts i) (leadCoef coefs starts i)) (terms (tailOf starts i words) (tailOf starts i coefs))) x' m) term-is e)
                   (subst (λ (x : Term ℕ). Addable cmp p (OfLayout o (a .sound .checked .weights)) x (tailMultiple _-_ _+_ p x (term (leadWord words starts i) (leadCoef coefs starts i)) (terms (tailOf starts i words) (tailOf starts i coefs)))) term-is (to-add D h l)))
 
@@ -362,13 +362,13 @@ module _ {o : Order} {p : ℕ} {words coefs starts leads : List ℕ} {limit : �
           at-next : (w : events.Work ℕ) {x : Reduction ℕ} → stepsFrom (compareWords o) (chosen dividesWord (divisorsOf words coefs starts)) _-_ _+_ overWord p (length ow) (suc (limit - suc (s .finished))) (s .finished) (remainderIn s ow oc) w ≡ x → stepsFrom (compareWords o) (chosen dividesWord (divisorsOf words coefs starts)) _-_ _+_ overWord p (length ow) (limit - s .finished) (s .finished) (remainderIn s ow oc) w ≡ x
           at-next w e = ap (λ (m : ℕ). stepsFrom cmp (chosen dividesWord (divisorsOf words coefs starts)) _-_ _+_ overWord p (length ow) m (s .finished) (remainderIn s ow oc) w) one-left ∙ e
 
-          pub kept-step : {s' : State} {b' : Buckets} {ow' oc' : List ℕ} → Kept t k (x₁ .places) ow oc s' b' ow' oc' → Stepped o p words coefs starts limit s x₀ ow oc s' inverses (placed b' x₁) ow' oc'
+          pub kept-step : {s' : State} {b' : Buckets} {ow' oc' : List ℕ} → Kept t k (x₁ .places) ow oc s' b' ow' oc' → Stepped o p words coefs starts limit s x₀ ow oc s' kept (placed b' x₁) ow' oc'
           kept-step {s'} {b'} {ow'} {oc'} v = by v
             where
               terms-same : t .places ≡ s .places
               terms-same = ap (λ (x : State). x .places) et
 
-              put-to : s .places < length ow → Stepped o p words coefs starts limit s x₀ ow oc (gave (finishedOne (counted s (k .count))) 1 1) inverses (without (k .bucket) x₁) (set ow (s .places) (k .word)) (set oc (s .places) (k .coef))
+              put-to : s .places < length ow → Stepped o p words coefs starts limit s x₀ ow oc (gave (finishedOne (counted s (k .count))) 1 1) kept (without (k .bucket) x₁) (set ow (s .places) (k .word)) (set oc (s .places) (k .coef))
               put-to h =
                   let out = a .sound .output in
                   let x = k .word ∷ [] in
@@ -388,7 +388,7 @@ module _ {o : Order} {p : ℕ} {words coefs starts leads : List ℕ} {limit : �
                       few-comparisons = λ q. omega (arith, a .sound .few-comparisons (a .more), d .few);
                       few-brought = λ q. omega (arith, a .sound .few-brought (a .more));
                     };
-                    kept = a .kept;
+                    numbers = a .numbers;
                     further = λ q. (refl, few);
                     reaches = λ R g. record {
                       going = λ q. record {
@@ -411,19 +411,19 @@ module _ {o : Order} {p : ℕ} {words coefs starts leads : List ℕ} {limit : �
                       → stepsFrom (compareWords o) (chosen dividesWord (divisorsOf words coefs starts)) _-_ _+_ overWord p (length ow) (limit - (s .finished + 1)) (s .finished + 1) r (events.removed (compareWords o) p w) ≡ R
                   place-at R w er e = ap₂ (λ (n : ℕ) (r : List (Term ℕ)). stepsFrom cmp (chosen dividesWord (divisorsOf words coefs starts)) _-_ _+_ overWord p (length ow) (limit - n) n r (events.removed cmp p w)) (add-one (s .finished)) er ∙ e
 
-              by : Kept t k (x₁ .places) ow oc s' b' ow' oc' → Stepped o p words coefs starts limit s x₀ ow oc s' inverses (placed b' x₁) ow' oc'
+              by : Kept t k (x₁ .places) ow oc s' b' ow' oc' → Stepped o p words coefs starts limit s x₀ ow oc s' kept (placed b' x₁) ow' oc'
               by (full h es eb ew ec) =
                   rw (eb, ew, ec)
                   (halted-step (Refused NoOutput) refl
                   (λ w c. at-next w (step-full cmp (chosen dividesWord (divisorsOf words coefs starts)) _-_ _+_ overWord p (length ow) (limit - suc (s .finished)) (s .finished) (remainderIn s ow oc) w (L .at) (L .term) (in-work w c) no-fit (omega (arith, written-long (a .sound .output), terms-same))))
-                  es (a .kept))
+                  es (a .numbers))
               by (put h es eb ew ec) =
                   let ew' : ow' ≡ set ow (s .places) (k .word) = ew ∙ ap (λ (n : ℕ). set ow n (k .word)) terms-same in
                   let ec' : oc' ≡ set oc (s .places) (k .coef) = ec ∙ ap (λ (n : ℕ). set oc n (k .coef)) terms-same in
-                  rw (eb, ew', ec') (subst (λ (x : State). Stepped o p words coefs starts limit s x₀ ow oc x inverses (without (k .bucket) x₁) (set ow (s .places) (k .word)) (set oc (s .places) (k .coef))) (sym (es ∙ ap (λ (x : State). gave (finishedOne x) 1 1) et)) (put-to (omega (arith, terms-same))))
+                  rw (eb, ew', ec') (subst (λ (x : State). Stepped o p words coefs starts limit s x₀ ow oc x kept (without (k .bucket) x₁) (set ow (s .places) (k .word)) (set oc (s .places) (k .coef))) (sym (es ∙ ap (λ (x : State). gave (finishedOne x) 1 1) et)) (put-to (omega (arith, terms-same))))
 
 -- ---- by what the search came to
-pub ended-step : {o : Order} {p : ℕ} {words coefs starts leads : List ℕ} {limit : ℕ} {s : State} {inverses : List ℕ} {x₀ : Spaces} {ow oc : List ℕ} → Stepping o p words coefs starts leads limit s inverses x₀ ow oc → {x₁ : Spaces} {k : Candidate} → Found o p x₀ x₁ k → {t : State} → Searched s k limit t → goesOn (t .course) ≡ false → Stepped o p words coefs starts limit s x₀ ow oc t inverses x₁ ow oc
+pub ended-step : {o : Order} {p : ℕ} {words coefs starts leads : List ℕ} {limit : ℕ} {s : State} {kept : List ℕ} {x₀ : Spaces} {ow oc : List ℕ} → Stepping o p words coefs starts leads limit s kept x₀ ow oc → {x₁ : Spaces} {k : Candidate} → Found o p x₀ x₁ k → {t : State} → Searched s k limit t → goesOn (t .course) ≡ false → Stepped o p words coefs starts limit s x₀ ow oc t kept x₁ ow oc
 ended-step a d (no-lead h e) off = zero-step a d refl h e
 ended-step a d (no-step n h e) off = limit-step a d refl n h e
 ended-step a d (one-step n h e) off = absurd (false-true (sym off ∙ (ap (λ (x : State). goesOn (x .course)) e ∙ a .more)))

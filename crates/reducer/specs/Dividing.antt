@@ -3,7 +3,7 @@ use Prim.Native.Nat.{ℕ, _+_, _-_, _<_, _≤_}
 use mathlib.Core.Path.{_≡_}
 use mathlib.Core.Bool.{true, false}
 use mathlib.Core.List.{List}
-use lib.ListN.{length, drop}
+use lib.ListN.{length}
 use Rattle.limits.specs.Limits.{mostTerms}
 use Rattle.residue.specs.declared.factor.Factor.{Factor}
 use Rattle.residue.specs.Share.{Prepared}
@@ -11,7 +11,6 @@ use Rattle.monomial.specs.declared.order.Order.{Order}
 use Rattle.monomial.specs.Words.{compareWords, dividesWord, Packed}
 use Rattle.polynomial.specs.Terms.{Term, term, terms, Canonical}
 use Rattle.polynomial.specs.Multiple.{multiple}
-use Rattle.polynomial.specs.Opening.{partOf}
 use Rattle.merge_common.specs.Lent.{Poly}
 use Rattle.multiple.specs.Multiplying.{AllPacked, anyOver}
 use Rattle.geobucket.specs.Buckets.{held}
@@ -23,7 +22,7 @@ use Rattle.search.specs.declared.candidate.Candidate.{Candidate}
 use Rattle.search.specs.Searching.{Removal, without}
 use Rattle.buckets.specs.Adding.{Added}
 use Rattle.division.specs.Division.{tailMultiple}
-use Rattle.divisors.specs.Divisors.{leadWord, leadCoef, Inverses}
+use Rattle.divisors.specs.Divisors.{leadWord, leadCoef, tailOf, KeptNumbers}
 use Rattle.reducer.specs.Divisors.{OfLayout, Checked}
 
 -- ---- the multiple of a tail is added
@@ -53,11 +52,7 @@ pub record TailAdded (o : Order) (p : ℕ) (f : Factor) (q : ℕ) (tw tc : List 
 
 -- ---- the lead is divided by divisor k
 
--- the words and coefficients of its tail
-abbrev pub tailOf : (starts : List ℕ) → (k : ℕ) → List ℕ → List ℕ
-tailOf starts k l = drop 1 (partOf starts k l)
-
-pub record Dividing (o : Order) (p : ℕ) (words coefs starts : List ℕ) (k : ℕ) (s : State) (lead : Candidate) (inverses : List ℕ) (x : Spaces) : Type 0 where
+pub record Dividing (o : Order) (p : ℕ) (words coefs starts : List ℕ) (k : ℕ) (s : State) (lead : Candidate) (kept : List ℕ) (x : Spaces) : Type 0 where
   pub checked : Checked o p words coefs starts
   pub low : 1 ≤ k
   pub high : k + 1 < length starts
@@ -71,7 +66,7 @@ pub record Dividing (o : Order) (p : ℕ) (words coefs starts : List ℕ) (k : �
   pub of-layout : OfLayout o (checked .weights) (lead .word)
   pub coef-pos : 0 < lead .coef
   pub coef-small : lead .coef < p
-  pub kept : Inverses p coefs starts inverses
+  pub numbers : KeptNumbers p words coefs starts kept
   pub few-leads : s .finished < 10000000000000
   pub few-comparisons : s .comparisons < 2000000000000000000
   pub few-brought : s .brought < 2000000000000000000
@@ -89,6 +84,6 @@ module _ (o : Order) (p : ℕ) (words coefs starts : List ℕ) (k : ℕ) (s : St
         → (comparisons : ℕ) → Added o p (without (lead .bucket) x) toAdd x' comparisons → s' ≡ brought (counted (finishedOne s) comparisons) (length (tailOf starts k words))
         → DividedTo s' x'
 
-pub record Divided (o : Order) (p : ℕ) (words coefs starts : List ℕ) (k : ℕ) (s : State) (lead : Candidate) (x : Spaces) (s' : State) (inverses' : List ℕ) (x' : Spaces) : Type 0 where
-  pub kept : Inverses p coefs starts inverses'
+pub record Divided (o : Order) (p : ℕ) (words coefs starts : List ℕ) (k : ℕ) (s : State) (lead : Candidate) (x : Spaces) (s' : State) (kept' : List ℕ) (x' : Spaces) : Type 0 where
+  pub numbers : KeptNumbers p words coefs starts kept'
   pub done : DividedTo o p words coefs starts k s lead x s' x'

@@ -24,7 +24,7 @@ use Rattle.buckets.specs.Adding.{Added}
 use Rattle.division.specs.Choice.{chosen}
 use Rattle.division.specs.Divisors.{AllOf}
 use Rattle.division.specs.Steps.{Reduction, stepsFrom, overWord, reductionOfWords}
-use Rattle.divisors.specs.Divisors.{KeptLeads, Inverses}
+use Rattle.divisors.specs.Divisors.{KeptLeads, KeptNumbers}
 use Rattle.reducer.specs.Divisors.{OfLayout, Checked}
 
 -- ---- the search
@@ -87,17 +87,17 @@ pub record Sound (o : Order) (p : ℕ) (words coefs starts : List ℕ) (limit : 
   pub few-comparisons : goesOn (s .course) ≡ true → s .comparisons ≤ 100000 * (s .finished + 1)
   pub few-brought : goesOn (s .course) ≡ true → s .brought ≤ mostTerms * (s .finished + 1)
 
-pub record Stepping (o : Order) (p : ℕ) (words coefs starts leads : List ℕ) (limit : ℕ) (s : State) (inverses : List ℕ) (x : Spaces) (ow oc : List ℕ) : Type 0 where
+pub record Stepping (o : Order) (p : ℕ) (words coefs starts leads : List ℕ) (limit : ℕ) (s : State) (kept : List ℕ) (x : Spaces) (ow oc : List ℕ) : Type 0 where
   pub few-steps : limit ≤ mostSteps
   pub more : goesOn (s .course) ≡ true
   pub sound : Sound o p words coefs starts limit s x ow oc
   pub leads-kept : KeptLeads words starts leads
-  pub kept : Inverses p coefs starts inverses
+  pub numbers : KeptNumbers p words coefs starts kept
 
 -- whatever reduction the published steps come to, this step is one of them; output past the remainder is untouched
-pub record Stepped (o : Order) (p : ℕ) (words coefs starts : List ℕ) (limit : ℕ) (s : State) (x : Spaces) (ow oc : List ℕ) (s' : State) (inverses' : List ℕ) (x' : Spaces) (ow' oc' : List ℕ) : Type 0 where
+pub record Stepped (o : Order) (p : ℕ) (words coefs starts : List ℕ) (limit : ℕ) (s : State) (x : Spaces) (ow oc : List ℕ) (s' : State) (kept' : List ℕ) (x' : Spaces) (ow' oc' : List ℕ) : Type 0 where
   pub sound : Sound o p words coefs starts limit s' x' ow' oc'
-  pub kept : Inverses p coefs starts inverses'
+  pub numbers : KeptNumbers p words coefs starts kept'
   pub further : goesOn (s' .course) ≡ true → (s' .finished ≡ s .finished + 1) × (s .finished < limit)
   pub reaches : (R : Reduction ℕ) → Going o p (divisorsOf words coefs starts) (length ow) limit s x ow oc R → Reaches o p (divisorsOf words coefs starts) (length ow) limit s' x' ow' oc' R
   pub longer : s .places ≤ s' .places

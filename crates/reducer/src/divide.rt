@@ -4,12 +4,13 @@ use buckets::add::MOST_SMALL;
 use buckets::add::add_small;
 use buckets::last::merge_last;
 use call::state::State;
+use divisors::highest::tail_highest;
 use divisors::inverse::factor_by;
 use divisors::inverse::lead_inverse;
 use limits::MOST_TERMS;
 use monomial::order::Order;
 use monomial::word::quotient;
-use multiple::multiple::any_over;
+use multiple::multiple::over;
 use multiple::multiple::put_multiple;
 use polynomial::part::coefs_of;
 use polynomial::part::words_of;
@@ -41,28 +42,28 @@ pub fn divide<'a>(
     k: usize,
     s: State,
     lead: Candidate,
-    inverses: &mut [u64],
+    kept: &mut [u64],
     b: &mut [usize],
     bw: &mut [u64],
     bc: &mut [u32],
     ww: &mut [u64],
     wc: &mut [u32],
 ) -> State
-    requires { ⌜ Dividing order p (now words) (now coefs) (now starts) k s lead (now inverses) (spaces (now b) (now ww) (now wc) (now bw) (now bc)) × Slices (now ww) (now wc) (now bw) (now bc) ⌝ }
-    ensures { λ r. ⌜ Divided order p (now (words .entry)) (now (coefs .entry)) (now (starts .entry)) k s lead (spaces (now (b .entry)) (now (ww .entry)) (now (wc .entry)) (now (bw .entry)) (now (bc .entry))) r (now (inverses .exit)) (spaces (now (b .exit)) (now (ww .exit)) (now (wc .exit)) (now (bw .exit)) (now (bc .exit))) ⌝ }
+    requires { ⌜ Dividing order p (now words) (now coefs) (now starts) k s lead (now kept) (spaces (now b) (now ww) (now wc) (now bw) (now bc)) × Slices (now ww) (now wc) (now bw) (now bc) ⌝ }
+    ensures { λ r. ⌜ Divided order p (now (words .entry)) (now (coefs .entry)) (now (starts .entry)) k s lead (spaces (now (b .entry)) (now (ww .entry)) (now (wc .entry)) (now (bw .entry)) (now (bc .entry))) r (now (kept .exit)) (spaces (now (b .exit)) (now (ww .exit)) (now (wc .exit)) (now (bw .exit)) (now (bc .exit))) ⌝ }
 {
     let gw = words_of(words, starts, k);
     let gc = coefs_of(coefs, starts, k);
     let q = quotient(lead.word, gw[0]);
     let tw = &gw[1..];
     let tc = &gc[1..];
-    if any_over(q, tw) {
+    if over(q, tail_highest(tw, k, kept)) {
         return s.halt(Refusal::ExponentOver);
     }
     if held(b) - 1 + tw.len() > MOST_TERMS {
         return s.halt(Refusal::TooManyTerms);
     }
-    let inverse = lead_inverse(p, coefs, starts, k, inverses);
+    let inverse = lead_inverse(p, coefs, starts, k, kept);
     let factor = factor_by(p, negate(lead.coef, p), inverse);
     remove_lead(b, lead.bucket);
     let r = s.finish();

@@ -22,7 +22,7 @@ pub fn step<'a>(
     leads: &[u64],
     limit: u64,
     s: State,
-    inverses: &mut [u64],
+    kept: &mut [u64],
     b: &mut [usize],
     bw: &mut [u64],
     bc: &mut [u32],
@@ -31,8 +31,8 @@ pub fn step<'a>(
     ow: &mut [u64],
     oc: &mut [u32],
 ) -> State
-    requires { ⌜ Stepping order p (now words) (now coefs) (now starts) (now leads) limit s (now inverses) (spaces (now b) (now ww) (now wc) (now bw) (now bc)) (now ow) (now oc) × Slices (now ww) (now wc) (now bw) (now bc) ⌝ }
-    ensures { λ r. ⌜ Stepped order p (now (words .entry)) (now (coefs .entry)) (now (starts .entry)) limit s (spaces (now (b .entry)) (now (ww .entry)) (now (wc .entry)) (now (bw .entry)) (now (bc .entry))) (now (ow .entry)) (now (oc .entry)) r (now (inverses .exit)) (spaces (now (b .exit)) (now (ww .exit)) (now (wc .exit)) (now (bw .exit)) (now (bc .exit))) (now (ow .exit)) (now (oc .exit)) ⌝ }
+    requires { ⌜ Stepping order p (now words) (now coefs) (now starts) (now leads) limit s (now kept) (spaces (now b) (now ww) (now wc) (now bw) (now bc)) (now ow) (now oc) × Slices (now ww) (now wc) (now bw) (now bc) ⌝ }
+    ensures { λ r. ⌜ Stepped order p (now (words .entry)) (now (coefs .entry)) (now (starts .entry)) limit s (spaces (now (b .entry)) (now (ww .entry)) (now (wc .entry)) (now (bw .entry)) (now (bc .entry))) (now (ow .entry)) (now (oc .entry)) r (now (kept .exit)) (spaces (now (b .exit)) (now (ww .exit)) (now (wc .exit)) (now (bw .exit)) (now (bc .exit))) (now (ow .exit)) (now (oc .exit)) ⌝ }
 {
     let lead = find_lead(order, p, b, bw, bc, ww, wc);
     let t = after_search(s, lead, limit);
@@ -48,7 +48,7 @@ pub fn step<'a>(
                 k,
                 t,
                 lead,
-                inverses,
+                kept,
                 b,
                 bw,
                 bc,

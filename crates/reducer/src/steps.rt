@@ -34,7 +34,7 @@ pub fn reduce_all<'a>(
     ensures { λ r. ⌜ Reduced order p (now (words .entry)) (now (coefs .entry)) (now (starts .entry)) limit (now (ow .entry)) (now (oc .entry)) r (spaces (now (b .exit)) (now (ww .exit)) (now (wc .exit)) (now (bw .exit)) (now (bc .exit))) (now (ow .exit)) (now (oc .exit)) ⌝ }
 {
     let mut leads = [0u64; 1024];
-    let mut inverses = [0u64; 1024];
+    let mut kept = [0u64; 2048];
     keep_leads(words, starts, &mut leads);
     let fw = words_of(words, starts, 0);
     let fc = coefs_of(coefs, starts, 0);
@@ -49,7 +49,7 @@ pub fn reduce_all<'a>(
             &leads,
             limit,
             s,
-            &mut inverses,
+            &mut kept,
             b,
             bw,
             bc,

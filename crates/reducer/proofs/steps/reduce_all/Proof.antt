@@ -5,18 +5,18 @@ use lib.ListN.{length, length-replicate}
 use borrow.Author.Needs.{needs}
 use Rattle.space.specs.Space.{spaces}
 use Rattle.call.specs.States.{goesOn}
-use Rattle.divisors.proofs.InverseLaws.{none-kept}
+use Rattle.divisors.proofs.KeptLaws.{none-kept}
 use Rattle.reducer.proofs.FirstLaws.{leads-there}
 use Rattle.reducer.proofs.ReduceLaws.{leftBy, Turning, first-words, first-coefs, addend, beginning, turn-start, turn-asks, turn-on, turn-less, turn-end}
 use Rattle.reducer.proofs.steps.reduce_all.Statement.{statement}
 use Rattle.reducer.proofs.steps.reduce_all.Tie as tie
 
 abbrev Inv-loop : tie.InvT-loop
-Inv-loop order p words coefs starts limit b₀ bw₀ bc₀ ww₀ wc₀ ow₀ oc₀ leads₀ inverses₀ s₀ b bw bc ww wc ow oc inverses s =
-    Turning order p words coefs starts limit ow₀ oc₀ (spaces b ww wc bw bc) ww wc bw bc ow oc inverses s
+Inv-loop order p words coefs starts limit b₀ bw₀ bc₀ ww₀ wc₀ ow₀ oc₀ leads₀ kept₀ s₀ b bw bc ww wc ow oc kept s =
+    Turning order p words coefs starts limit ow₀ oc₀ (spaces b ww wc bw bc) ww wc bw bc ow oc kept s
 
 abbrev μ-loop : tie.MeasureT-loop
-μ-loop order p words coefs starts limit b₀ bw₀ bc₀ ww₀ wc₀ ow₀ oc₀ leads₀ inverses₀ s₀ b bw bc ww wc ow oc inverses s =
+μ-loop order p words coefs starts limit b₀ bw₀ bc₀ ww₀ wc₀ ow₀ oc₀ leads₀ kept₀ s₀ b bw bc ww wc ow oc kept s =
     leftBy (goesOn (s .course)) (limit - s .finished)
 
 slice-aggregate-keep-leads : tie.Need-slice-aggregate-keep-leads Inv-loop μ-loop
@@ -35,7 +35,7 @@ begin-requires : tie.Need-begin-requires Inv-loop μ-loop
 begin-requires c κs = (addend (c .before .before .before .before .before .before .before .before .before .before .before .before .before .before .before .before .before .before .before .before .pre .0) (c .before .before .before .before .before .before .words-of .ensures) (c .before .before .before .before .before .coefs-of .ensures), beginning (c .before .before .before .before .before .before .before .before .before .before .before .before .before .before .before .before .before .before .before .before .pre .0) (c .before .before .before .before .before .before .words-of .ensures) (c .before .before .before .before .before .coefs-of .ensures) (c .before .before .before .before .before .before .before .before .before .before .before .before .before .before .before .before .before .before .before .before .pre .1), c .before .before .before .before .before .before .before .before .before .before .before .before .before .before .before .before .before .before .before .before .pre .1 .slices)
 
 loop-holds : tie.Need-loop-holds Inv-loop μ-loop
-loop-holds c = turn-start (c .before .before .before .before .before .before .before .before .before .before .before .before .before .before .before .before .before .before .before .before .before .before .before .before .before .before .before .before .before .before .before .pre .0) (c .before .before .before .before .before .before .before .before .before .before .before .before .before .before .before .before .before .words-of .ensures) (c .before .before .before .before .before .before .before .before .before .before .before .before .before .before .before .before .coefs-of .ensures) (c .before .before .before .before .before .before .before .before .before .before .before .before .before .before .before .before .before .before .before .before .before .before .before .before .before .before .before .before .before .before .before .pre .1) (none-kept _ _ _) (let q = c .before .before .before .before .before .before .before .before .before .before .before .before .before .before .before .before .before .before .before .before .before .before .before .before .before .before .before .before .before .before .before .pre .1 .slices in record { work-words = c .before .before .before .before .before .before .before .before .before .before .begin .kept .1 .1 .1 .1 .1 .1 .1 .0 ∙ q .work-words; work-coefs = c .before .before .before .before .before .before .before .before .before .before .begin .kept .1 .1 .1 .1 .1 .1 .1 .1 .0 ∙ q .work-coefs; words-long = c .before .before .before .before .before .before .before .before .before .before .begin .kept .1 .1 .1 .1 .1 .0 ∙ q .words-long; coefs-long = c .before .before .before .before .before .before .before .before .before .before .begin .kept .1 .1 .1 .1 .1 .1 .0 ∙ q .coefs-long }) (c .before .before .before .before .before .before .before .before .before .before .begin .ensures)
+loop-holds c = turn-start (c .before .before .before .before .before .before .before .before .before .before .before .before .before .before .before .before .before .before .before .before .before .before .before .before .before .before .before .before .before .before .before .pre .0) (c .before .before .before .before .before .before .before .before .before .before .before .before .before .before .before .before .before .words-of .ensures) (c .before .before .before .before .before .before .before .before .before .before .before .before .before .before .before .before .coefs-of .ensures) (c .before .before .before .before .before .before .before .before .before .before .before .before .before .before .before .before .before .before .before .before .before .before .before .before .before .before .before .before .before .before .before .pre .1) (none-kept _ _ _ _) (let q = c .before .before .before .before .before .before .before .before .before .before .before .before .before .before .before .before .before .before .before .before .before .before .before .before .before .before .before .before .before .before .before .pre .1 .slices in record { work-words = c .before .before .before .before .before .before .before .before .before .before .begin .kept .1 .1 .1 .1 .1 .1 .1 .0 ∙ q .work-words; work-coefs = c .before .before .before .before .before .before .before .before .before .before .begin .kept .1 .1 .1 .1 .1 .1 .1 .1 .0 ∙ q .work-coefs; words-long = c .before .before .before .before .before .before .before .before .before .before .begin .kept .1 .1 .1 .1 .1 .0 ∙ q .words-long; coefs-long = c .before .before .before .before .before .before .before .before .before .before .begin .kept .1 .1 .1 .1 .1 .1 .0 ∙ q .coefs-long }) (c .before .before .before .before .before .before .before .before .before .before .begin .ensures)
 
 goes-on-requires : tie.Need-goes-on-requires Inv-loop μ-loop
 goes-on-requires c κs = search needs
@@ -44,7 +44,7 @@ slice-aggregate-step : tie.Need-slice-aggregate-step Inv-loop μ-loop
 slice-aggregate-step c = sym (c .before .before .before .before .before .before .before .before .before .before .before .before .before .before .before .before .before .before .before .before .before .before .before .keep-leads .ensures .long)
 
 slice-aggregate-step-2 : tie.Need-slice-aggregate-step-2 Inv-loop μ-loop
-slice-aggregate-step-2 c = sym (c .before .before .before .before .loop .inv .kept .long)
+slice-aggregate-step-2 c = sym (c .before .before .before .before .loop .inv .numbers .long)
 
 step-requires : tie.Need-step-requires Inv-loop μ-loop
 step-requires c κs = (turn-asks (c .before .before .before .before .before .before .before .before .before .before .before .before .before .before .before .before .before .before .before .before .before .before .before .before .before .before .before .before .before .before .before .before .before .before .before .before .before .before .before .before .before .before .before .pre .0) (c .before .before .before .before .before .before .before .before .before .before .before .loop .inv) (sym (c .before .before .before .before .before .before .before .before .before .before .goes-on .ensures) ∙ c .before .before .before .before .before .before .before .before .before .if1 .taken) (c .before .before .before .before .before .before .before .before .before .before .before .before .before .before .before .before .before .before .before .before .before .before .before .before .before .before .before .before .before .before .before .keep-leads .ensures), c .before .before .before .before .before .before .before .before .before .before .before .loop .inv .slices)
