@@ -5,8 +5,8 @@ use crate::level::level_for;
 use crate::up::merge_up;
 use crate::up::other_area;
 use limits::MOST_TERMS;
-use merge_common::copy::put_coefs;
 use merge_common::keys::put_keys;
+use merge_common::keys::put_terms;
 use monomial::order::Order;
 use space::state::head_of;
 use space::state::place;
@@ -45,8 +45,7 @@ pub fn add_polynomial(
     if fw.len() > MOST_SMALL {
         return add_large(order, p, b, fw, fc, sw, sc);
     }
-    put_keys(order, fw, ww, FREE);
-    put_coefs(fc, wc, FREE);
+    put_terms(order, fw, fc, ww, wc, FREE);
     add_small(p, b, fw.len(), sw, sc, ww, wc)
 }
 

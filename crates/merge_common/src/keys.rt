@@ -19,6 +19,21 @@ pub fn put_keys(order: Order, src: &[u64], dst: &mut [u64], to: usize)
     }
 }
 
+// Puts the terms of the words fw and the coefficients fc from place `to` on, with keys for words. They are
+// mostly few, so that both go in one loop.
+pub fn put_terms(order: Order, fw: &[u64], fc: &[u32], ww: &mut [u64], wc: &mut [u32], to: usize)
+    requires { ⌜ (length (now fc) ≡ length (now fw)) × (to + length (now fw) ≤ length (now ww)) × (to + length (now fw) ≤ length (now wc)) ⌝ }
+    ensures { λ _. ⌜ (now (ww .exit) ≡ sets (now (ww .entry)) to (map (keyOf order) (now (fw .entry)))) × (now (wc .exit) ≡ sets (now (wc .entry)) to (now (fc .entry))) × (map (fromKey order) (map (keyOf order) (now (fw .entry))) ≡ now (fw .entry)) ⌝ }
+{
+    let mut i = 0;
+    while i < fw.len() {
+        let put = to + i;
+        ww[put] = order.key(fw[i]);
+        wc[put] = fc[i];
+        i += 1;
+    }
+}
+
 // Puts the words of the keys of src into dst from place `to` on.
 pub fn put_words_of(order: Order, src: &[u64], dst: &mut [u64], to: usize)
     requires { ⌜ to + length (now src) ≤ length (now dst) ⌝ }

@@ -21,14 +21,11 @@ same-length-3 c = search needs
 returns : tie.Need-returns
 returns c = let d = c .before .before .before .before .before .before .add-large .ensures in large-done (c .before .before .before .before .before .before .before .before .before .before .before .before .before .before .before .before .before .before .pre .0) (c .before .before .before .before .before .before .before .before .before .before .before .before .before .before .before .before .before .before .pre .1) (d .1) (c .before .before .before .before .before .before .before .before .before .before .if1 .taken) (d .0)
 
-put-keys-requires : tie.Need-put-keys-requires
-put-keys-requires c κs = omega (arith, c .before .if1 .left, c .before .before .before .before .before .before .before .before .before .pre .1 .work-words)
-
-put-coefs-requires : tie.Need-put-coefs-requires
-put-coefs-requires c κs = omega (arith, c .before .before .before .before .before .if1 .left, c .before .before .before .before .before .before .before .before .before .before .before .before .before .pre .1 .work-coefs, c .before .before .before .before .before .before .before .before .before .before .before .before .before .pre .0 .long)
+put-terms-requires : tie.Need-put-terms-requires
+put-terms-requires c κs = let s = c .before .before .before .before .before .before .before .before .before .before in (s .pre .0 .long, omega (arith, c .before .before .if1 .left, s .pre .1 .work-words), omega (arith, c .before .before .if1 .left, s .pre .1 .work-coefs))
 
 add-small-requires : tie.Need-add-small-requires
-add-small-requires c κs = let k = c .before .before .before .before .before .before .before .before .before .before .before .put-keys .ensures in small-asks (c .before .before .before .before .before .before .before .before .before .before .before .before .before .before .before .before .before .before .before .before .before .pre .0) (c .before .before .before .before .before .before .before .before .before .before .before .before .before .before .before .before .before .before .before .before .before .pre .1) (k .1) (k .0) (c .before .before .before .before .before .before .before .put-coefs .ensures) refl (c .before .before .before .before .before .before .before .before .before .before .before .before .before .if1 .left)
+add-small-requires c κs = let s = c .before .before .before .before .before .before .before .before .before .before .before .before .before .before .before .before .before .before .before .before in let k = c .before .before .before .before .before .before .before .before .before .put-terms .ensures in small-asks (s .pre .0) (s .pre .1) (k .2) (k .0) (k .1) refl (c .before .before .before .before .before .before .before .before .before .before .before .before .if1 .left)
 
 same-length-4 : tie.Need-same-length-4
 same-length-4 c = search needs
@@ -46,7 +43,7 @@ same-length-8 : tie.Need-same-length-8
 same-length-8 c = search needs
 
 returns-2 : tie.Need-returns-2
-returns-2 c = let k = c .before .before .before .before .before .before .before .before .before .before .before .before .before .before .before .before .before .before .before .before .before .before .put-keys .ensures in small-done (c .before .before .before .before .before .before .before .before .before .before .before .before .before .before .before .before .before .before .before .before .before .before .before .before .before .before .before .before .before .before .before .before .pre .0) (c .before .before .before .before .before .before .before .before .before .before .before .before .before .before .before .before .before .before .before .before .before .before .before .before .before .before .before .before .before .before .before .before .pre .1) (k .1) (k .0) (c .before .before .before .before .before .before .before .before .before .before .before .before .before .before .before .before .before .before .put-coefs .ensures) refl (c .before .before .before .before .before .before .before .before .before .before .before .before .before .before .before .before .before .before .before .before .before .before .before .before .if1 .left) (c .before .before .before .before .before .before .before .before .before .before .add-small .ensures)
+returns-2 c = let s = c .before .before .before .before .before .before .before .before .before .before .before .before .before .before .before .before .before .before .before .before .before .before .before .before .before .before .before .before .before .before .before in let k = c .before .before .before .before .before .before .before .before .before .before .before .before .before .before .before .before .before .before .before .before .put-terms .ensures in small-done (s .pre .0) (s .pre .1) (k .2) (k .0) (k .1) refl (c .before .before .before .before .before .before .before .before .before .before .before .before .before .before .before .before .before .before .before .before .before .before .before .if1 .left) (c .before .before .before .before .before .before .before .before .before .before .add-small .ensures)
 
 pub add-polynomial-spec : {M : Type 1} → statement M
 add-polynomial-spec =
@@ -57,8 +54,7 @@ add-polynomial-spec =
     same-length-2
     same-length-3
     returns
-    put-keys-requires
-    put-coefs-requires
+    put-terms-requires
     add-small-requires
     same-length-4
     same-length-5
