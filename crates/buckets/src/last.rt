@@ -9,6 +9,9 @@ use space::state::place;
 ghost use Rattle.polynomial.specs.Terms.{terms};
 ghost use Rattle.buckets.specs.Last.{MergeLast, LastMerged, Roomy, Shifted, lastAt};
 
+// Where the last bucket starts in the bucket space.
+const LAST_START: usize = 1364;
+
 // Merges the polynomial f into the last bucket, and gives the comparisons.
 pub fn merge_last(
     p: u32,
@@ -34,7 +37,7 @@ fn make_room(h: usize, n: usize, more: usize, sw: &mut [u64], sc: &mut [u32]) ->
     requires { ⌜ Roomy h n more (now sw) (now sc) ⌝ }
     ensures { λ r. ⌜ Shifted h n more (now (sw .entry)) (now (sc .entry)) (now (sw .exit)) (now (sc .exit)) r ⌝ }
 {
-    if h >= 1364 + more {
+    if h >= LAST_START + more {
         return h;
     }
     close_gap(sw, sc, h, h + n, BUCKET_PLACES)

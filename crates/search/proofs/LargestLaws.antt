@@ -3,9 +3,10 @@ use mathlib.Core.Path.{_≡_, refl, sym, ap, ap₂, _∙_, subst}
 use mathlib.Core.Bool.{Bool, not}
 use mathlib.Core.List.{List}
 use mathlib.Core.Logic.{_⊎_, ⊎-elim, inl, inr}
-use Prim.Native.Nat.{ℕ, _+_, _-_, _<_, _≤_, compare, Ordering, Ordering·lt, Ordering·eq, Ordering·gt}
+use Prim.Native.Nat.{ℕ, suc, _+_, _-_, _<_, _≤_, compare, Ordering, Ordering·lt, Ordering·eq, Ordering·gt}
 use native.Mathlib.Omega.{arith}
 use native.Mathlib.Nat.{add-zero}
+use native.Mathlib.Numerals.{add-one}
 use borrow.Author.Count.{below-more}
 use borrow.Author.Tests.{eq-eqb, ne-eqb}
 use lib.Dec.{eqb}
@@ -20,7 +21,7 @@ use Rattle.space.specs.Space.{Buckets, headAt, lenAt, bucketAt, bucketsIn, Stan
 use Rattle.space.proofs.SpaceLaws.{canon-at, bucket-lead, moved-same}
 use Rattle.search.specs.declared.candidate.Candidate.{Candidate}
 use Rattle.search.specs.declared.largest.Largest.{Largest}
-use Rattle.search.specs.Largest.{unseen, met, asCandidate, Looked}
+use Rattle.search.specs.Largest.{unseen, met, metBy, largestOf, asCandidate, Looked}
 use Rattle.search.specs.Searching.{Seek, FirstHeld, FindDone, passFrom}
 use Rattle.search.proofs.SeekState.{Seeks, lists, seeks-start, seeks-end, own-six, own-some, on-empty, on-past, on-up}
 use Rattle.search.proofs.FindState.{finds-start, stands-canon, seek-asks, find-lead}
@@ -132,10 +133,17 @@ pub record Looks (b : Buckets) (ws : List ℕ) (t : Largest) (i : ℕ) : Type 0 
   pub most : i ≤ 6
   pub few : t .held ≤ i
   pub few-like : t .like ≤ i
+  pub is : t ≡ largestOf b ws i
   pub halfway : (p : ℕ) (cs : List ℕ) (st : Stands compare p b ws cs) → t .like ≡ 0 → Halfway st t i
 
 pub looks-none : (b : Buckets) (ws : List ℕ) → Looks b ws unseen 0
-looks-none b ws = record { most = omega arith; few = omega arith; few-like = omega arith; halfway = λ p cs st e. inl (refl, (λ j h. absurd (let z : ⊥ = omega arith in z))) }
+unfolding largestOf
+looks-none b ws = record { most = omega arith; few = omega arith; few-like = omega arith; is = refl; halfway = λ p cs st e. inl (refl, (λ j h. absurd (let z : ⊥ = omega arith in z))) }
+
+-- one bucket more
+more-of : (b : Buckets) (ws : List ℕ) (i len : ℕ) → lenAt b i ≡ len → largestOf b ws (i + 1) ≡ metBy len (largestOf b ws i) i (getD ws (headAt b i) 0)
+unfolding largestOf
+more-of b ws i len e = ap (largestOf b ws) (add-one i) ∙ ap (λ (n : ℕ). metBy n (largestOf b ws i) i (getD ws (headAt b i) 0)) e
 
 module _ {b : Buckets} {ws : List ℕ} {t : Largest} {i : ℕ} (v : Looks b ws t i) where
   pub looks-empty : i < 6 → lenAt b i ≡ 0 → Looks b ws t (i + 1)
@@ -143,6 +151,7 @@ module _ {b : Buckets} {ws : List ℕ} {t : Largest} {i : ℕ} (v : Looks b ws t
     most = omega arith;
     few = omega (arith, v .few);
     few-like = omega (arith, v .few-like);
+    is = v .is ∙ sym (more-of b ws i 0 e);
     halfway = λ p cs st z. ⊎-elim (λ n. inl (n .0, below-more _ _ (n .1) e)) (λ u. inr (goes-empty st u h e)) (v .halfway p cs st z);
   }
 
@@ -150,8 +159,13 @@ module _ {b : Buckets} {ws : List ℕ} {t : Largest} {i : ℕ} (v : Looks b ws t
     pub looks-met : {r : Largest} → r ≡ met t i key → Looks b ws r (i + 1)
     looks-met {r} er = go (tri key (t .key))
       where
+        next : met t i key ≡ largestOf b ws (i + 1)
+        next =
+            let n : lenAt b i ≡ suc (lenAt b i - 1) = omega (arith, pos) in
+            ap₂ (λ (x : Largest) (k : ℕ). met x i k) (v .is) ek ∙ sym (more-of b ws i (suc (lenAt b i - 1)) n)
+
         with-largest : (r' : Largest) → r ≡ r' → r' .held ≡ t .held + 1 → r' .like ≤ i + 1 → ((p : ℕ) (cs : List ℕ) (st : Stands compare p b ws cs) → r' .like ≡ 0 → Halfway st r' (i + 1)) → Looks b ws r (i + 1)
-        with-largest r' e eh el f = subst (λ (x : Largest). Looks b ws x (i + 1)) (sym e) (record { most = omega arith; few = omega (arith, v .few, eh); few-like = el; halfway = f })
+        with-largest r' e eh el f = subst (λ (x : Largest). Looks b ws x (i + 1)) (sym e) (record { most = omega arith; few = omega (arith, v .few, eh); few-like = el; is = sym e ∙ (er ∙ next); halfway = f })
 
         go : Tri key (t .key) → Looks b ws r (i + 1)
         go (less k e) =
@@ -162,5 +176,8 @@ module _ {b : Buckets} {ws : List ℕ} {t : Largest} {i : ℕ} (v : Looks b ws t
             with-largest _ (er ∙ met-more t i key e) refl (omega (arith, v .few-like))
             (λ p cs st z. inr (⊎-elim (λ n. rw (ek, n .0) (begins st i h (n .1) pos)) (λ u. goes-up st u h pos ek e) (v .halfway p cs st z)))
 
-  pub looks-end : 6 ≤ i → Looked b ws t
-  looks-end h p cs st z inside = ⊎-elim (λ n. absurd (let w : ⊥ = omega (arith, inside, ap (λ (x : Largest). x .bucket) (n .0)) in w)) (λ u. (u .some, ends st u h)) (v .halfway p cs st z)
+  looks-all : 6 ≤ i → Looked b ws t
+  looks-all h p cs st z inside = ⊎-elim (λ n. absurd (let w : ⊥ = omega (arith, inside, ap (λ (x : Largest). x .bucket) (n .0)) in w)) (λ u. (u .some, ends st u h)) (v .halfway p cs st z)
+
+  pub looks-end : 6 ≤ i → (t ≡ largestOf b ws 6) × Looked b ws t
+  looks-end h = (v .is ∙ ap (largestOf b ws) (let e : i ≡ 6 = omega (arith, v .most) in e), looks-all h)

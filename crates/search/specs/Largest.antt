@@ -1,9 +1,9 @@
 -- A search that only looks at the leads. Assumes nothing.
-use Prim.Native.Nat.{ℕ, _+_, _-_, _<_, _≤_, compare, Ordering·lt, Ordering·eq, Ordering·gt}
+use Prim.Native.Nat.{ℕ, zero, suc, _+_, _-_, _<_, _≤_, compare, Ordering·lt, Ordering·eq, Ordering·gt}
 use mathlib.Core.Path.{_≡_}
 use mathlib.Core.List.{List}
 use lib.ListN.{getD}
-use Rattle.space.specs.Space.{Buckets, headAt, bucketsIn, Stands}
+use Rattle.space.specs.Space.{Buckets, headAt, lenAt, bucketsIn, Stands}
 use Rattle.search.specs.declared.candidate.Candidate.{Candidate}
 use Rattle.search.specs.declared.largest.Largest.{Largest}
 use Rattle.search.specs.Searching.{FindDone}
@@ -20,6 +20,16 @@ met t bucket key =
       | Ordering·eq ↦ record { bucket = t .bucket; key = t .key; held = t .held + 1; like = t .like + 1 }
       | Ordering·gt ↦ record { bucket = bucket; key = key; held = t .held + 1; like = t .like }
     ]
+
+-- an empty bucket has no lead
+abbrev pub metBy : (len : ℕ) → Largest → (bucket key : ℕ) → Largest
+metBy zero t bucket key = t
+metBy (suc n) t bucket key = met t bucket key
+
+-- after the leads of the buckets below i
+unfoldable pub largestOf : (b : Buckets) (keys : List ℕ) (i : ℕ) → Largest
+largestOf b keys zero = unseen
+largestOf b keys (suc i) = metBy (lenAt b i) (largestOf b keys i) i (getD keys (headAt b i) 0)
 
 -- one comparison for each bucket that is not empty after the first
 abbrev pub asCandidate : Largest → (coef : ℕ) → Candidate

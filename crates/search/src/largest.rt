@@ -11,7 +11,7 @@ ghost use Prim.Native.Nat.{_≤_};
 ghost use lib.ListN.{length};
 ghost use Rattle.limits.specs.Limits.{bucketPlaces, workPlaces};
 ghost use Rattle.space.specs.Space.{Laid};
-ghost use Rattle.search.specs.Largest.{met, asCandidate, Looked};
+ghost use Rattle.search.specs.Largest.{met, largestOf, asCandidate, Looked};
 
 // The largest lead so far: its bucket (6 for none) and its key; how many buckets that are not empty were
 // looked at, and how many leads were like the largest one before them.
@@ -54,7 +54,7 @@ impl Largest {
 // Looks at the leads of all buckets.
 pub fn largest_lead(b: &[usize], sw: &[u64], ww: &[u64]) -> Largest
     requires { ⌜ Laid (now b) × (length (now ww) ≡ workPlaces) × (length (now sw) ≡ bucketPlaces) ⌝ }
-    ensures { λ r. ⌜ Looked (now (b .entry)) (now (ww .entry) ++ now (sw .entry)) r ⌝ }
+    ensures { λ r. ⌜ (r ≡ largestOf (now (b .entry)) (now (ww .entry) ++ now (sw .entry)) 6) × Looked (now (b .entry)) (now (ww .entry) ++ now (sw .entry)) r ⌝ }
 {
     let mut t = Largest {
         bucket: 6,

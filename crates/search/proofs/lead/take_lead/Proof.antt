@@ -25,7 +25,7 @@ inside : (c : tie.Then2) → c .before .before .before .before .largest-lead .re
 inside c = ltb-true _ _ (c .if2 .taken)
 
 looked : (c : tie.Then2) → let a = start c .args in let t = c .before .before .before .before .largest-lead .result in let ws = a .ww .now ++ a .sw .now in let cs = a .wc .now ++ a .sc .now in (1 ≤ t .held) × FindDone compare (a .p) (bucketsIn (a .b .now) ws cs) (a .b .now) ws cs (asCandidate t (getD cs (headAt (a .b .now) (t .bucket)) 0))
-looked c = let s = start c in c .before .before .before .before .largest-lead .ensures (s .args .p) (s .args .wc .now ++ s .args .sc .now) (s .pre .0) (c .before .before .if1 .taken) (inside c)
+looked c = let s = start c in c .before .before .before .before .largest-lead .ensures .1 (s .args .p) (s .args .wc .now ++ s .args .sc .now) (s .pre .0) (c .before .before .if1 .taken) (inside c)
 
 found : (c : tie.Then2) → c .before .before .before .before .largest-lead .result .bucket ≡ 6 → ⊥
 found c e = let z : ⊥ = omega (arith, inside c, e) in z
