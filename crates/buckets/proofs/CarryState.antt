@@ -16,7 +16,7 @@ use Rattle.polynomial.proofs.TermLists.{length-terms, terms-of}
 use Rattle.merge_common.specs.Lent.{Poly, part}
 use Rattle.merge_common.specs.declared.merging.Placed.{Placed}
 use Rattle.merge_common.proofs.Lists.{length-part}
-use Rattle.merge_areas.specs.Areas.{MergedIn}
+use Rattle.merge_common.specs.Placing.{PlacedIn}
 use Rattle.geobucket.specs.Buckets.{held, carry, carryCompared}
 use Rattle.space.specs.Space.{Buckets, headAt, lenAt, sideAt, capacity, start, zone, zoneEnd, allPlaces, listFrom, rowAt, bucketAt, bucketsIn, Laid, Stands, Slices, moved, turned}
 use Rattle.space.proofs.Starts.{next-capacity, next-start, cap-last, zone-work, end-work, zone-areas, end-in-work, five}
@@ -135,7 +135,7 @@ module _ {p : ℕ} {R : List (List (Term ℕ))} {N : ℕ} {b : Buckets} {l : Lev
         let k : l .cap ≡ capacity i = ap (λ (x : Level). x .cap) (v .level-is) in
         (v .level-is, h, omega (arith, es, z, side-low (v .laid) i h), omega (arith, es, z, k, side-high (v .laid) i h, zone-areas i h))
 
-    module _ {ww' wc' : List ℕ} {r : Placed} (d : MergedIn compare p F (bucketAt b ww wc i) (sideAt b i) (sideAt b i + (len + lenAt b i)) ww wc ww' wc' r) (kw : length ww' ≡ length ww) (kc : length wc' ≡ length wc) where
+    module _ {ww' wc' : List ℕ} {r : Placed} (d : PlacedIn compare p F (bucketAt b ww wc i) (sideAt b i) (sideAt b i + (len + lenAt b i)) ww wc ww' wc' r) (kw : length ww' ≡ length ww) (kc : length wc' ≡ length wc) where
       abbrev M : List (Term ℕ)
       M = merge compare p F (g i)
 
@@ -153,7 +153,7 @@ module _ {p : ℕ} {R : List (List (Term ℕ))} {N : ℕ} {b : Buckets} {l : Lev
       made = ap₂ terms (d .words-are) (d .coefs-are) ∙ (terms-of (merge compare p F (bucketAt b ww wc i)) ∙ ap (merge compare p F) (sym here))
 
       low : zone i ≤ r .head
-      low = omega (arith, d .from-to, side-low (v .laid) i h)
+      low = omega (arith, d .from-low, side-low (v .laid) i h)
 
       high : r .head + r .len ≤ zoneEnd i
       high = omega (arith, d .to-end, side-end up-asks)
@@ -195,7 +195,7 @@ module _ {p : ℕ} {R : List (List (Term ℕ))} {N : ℕ} {b : Buckets} {l : Lev
             let bf = both-fit up-asks in
             ⊎-elim
             (λ (e : sideAt b i ≡ zone i). laid-turned b i (r .head) (r .len) s (v .laid) h low high fits-is (inr (omega (arith, es, zone-is, cap-is, e))) (inl (omega (arith, d .to-end, es, zone-is, cap-is, e, bf))))
-            (λ (e : sideAt b i ≡ zone i + 2 * capacity i). laid-turned b i (r .head) (r .len) s (v .laid) h low high fits-is (inl (omega (arith, es, zone-is, cap-is, e))) (inr (omega (arith, d .from-to, es, zone-is, cap-is, e))))
+            (λ (e : sideAt b i ≡ zone i + 2 * capacity i). laid-turned b i (r .head) (r .len) s (v .laid) h low high fits-is (inl (omega (arith, es, zone-is, cap-is, e))) (inr (omega (arith, d .from-low, es, zone-is, cap-is, e))))
             (v .laid .side-is i h)
 
         own : bucketAt B (ww' ++ sw) (wc' ++ sc) i ≡ M

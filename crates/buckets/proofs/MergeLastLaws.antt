@@ -13,7 +13,8 @@ use Rattle.polynomial.proofs.TermLists.{length-terms, terms-of}
 use Rattle.merge_common.specs.Lent.{part}
 use Rattle.merge_common.proofs.Lists.{length-part}
 use Rattle.merge_common.specs.declared.merging.Placed.{Placed}
-use Rattle.merge_in.specs.Placing.{Into, PlacedIn}
+use Rattle.merge_common.specs.Placing.{PlacedIn}
+use Rattle.merge_in.specs.Placing.{Into}
 use Rattle.space.specs.Space.{Buckets, headAt, lenAt, allPlaces, Laid, moved}
 use Rattle.space.proofs.Starts.{five, cap-last, zone-five, end-five}
 use Rattle.space.proofs.SpaceLaws.{part-put, part-to, row-past, moved-head, moved-len, laid-moved}

@@ -15,6 +15,7 @@ use Rattle.polynomial.proofs.TermLists.{length-terms, terms-of}
 use Rattle.merge_common.specs.Lent.{part}
 use Rattle.merge_common.specs.declared.merging.Placed.{Placed}
 use Rattle.merge_common.proofs.Lists.{length-part}
+use Rattle.merge_common.specs.Placing.{PlacedIn}
 use Rattle.merge_areas.specs.Areas as merging
 use Rattle.geobucket.specs.Buckets.{held, sumFrom, sumCompared, fullSum}
 use Rattle.geobucket.proofs.SumLaws.{sum-canonical, sum-size}
@@ -193,8 +194,8 @@ module _ {p : ℕ} {b : Buckets} {ww₀ wc₀ : List ℕ} (a : Areas p b ww₀ w
         pub sum-asks : (m ≡ 0 → ⊥) → merging.Areas p ww wc from len at m s
         sum-asks ne = areas up ea em es ne
 
-        module _ {ww' wc' : List ℕ} {r : Placed} (d₀ : merging.MergedIn compare p F (terms (part at m ww) (part at m wc)) s (s + (len + m)) ww wc ww' wc' r) where
-          d : merging.MergedIn compare p F (bucketAt b ww wc i) (sideAt b i) (sideAt b i + (len + lenAt b i)) ww wc ww' wc' r
+        module _ {ww' wc' : List ℕ} {r : Placed} (d₀ : PlacedIn compare p F (terms (part at m ww) (part at m wc)) s (s + (len + m)) ww wc ww' wc' r) where
+          d : PlacedIn compare p F (bucketAt b ww wc i) (sideAt b i) (sideAt b i + (len + lenAt b i)) ww wc ww' wc' r
           d = merged up ea em es d₀
 
           count : r .comparisons ≡ mergeCount compare F (g i)

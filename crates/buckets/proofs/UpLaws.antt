@@ -14,7 +14,8 @@ use Rattle.polynomial.proofs.TermLists.{length-terms, words-terms, coefs-terms}
 use Rattle.merge_common.specs.Lent.{part, Apart}
 use Rattle.merge_common.specs.declared.merging.Placed.{Placed}
 use Rattle.merge_common.proofs.Lists.{length-part, getD-sets-other}
-use Rattle.merge_areas.specs.Areas.{Areas, MergedIn}
+use Rattle.merge_common.specs.Placing.{PlacedIn}
+use Rattle.merge_areas.specs.Areas.{Areas}
 use Rattle.space.specs.Space.{Buckets, headAt, lenAt, sideAt, capacity, start, zone, zoneEnd, rowAt, bucketAt}
 use Rattle.space.proofs.Starts.{five, start-up, zone-work, end-work, zone-areas, end-in-work}
 use Rattle.space.proofs.SpaceLaws.{bucket-none, part-put, side-low, side-high}
@@ -69,8 +70,8 @@ module _ {p : ℕ} {b : Buckets} {l : Level} {from len : ℕ} {ww wc : List ℕ}
       }
 
   pub merged : {h n s : ℕ} {ww' wc' : List ℕ} {r : Placed} → h ≡ headAt b i → n ≡ lenAt b i → s ≡ sideAt b i
-      → MergedIn compare p (terms (part from len ww) (part from len wc)) (terms (part h n ww) (part h n wc)) s (s + (len + n)) ww wc ww' wc' r
-      → MergedIn compare p (terms (part from len ww) (part from len wc)) (bucketAt b ww wc i) (sideAt b i) (sideAt b i + (len + lenAt b i)) ww wc ww' wc' r
+      → PlacedIn compare p (terms (part from len ww) (part from len wc)) (terms (part h n ww) (part h n wc)) s (s + (len + n)) ww wc ww' wc' r
+      → PlacedIn compare p (terms (part from len ww) (part from len wc)) (bucketAt b ww wc i) (sideAt b i) (sideAt b i + (len + lenAt b i)) ww wc ww' wc' r
   merged eh en es m = rw (← eh, ← en, ← es) m
 
   -- an empty bucket: f is moved as it is
@@ -83,7 +84,7 @@ module _ {p : ℕ} {b : Buckets} {l : Level} {from len : ℕ} {ww wc : List ℕ}
     )
 
     pub moved-up : {s : ℕ} {ww' wc' : List ℕ} → s ≡ sideAt b i → ww' ≡ sets ww s (part from len ww) → wc' ≡ sets wc s (part from len wc)
-        → MergedIn compare p (terms (part from len ww) (part from len wc)) (bucketAt b ww wc i) (sideAt b i) (sideAt b i + (len + lenAt b i)) ww wc ww' wc' (record { head = s; len = len; comparisons = 0 })
+        → PlacedIn compare p (terms (part from len ww) (part from len wc)) (bucketAt b ww wc i) (sideAt b i) (sideAt b i + (len + lenAt b i)) ww wc ww' wc' (record { head = s; len = len; comparisons = 0 })
     moved-up {s} {ww'} {wc'} es ew ec =
         let f = terms (part from len ww) (part from len wc) in
         let lw : length (part from len ww) ≡ len = length-part from len ww (omega (arith, a .in-work, a .work-words)) in
@@ -96,7 +97,7 @@ module _ {p : ℕ} {b : Buckets} {l : Level} {from len : ℕ} {ww wc : List ℕ}
         record {
           len-is = sym (ap length m ∙ (length-terms (part from len ww) (part from len wc) f-long ∙ lw));
           to-end = omega (arith, es, none);
-          from-to = omega (arith, es);
+          from-low = omega (arith, es);
           words-are = ap₂ (λ (k : ℕ) (v : List ℕ). part s k v) (sym lw) ew ∙ (part-put ww s (part from len ww) (omega (arith, lw, es, hi, wo, a .work-words)) ∙ sym (ap words m ∙ words-terms (part from len ww) (part from len wc) f-long));
           coefs-are = ap₂ (λ (k : ℕ) (v : List ℕ). part s k v) (sym lc) ec ∙ (part-put wc s (part from len wc) (omega (arith, lc, es, hi, wo, a .work-coefs)) ∙ sym (ap coefs m ∙ coefs-terms (part from len ww) (part from len wc) f-long));
           words-else = λ j u. ap (λ (v : List ℕ). getD v j 0) ew ∙ getD-sets-other ww s (part from len ww) j (⊎-elim (λ x. inl (omega (arith, es))) (λ x. inr (omega (arith, es, lw, none))) u);

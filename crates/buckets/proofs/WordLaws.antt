@@ -1,34 +1,26 @@
 -- Additions and full sums in words, from those by keys. Assumes nothing.
-use mathlib.Core.Path.{_≡_, refl, sym, ap, ap₂, _∙_, subst}
-use mathlib.Core.List.{List, [], _∷_, _++_, map}
+use mathlib.Core.Path.{_≡_, sym, ap, ap₂, _∙_, subst}
+use mathlib.Core.List.{List, _++_, map}
 use mathlib.Core.Logic.{inl}
 use Prim.Native.Nat.{ℕ, _+_, _<_, _≤_, compare}
 use native.Mathlib.Decide.{decLe}
 use native.Mathlib.Omega.{arith}
 use lib.ListN.{length, length-map}
 use lib.Seq.{sets, length-sets}
-use Rattle.limits.specs.Limits.{mostTerms, workPlaces, bucketPlaces}
 use Rattle.monomial.specs.declared.order.Order.{Order}
 use Rattle.monomial.specs.Words.{compareWords, keyOf, fromKey}
 use Rattle.monomial.proofs.KeyLaws.{from-key-compare}
-use Rattle.monomial.proofs.OrderLaws.{numbers-order}
 use Rattle.polynomial.specs.Terms.{Term, terms, Canonical}
-use Rattle.polynomial.specs.Merge.{merge, mergeCount}
-use Rattle.polynomial.proofs.MergeLaws.{merge-size, merge-canonical, count-size}
-use Rattle.polynomial.proofs.Renaming.{renamed-terms, length-renamed}
+use Rattle.polynomial.proofs.Renaming.{renamed-terms}
 use Rattle.polynomial.proofs.TermLists.{length-terms}
-use Rattle.merge_common.specs.Lent.{Poly, part}
-use Rattle.geobucket.specs.Buckets.{held, carry, carryCompared, add, addCompared, fullSum, sumCompared}
-use Rattle.geobucket.proofs.Renaming.{renamed-add, renamed-add-count, renamed-sum, renamed-sum-count}
-use Rattle.space.specs.Space.{Buckets, headAt, lenAt, capacity, listFrom, bucketAt, bucketsIn, Laid, Stands, Slices, Spaces, spaces, inWords, wordsIn, Standing}
-use Rattle.space.proofs.Starts.{end-in-work, cap-last}
+use Rattle.merge_common.specs.Lent.{part}
+use Rattle.geobucket.specs.Buckets.{held, add, addCompared}
+use Rattle.geobucket.proofs.Renaming.{renamed-add, renamed-add-count}
+use Rattle.space.specs.Space.{Buckets, headAt, lenAt, bucketAt, bucketsIn, Stands, Slices, spaces, inWords, wordsIn}
 use Rattle.space.proofs.SpaceLaws.{part-put, part-frame, from-same, held-lens}
 use Rattle.space.proofs.InWords.{held-words, canonical-keys}
-use Rattle.buckets.specs.declared.sum.Summed.{Summed}
 use Rattle.buckets.specs.Adding.{Added, WordAddition, Addition, AddDone, free, mostSmall}
 use Rattle.buckets.specs.Last.{MergeLast, LastMerged, Large, lastAt}
-use Rattle.buckets.specs.Summing.{SumDone}
-use Rattle.buckets.specs.Levels.{LevelFor, levelAt}
 use Rattle.buckets.proofs.UpLaws.{areas-end}
 use Rattle.buckets.proofs.AddLaws.{last-room, last-done}
 use Rattle.buckets.proofs.PlaceLaws.{in-work, in-space, all-long, stands-of, canon-of}
@@ -87,9 +79,6 @@ large-asks {o} {p} {b} {ww} {wc} {sw} {sc} a q =
 
 -- a polynomial of words fw and coefficients fc
 module _ {o : Order} {p : ℕ} {b : Buckets} {ww wc sw sc fw fc : List ℕ} (a : WordAddition o p (spaces b ww wc sw sc) fw fc) (q : Slices ww wc sw sc) (back : map (fromKey o) (map (keyOf o) fw) ≡ fw) where
-  f-short : length fw ≤ mostTerms
-  f-short = omega (arith, a .room)
-
   keys-long : length (map (keyOf o) fw) ≡ length fw
   keys-long = length-map fw (keyOf o)
 
@@ -149,20 +138,16 @@ module _ {o : Order} {p : ℕ} {b : Buckets} {ww wc sw sc fw fc : List ℕ} (a :
   addition : Addition compare p b F (ww ++ sw) (wc ++ sc)
   addition = record { stands = a .stands; canonical = keys-canonical; room = omega (arith, f-long, held-is, a .room) }
 
-  module _ (large : mostSmall < length fw) where
-    over : mostSmall < length F
-    over = omega (arith, large, f-long)
+  pub last-asks : mostSmall < length fw → MergeLast p b (map (keyOf o) fw) fc sw sc
+  last-asks large = record {
+    modulus = a .stands .modulus;
+    laid = a .stands .laid;
+    lent = record { long = a .long ∙ sym keys-long; reduced = keys-canonical .reduced };
+    there = subst (Canonical compare p) (in-space b (a .stands .laid) q) (canon-of (a .stands) 5 (omega arith));
+    room = omega (arith, last-room F addition q (omega (arith, large, f-long)), f-long, keys-long);
+    words-long = q .words-long;
+    coefs-long = q .coefs-long;
+  }
 
-    pub last-asks : MergeLast p b (map (keyOf o) fw) fc sw sc
-    last-asks = record {
-      modulus = a .stands .modulus;
-      laid = a .stands .laid;
-      lent = record { long = a .long ∙ sym keys-long; reduced = keys-canonical .reduced };
-      there = subst (Canonical compare p) (in-space b (a .stands .laid) q) (canon-of (a .stands) 5 (omega arith));
-      room = omega (arith, last-room F addition q over, f-long, keys-long);
-      words-long = q .words-long;
-      coefs-long = q .coefs-long;
-    }
-
-    pub large-done : {sw' sc' : List ℕ} {b' : Buckets} {r : ℕ} → LastMerged p b F (lastAt b sw sc) sw' sc' b' r → Added o p (spaces b ww wc sw sc) (terms fw fc) (spaces b' ww wc sw' sc') r
-    large-done {sw'} {sc'} {b'} {r} d = subst (λ (f : List (Term ℕ)). Added o p (spaces b ww wc sw sc) f (spaces b' ww wc sw' sc') r) as-words (added-words o (last-done F addition q over d))
+  pub large-done : mostSmall < length fw → {sw' sc' : List ℕ} {b' : Buckets} {r : ℕ} → LastMerged p b F (lastAt b sw sc) sw' sc' b' r → Added o p (spaces b ww wc sw sc) (terms fw fc) (spaces b' ww wc sw' sc') r
+  large-done large {sw'} {sc'} {b'} {r} d = subst (λ (f : List (Term ℕ)). Added o p (spaces b ww wc sw sc) f (spaces b' ww wc sw' sc') r) as-words (added-words o (last-done F addition q (omega (arith, large, f-long)) d))

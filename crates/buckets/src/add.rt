@@ -15,6 +15,7 @@ use space::state::turn;
 ghost use mathlib.Core.Path.{_≡_};
 ghost use mathlib.Core.List.{_++_, map};
 ghost use Prim.Native.Nat.{_≤_, compare};
+ghost use lib.ListN.{length};
 ghost use Rattle.monomial.specs.Words.{keyOf, fromKey};
 ghost use Rattle.polynomial.specs.Terms.{terms};
 ghost use Rattle.merge_common.specs.Lent.{part};
@@ -45,6 +46,46 @@ pub fn add_polynomial(
     if fw.len() > MOST_SMALL {
         return add_large(order, p, b, fw, fc, sw, sc);
     }
+    put_and_add(order, p, b, fw, fc, sw, sc, ww, wc)
+}
+
+// The same where polynomials are mostly small, as in runs. A large one is handed on, so that the array for
+// its keys is not in this function's frame, of which each page is touched at each call.
+pub fn add_mostly_small(
+    order: Order,
+    p: u32,
+    b: &mut [usize],
+    fw: &[u64],
+    fc: &[u32],
+    sw: &mut [u64],
+    sc: &mut [u32],
+    ww: &mut [u64],
+    wc: &mut [u32],
+) -> u64
+    requires { ⌜ WordAddition order p (spaces (now b) (now ww) (now wc) (now sw) (now sc)) (now fw) (now fc) × Slices (now ww) (now wc) (now sw) (now sc) ⌝ }
+    ensures { λ r. ⌜ Added order p (spaces (now (b .entry)) (now (ww .entry)) (now (wc .entry)) (now (sw .entry)) (now (sc .entry))) (terms (now (fw .entry)) (now (fc .entry))) (spaces (now (b .exit)) (now (ww .exit)) (now (wc .exit)) (now (sw .exit)) (now (sc .exit))) r ⌝ }
+{
+    if fw.len() > MOST_SMALL {
+        return add_polynomial(order, p, b, fw, fc, sw, sc, ww, wc);
+    }
+    put_and_add(order, p, b, fw, fc, sw, sc, ww, wc)
+}
+
+// A small polynomial is put past the areas of the work space, with keys for words, and added from there.
+fn put_and_add(
+    order: Order,
+    p: u32,
+    b: &mut [usize],
+    fw: &[u64],
+    fc: &[u32],
+    sw: &mut [u64],
+    sc: &mut [u32],
+    ww: &mut [u64],
+    wc: &mut [u32],
+) -> u64
+    requires { ⌜ WordAddition order p (spaces (now b) (now ww) (now wc) (now sw) (now sc)) (now fw) (now fc) × Slices (now ww) (now wc) (now sw) (now sc) × (length (now fw) ≤ mostSmall) ⌝ }
+    ensures { λ r. ⌜ Added order p (spaces (now (b .entry)) (now (ww .entry)) (now (wc .entry)) (now (sw .entry)) (now (sc .entry))) (terms (now (fw .entry)) (now (fc .entry))) (spaces (now (b .exit)) (now (ww .exit)) (now (wc .exit)) (now (sw .exit)) (now (sc .exit))) r ⌝ }
+{
     put_terms(order, fw, fc, ww, wc, FREE);
     add_small(p, b, fw.len(), sw, sc, ww, wc)
 }

@@ -10,7 +10,7 @@ ghost use mathlib.Core.Path.{_≡_};
 ghost use Prim.Native.Nat.{_+_, _-_, _*_, _<_, _≤_, compare};
 ghost use Rattle.polynomial.specs.Terms.{terms};
 ghost use Rattle.merge_common.specs.Lent.{part};
-ghost use Rattle.merge_areas.specs.Areas.{MergedIn};
+ghost use Rattle.merge_common.specs.Placing.{PlacedIn};
 ghost use Rattle.space.specs.Space.{bucketAt, lenAt, sideAt};
 ghost use Rattle.buckets.specs.Adding.{MergeUp};
 ghost use Rattle.buckets.specs.Levels.{levelAt};
@@ -26,7 +26,7 @@ pub fn merge_up(
     wc: &mut [u32],
 ) -> Placed
     requires { ⌜ MergeUp p (now b) l from len (now ww) (now wc) ⌝ }
-    ensures { λ r. ⌜ MergedIn compare p (terms (part from len (now (ww .entry))) (part from len (now (wc .entry)))) (bucketAt (now (b .entry)) (now (ww .entry)) (now (wc .entry)) (l .bucket)) (sideAt (now (b .entry)) (l .bucket)) (sideAt (now (b .entry)) (l .bucket) + (len + lenAt (now (b .entry)) (l .bucket))) (now (ww .entry)) (now (wc .entry)) (now (ww .exit)) (now (wc .exit)) r ⌝ }
+    ensures { λ r. ⌜ PlacedIn compare p (terms (part from len (now (ww .entry))) (part from len (now (wc .entry)))) (bucketAt (now (b .entry)) (now (ww .entry)) (now (wc .entry)) (l .bucket)) (sideAt (now (b .entry)) (l .bucket)) (sideAt (now (b .entry)) (l .bucket) + (len + lenAt (now (b .entry)) (l .bucket))) (now (ww .entry)) (now (wc .entry)) (now (ww .exit)) (now (wc .exit)) r ⌝ }
 {
     let n = len_of(b, l.bucket);
     let to = side_of(b, l.bucket);

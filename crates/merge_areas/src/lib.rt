@@ -9,7 +9,8 @@ use merge_common::shift::close_gap;
 ghost use Prim.Native.Nat.{_+_, compare};
 ghost use Rattle.polynomial.specs.Terms.{terms};
 ghost use Rattle.merge_common.specs.Lent.{part};
-ghost use Rattle.merge_areas.specs.Areas.{Areas, MergedIn};
+ghost use Rattle.merge_common.specs.Placing.{PlacedIn};
+ghost use Rattle.merge_areas.specs.Areas.{Areas};
 
 mod rest; // terms that are moved as they stand
 mod turns; // the turns of the merge
@@ -29,7 +30,7 @@ pub fn merge_areas(
     to: usize,
 ) -> Placed
     requires { ⌜ Areas p (now ww) (now wc) a n b m to ⌝ }
-    ensures { λ r. ⌜ MergedIn compare p (terms (part a n (now (ww .entry))) (part a n (now (wc .entry)))) (terms (part b m (now (ww .entry))) (part b m (now (wc .entry)))) to (to + (n + m)) (now (ww .entry)) (now (wc .entry)) (now (ww .exit)) (now (wc .exit)) r ⌝ }
+    ensures { λ r. ⌜ PlacedIn compare p (terms (part a n (now (ww .entry))) (part a n (now (wc .entry)))) (terms (part b m (now (ww .entry))) (part b m (now (wc .entry)))) to (to + (n + m)) (now (ww .entry)) (now (wc .entry)) (now (ww .exit)) (now (wc .exit)) r ⌝ }
 {
     let end = to + (n + m);
     let all = Ends {

@@ -18,7 +18,8 @@ use Rattle.merge_common.proofs.Lists.{part-from, length-part, getD-part}
 use Rattle.merge_common.proofs.Steps.{coef-within}
 use Rattle.merge_common.proofs.Joins.{joined-small}
 use Rattle.merge_common.proofs.State.{Turn, turn}
-use Rattle.merge_in.specs.Placing.{Into, PlacedIn}
+use Rattle.merge_common.specs.Placing.{PlacedIn}
+use Rattle.merge_in.specs.Placing.{Into}
 use Rattle.merge_in.proofs.Held.{Held, Lies, held-none, held-more, held-put, held-up}
 
 -- the terms at the places from j up to e

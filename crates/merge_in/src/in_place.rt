@@ -8,7 +8,8 @@ ghost use Prim.Native.Nat.{_-_, compare};
 ghost use lib.ListN.{length};
 ghost use Rattle.polynomial.specs.Terms.{terms};
 ghost use Rattle.merge_common.specs.Lent.{part};
-ghost use Rattle.merge_in.specs.Placing.{Into, PlacedIn};
+ghost use Rattle.merge_common.specs.Placing.{PlacedIn};
+ghost use Rattle.merge_in.specs.Placing.{Into};
 
 // Merges the polynomial f with the one at places h up to e, towards the room in front of it: what is
 // written stays behind what is read. Once f is used up, the other's terms stay, and the merged ones in

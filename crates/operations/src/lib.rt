@@ -1,5 +1,5 @@
 // The operations of a run, each with its refusal.
-use buckets::add::add_polynomial;
+use buckets::add::add_mostly_small;
 use buckets::sum::full_sum;
 use call::state::State;
 use limits::MOST_TERMS;
@@ -38,7 +38,7 @@ pub fn add_operation<'a>(
     if held(b) + fw.len() > MOST_TERMS {
         return s.halt(Refusal::TooManyTerms);
     }
-    let r = add_polynomial(order, p, b, fw, fc, bw, bc, ww, wc);
+    let r = add_mostly_small(order, p, b, fw, fc, bw, bc, ww, wc);
     s.compare(r).bring(fw.len()).finish()
 }
 

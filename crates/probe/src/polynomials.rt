@@ -27,7 +27,8 @@ ghost use Rattle.polynomial.specs.Terms.{terms};
 ghost use Rattle.polynomial.specs.Opening.{polynomialRefusal, startsGood, partOf};
 ghost use Rattle.polynomial.specs.Checking.{polynomialOn};
 ghost use Rattle.merge_common.specs.Lent.{part};
-ghost use Rattle.merge_areas.specs.Areas.{Areas, MergedIn};
+ghost use Rattle.merge_common.specs.Placing.{PlacedIn};
+ghost use Rattle.merge_areas.specs.Areas.{Areas};
 ghost use Rattle.multiple.specs.Multiplying.{AllPacked, anyOver, Multiplied};
 ghost use Rattle.probe.specs.Lending.{checkable, numbers, checkNumbers, partThere, placed, Factors};
 
@@ -198,7 +199,7 @@ pub extern "C" fn probe_merge_areas(
     to: usize,
 ) -> Places
     requires { ⌜ Areas p (now ww) (now wc) a n b m to ⌝ }
-    ensures { λ r. ⌜ MergedIn compare p (terms (part a n (now (ww .entry))) (part a n (now (wc .entry)))) (terms (part b m (now (ww .entry))) (part b m (now (wc .entry)))) to (to + (n + m)) (now (ww .entry)) (now (wc .entry)) (now (ww .exit)) (now (wc .exit)) (placed r) ⌝ }
+    ensures { λ r. ⌜ PlacedIn compare p (terms (part a n (now (ww .entry))) (part a n (now (wc .entry)))) (terms (part b m (now (ww .entry))) (part b m (now (wc .entry)))) to (to + (n + m)) (now (ww .entry)) (now (wc .entry)) (now (ww .exit)) (now (wc .exit)) (placed r) ⌝ }
 {
     let made = merge_areas(p, ww, wc, a, n, b, m, to);
     Places {

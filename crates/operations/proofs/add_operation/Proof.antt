@@ -25,11 +25,11 @@ same-length c = search needs
 returns : tie.Need-returns
 returns c = rw (c .halt .ensures) (add-refused (c .before .before .before .before .before .before .before .before .before .before .before .pre .0) (c .before .before .before .before .before .before .before .before .before .before .before .pre .1) (let z : mostTerms < heldIn (c .before .before .before .before .before .before .before .before .before .before .before .args .b .now) + length (now (c .before .before .before .before .before .before .before .before .before .before .before .args .fw)) = omega (arith, c .before .if1 .taken, c .before .before .held .ensures) in z))
 
-add-polynomial-requires : tie.Need-add-polynomial-requires
-add-polynomial-requires c κs = (add-asks (c .before .before .before .before .before .before .before .before .before .before .before .before .before .before .before .pre .0) (c .before .before .before .before .before .before .before .before .before .before .before .before .before .before .before .pre .1) (let z : heldIn (c .before .before .before .before .before .before .before .before .before .before .before .before .before .before .before .args .b .now) + length (now (c .before .before .before .before .before .before .before .before .before .before .before .before .before .before .before .args .fw)) ≤ mostTerms = omega (arith, c .before .before .before .before .before .if1 .left, c .before .before .before .before .before .before .held .ensures) in z), c .before .before .before .before .before .before .before .before .before .before .before .before .before .before .before .pre .2)
+add-mostly-small-requires : tie.Need-add-mostly-small-requires
+add-mostly-small-requires c κs = (add-asks (c .before .before .before .before .before .before .before .before .before .before .before .before .before .before .before .pre .0) (c .before .before .before .before .before .before .before .before .before .before .before .before .before .before .before .pre .1) (let z : heldIn (c .before .before .before .before .before .before .before .before .before .before .before .before .before .before .before .args .b .now) + length (now (c .before .before .before .before .before .before .before .before .before .before .before .before .before .before .before .args .fw)) ≤ mostTerms = omega (arith, c .before .before .before .before .before .if1 .left, c .before .before .before .before .before .before .held .ensures) in z), c .before .before .before .before .before .before .before .before .before .before .before .before .before .before .before .pre .2)
 
 compare-requires : tie.Need-compare-requires
-compare-requires c κs = omega (arith, c .before .before .before .before .before .before .before .before .before .before .before .before .before .before .before .before .before .before .before .before .before .before .before .before .before .before .pre .0 .few, c .before .before .before .before .before .before .before .before .before .before .before .before .before .before .before .before .before .before .before .before .before .before .before .before .before .before .pre .3, c .before .before .before .before .before .before .before .before .before .before .add-polynomial .ensures .few)
+compare-requires c κs = omega (arith, c .before .before .before .before .before .before .before .before .before .before .before .before .before .before .before .before .before .before .before .before .before .before .before .before .before .before .pre .0 .few, c .before .before .before .before .before .before .before .before .before .before .before .before .before .before .before .before .before .before .before .before .before .before .before .before .before .before .pre .3, c .before .before .before .before .before .before .before .before .before .before .add-mostly-small .ensures .few)
 
 bring-requires : tie.Need-bring-requires
 bring-requires c κs = rw (c .compare .ensures) (omega (arith, c .before .before .before .before .before .before .before .before .before .before .before .before .before .before .before .before .before .before .before .before .before .before .before .before .before .before .before .pre .0 .some-brought, c .before .before .before .before .before .before .before .before .before .before .before .before .before .before .before .before .before .before .before .before .before .before .before .before .before .before .before .pre .3, c .before .before .before .before .before .before .before .before .before .before .before .before .before .before .before .before .before .if1 .left))
@@ -53,7 +53,7 @@ same-length-6 : tie.Need-same-length-6
 same-length-6 c = search needs
 
 returns-2 : tie.Need-returns-2
-returns-2 c = rw (c .finish .ensures, c .before .bring .ensures, c .before .before .compare .ensures) (add-operated (c .before .before .before .before .before .before .before .before .before .before .before .before .before .before .before .before .before .before .before .before .before .before .before .before .before .before .before .before .before .pre .0) (c .before .before .before .before .before .before .before .before .before .before .before .before .before .before .before .before .before .before .before .before .before .before .before .before .before .before .before .before .before .pre .1) (let z : heldIn (c .before .before .before .before .before .before .before .before .before .before .before .before .before .before .before .before .before .before .before .before .before .before .before .before .before .before .before .before .before .args .b .now) + length (now (c .before .before .before .before .before .before .before .before .before .before .before .before .before .before .before .before .before .before .before .before .before .before .before .before .before .before .before .before .before .args .fw)) ≤ mostTerms = omega (arith, c .before .before .before .before .before .before .before .before .before .before .before .before .before .before .before .before .before .before .before .if1 .left, c .before .before .before .before .before .before .before .before .before .before .before .before .before .before .before .before .before .before .before .before .held .ensures) in z) (c .before .before .before .before .before .before .before .before .before .before .before .before .before .before .before .before .before .before .before .before .before .before .before .before .before .before .before .before .before .pre .3) (c .before .before .before .before .before .before .before .before .before .before .before .before .before .add-polynomial .ensures))
+returns-2 c = rw (c .finish .ensures, c .before .bring .ensures, c .before .before .compare .ensures) (add-operated (c .before .before .before .before .before .before .before .before .before .before .before .before .before .before .before .before .before .before .before .before .before .before .before .before .before .before .before .before .before .pre .0) (c .before .before .before .before .before .before .before .before .before .before .before .before .before .before .before .before .before .before .before .before .before .before .before .before .before .before .before .before .before .pre .1) (let z : heldIn (c .before .before .before .before .before .before .before .before .before .before .before .before .before .before .before .before .before .before .before .before .before .before .before .before .before .before .before .before .before .args .b .now) + length (now (c .before .before .before .before .before .before .before .before .before .before .before .before .before .before .before .before .before .before .before .before .before .before .before .before .before .before .before .before .before .args .fw)) ≤ mostTerms = omega (arith, c .before .before .before .before .before .before .before .before .before .before .before .before .before .before .before .before .before .before .before .if1 .left, c .before .before .before .before .before .before .before .before .before .before .before .before .before .before .before .before .before .before .before .before .held .ensures) in z) (c .before .before .before .before .before .before .before .before .before .before .before .before .before .before .before .before .before .before .before .before .before .before .before .before .before .before .before .before .before .pre .3) (c .before .before .before .before .before .before .before .before .before .before .before .before .before .add-mostly-small .ensures))
 
 pub add-operation-spec : {M : Type 1} → statement M
 add-operation-spec =
@@ -64,7 +64,7 @@ add-operation-spec =
     halt-requires
     same-length
     returns
-    add-polynomial-requires
+    add-mostly-small-requires
     compare-requires
     bring-requires
     finish-requires
