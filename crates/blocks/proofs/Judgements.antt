@@ -20,6 +20,7 @@ use Rattle.opening.specs.Run.{unless, setting}
 use Rattle.opening.specs.Judgement.{settingConditions, polynomialConditions}
 use Rattle.opening.proofs.Judging.{judged-unless, judged-first, judged-test}
 use Rattle.opening.proofs.Judgements.{setting-counted, setting-judged}
+use Rattle.opening.proofs.WeightsJudged.{weights-small}
 use Rattle.opening.proofs.PolynomialsJudged.{polynomial-counted, polynomial-judged}
 use Rattle.opening.proofs.ListedLaws.{setting-by, polynomial-by}
 use Rattle.block.specs.Block.{blockCount, blocksOf, settingIn}
@@ -66,7 +67,7 @@ module _ (t : Setting) (ws cs : List ℕ) (room : ℕ) where
       let late = first (unless (leb (length ws) mostTerms) 11) full in
       judged-first (settingConditions t) (eight ∷ (polynomialConditions t ts ++ last)) (setting t) (first (unless sizes 8) (first r late)) (setting-counted t) (setting-judged t)
       (λ s. judged-test eight (polynomialConditions t ts ++ last) sizes (first r late) (omega arith) sizes-good good-sizes
-      (λ l. judged-first (polynomialConditions t ts) last r late (polynomial-counted t ts) (polynomial-judged t (s .1 .1 .0 .1) ts)
+      (λ l. judged-first (polynomialConditions t ts) last r late (polynomial-counted t ts) (polynomial-judged t (s .1 .1 .0 .1) (weights-small (t .n) (t .weights) (s .1 .1 .1 .0)) ts)
       (λ a. judged-test eleven (ten ∷ []) (leb (length ws) mostTerms) full (omega arith) (leb-true (length ws) mostTerms) (le-leb (length ws) mostTerms)
       (λ f. judged-unless ten (leb (512 * blockCount (length ws)) room) (λ e. omega (arith, all-bytes (l .coefs-alike), leb-true (512 * blockCount (length ws)) room e)) (λ g. le-leb (512 * blockCount (length ws)) room (omega (arith, all-bytes (l .coefs-alike), g)))))))
 
@@ -96,7 +97,7 @@ module _ (s : List ℕ) (ow oc : ℕ) (u : Below 256 s) where
       let full = unless (leb (totalIn s) ow) 10 in
       let l = length-first s (totalIn s) in
       judged-first (settingConditions t) (polynomialConditions t us ++ (room ∷ [])) (setting t) (first r full) (setting-counted t) (setting-judged t)
-      (λ g. judged-first (polynomialConditions t us) (room ∷ []) r full (polynomial-counted t us) (polynomial-judged t (g .1 .1 .0 .1) us)
+      (λ g. judged-first (polynomialConditions t us) (room ∷ []) r full (polynomial-counted t us) (polynomial-judged t (g .1 .1 .0 .1) (weights-small (t .n) (t .weights) (g .1 .1 .1 .0)) us)
       (λ a. judged-unless room (leb (totalIn s) ow) (λ e. omega (arith, l, leb-true (totalIn s) ow e)) (λ f. le-leb (totalIn s) ow (omega (arith, l, f)))))
 
   pub read-judged : Judged (readConditions s ow oc) (readRefusal s ow oc)

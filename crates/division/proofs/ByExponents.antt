@@ -81,14 +81,14 @@ module _ {o : Order} {n : ℕ} {vs : List ℕ} {p : ℕ} {gs : List (List (Term 
   sound = choice-sound cmp p Is dividesWord gs (given .divisors) choose (chosen-choice dividesWord gs)
 
   same : (w : ℕ) → Layout o n vs w → chosen divides (map (inExponents o n) gs) (exponents o n w) ≡ fitRenamed (exponents o n) (λ w. Layout o n vs w) (chosen dividesWord gs w)
-  same = chosen-renamed (exponents o n) Is cmp dividesWord _-_ _+_ (compareIn o vs) divides quotient product (words-agree o n vs (given .few)) p gs (given .divisors)
+  same = chosen-renamed (exponents o n) Is cmp dividesWord _-_ _+_ (compareIn o vs) divides quotient product (words-agree o n vs (given .few) (given .small)) p gs (given .divisors)
 
   unfit-of : (w : ℕ) → Layout o n vs w → chosen dividesWord gs w ≡ unfit → chosen divides (map (inExponents o n) gs) (exponents o n w) ≡ unfit
   unfit-of w l e = same w l ∙ ap (fitRenamed (exponents o n) Is) e
 
   step-of : (t : Term ℕ) (ts : List (Term ℕ)) (g : Term ℕ) (tail h : List (Term ℕ)) → DividedStep (compareWords o) (chosen dividesWord gs) _-_ _+_ overWord (λ w. Layout o n vs w) p t ts g tail h
       → DividedStep (compareIn o vs) (chosen divides (map (inExponents o n) gs)) quotient product (λ a b. false) (λ α. length α ≡ n) p (term (exponents o n (t .mono)) (t .coef)) (inExponents o n ts) (term (exponents o n (g .mono)) (g .coef)) (inExponents o n tail) (inExponents o n h)
-  step-of = renamed-step (exponents o n) Is cmp dividesWord _-_ _+_ (compareIn o vs) divides quotient product (words-agree o n vs (given .few)) (words-order o) (exponents-order o vs) overWord (word-operations o n vs (given .few)) p (given .prime) choose sound (chosen divides G) same (λ α. length α ≡ n) (λ w l. length-exponents o n w (given .few))
+  step-of = renamed-step (exponents o n) Is cmp dividesWord _-_ _+_ (compareIn o vs) divides quotient product (words-agree o n vs (given .few) (given .small)) (words-order o) (exponents-order o vs) overWord (word-operations o n vs (given .few) (given .small)) p (given .prime) choose sound (chosen divides G) same (λ α. length α ≡ n) (λ w l. length-exponents o n w (given .few))
 
   -- ---- a reduction follows the division algorithm on exponents, for any relation that a step of it keeps; R k g r ls: k steps divide g, leave r and remove the leads ls
   module _
@@ -103,14 +103,14 @@ module _ {o : Order} {n : ℕ} {vs : List ℕ} {p : ℕ} {gs : List (List (Term 
         subst (λ (j : ℕ). R j (E f) (E (reduced .remainder) ++ s) (E (reduced .work .given) ++ ks)) (let e : reduced .leads + 0 + i ≡ reduced .leads + i = omega arith in e)
         (subst (λ (u : List (Term ℕ)). R (reduced .leads + 0 + i) (E f) (E u ++ s) (E (reduced .work .given) ++ ks)) (append-nil (reduced .remainder))
         (subst (λ (u : List (Term ℕ)). R (reduced .leads + 0 + i) (E f) (E (reduced .remainder ++ []) ++ s) (E u ++ ks)) (append-nil (reduced .work .given))
-        (reduction-follows cmp (words-order o) dividesWord _-_ _+_ overWord Is (word-operations o n vs (given .few)) p (given .prime) choose sound places (λ k g u ls. R (k + i) (E g) (E u ++ s) (E ls ++ ks))
+        (reduction-follows cmp (words-order o) dividesWord _-_ _+_ overWord Is (word-operations o n vs (given .few) (given .small)) p (given .prime) choose sound places (λ k g u ls. R (k + i) (E g) (E u ++ s) (E ls ++ ks))
         (λ k t ts u us l e d. subst (λ (j : ℕ). R j (E (t ∷ ts)) (E (t ∷ u) ++ s) (E (t ∷ us) ++ ks)) (let q : suc (k + i) ≡ suc k + i = omega arith in q) (kept (k + i) (one t) (E ts) (E u ++ s) (E us ++ ks) (unfit-of (t .mono) l e) d))
         (λ k t ts u us g tail w a d. subst (λ (j : ℕ). R j (E (t ∷ ts)) (E u ++ s) (E (t ∷ us) ++ ks)) (let q : suc (k + i) ≡ suc k + i = omega arith in q) (divided (k + i) (one t) (E ts) (E u ++ s) (E us ++ ks) (one g) (E tail) (E w) (step-of t ts g tail w a) d))
         limit f (given .valid) h 0 [] [] (subst (λ (j : ℕ). R j (E whole) s ks) (let q : i ≡ 0 + i = omega arith in q) r))))
 
     follows-all : R 0 [] [] [] → reduced .stop ≡ 0 → R (reduced .leads) (E f) (E (reduced .remainder)) (E (reduced .work .given))
     follows-all =
-        finished-follows cmp (words-order o) dividesWord _-_ _+_ overWord Is (word-operations o n vs (given .few)) p (given .prime) choose sound places (λ k g u ls. R k (E g) (E u) (E ls))
+        finished-follows cmp (words-order o) dividesWord _-_ _+_ overWord Is (word-operations o n vs (given .few) (given .small)) p (given .prime) choose sound places (λ k g u ls. R k (E g) (E u) (E ls))
         (λ k t ts u us l e d. kept k (one t) (E ts) (E u) (E us) (unfit-of (t .mono) l e) d)
         (λ k t ts u us g tail w a d. divided k (one t) (E ts) (E u) (E us) (one g) (E tail) (E w) (step-of t ts g tail w a) d)
         limit f (given .valid)
@@ -139,7 +139,7 @@ module _ {o : Order} {n : ℕ} {vs : List ℕ} {p : ℕ} {gs : List (List (Term 
   combined-kept k t ts s ks e c = combination-kept (compareIn o vs) product (λ α. length α ≡ n) p G t ts s c
 
   combined-divided : (k : ℕ) (t : Term (List ℕ)) (ts s ks : List (Term (List ℕ))) (g : Term (List ℕ)) (tail h : List (Term (List ℕ))) → DividedStep (compareIn o vs) (chosen divides (map (inExponents o n) gs)) quotient product (λ a b. false) (λ α. length α ≡ n) p t ts g tail h → Combined h s → Combined (t ∷ ts) s
-  combined-divided k t ts s ks g tail h a c = combination-divided (compareIn o vs) product (λ α. length α ≡ n) p G divides quotient (λ a b. false) (exponent-operations o n vs) (given .prime) (all-exponents o n vs (given .few) p gs (given .divisors)) (chosen divides G) (chosen-choice divides G) t ts g tail h a s c
+  combined-divided k t ts s ks g tail h a c = combination-divided (compareIn o vs) product (λ α. length α ≡ n) p G divides quotient (λ a b. false) (exponent-operations o n vs) (given .prime) (all-exponents o n vs (given .few) (given .small) p gs (given .divisors)) (chosen divides G) (chosen-choice divides G) t ts g tail h a s c
 
   -- of a finished reduction, the polynomial is the remainder and a sum of multiples of divisors
   pub by-remainder : reduced .stop ≡ 0 → Combined (E f) (E (reduced .remainder))
@@ -154,10 +154,10 @@ module _ {o : Order} {n : ℕ} {vs : List ℕ} {p : ℕ} {gs : List (List (Term 
     whole-are = sum-each Is cmp p [] (reduced .work .buckets) tt (W.last-state given places limit .held-are)
 
     whole-same : Same (compareIn o vs) p (E whole) (E ts)
-    whole-same = same-renamed (exponents o n) Is cmp (compareIn o vs) (exponents-order o vs) (words-agree o n vs (given .few) .compares) p whole ts whole-are (held-as .are) (λ m. whole-right .1 m ∙ ap (λ (k : ℕ). k % p) (sym (held-as .totals m)))
+    whole-same = same-renamed (exponents o n) Is cmp (compareIn o vs) (exponents-order o vs) (words-agree o n vs (given .few) (given .small) .compares) p whole ts whole-are (held-as .are) (λ m. whole-right .1 m ∙ ap (λ (k : ℕ). k % p) (sym (held-as .totals m)))
 
     whole-canonical : Canonical (compareIn o vs) p (E whole)
-    whole-canonical = canonical-renamed (exponents o n) Is cmp (compareIn o vs) (words-agree o n vs (given .few) .compares) p whole whole-are (whole-right .0)
+    whole-canonical = canonical-renamed (exponents o n) Is cmp (compareIn o vs) (words-agree o n vs (given .few) (given .small) .compares) p whole whole-are (whole-right .0)
 
     -- what is held has a canonical list, the full sum, and no other
     pub held-canonical : (h : List (Term (List ℕ))) × Canonical (compareIn o vs) p h × Same (compareIn o vs) p h (E ts)
@@ -169,8 +169,8 @@ module _ {o : Order} {n : ℕ} {vs : List ℕ} {p : ℕ} {gs : List (List (Term 
     -- Demand 1: each refusal under its condition
     pub by-ending : Ending (compareIn o vs) (chosen divides (map (inExponents o n) gs)) quotient (λ α β. not (below 128 (product α β))) p places limit (reduced .stop) (reduced .leads) (E f) (E (reduced .remainder)) (E ts ∷ [])
     by-ending =
-        ending-renamed (exponents o n) Is cmp (compareIn o vs) (exponents-order o vs) (words-agree o n vs (given .few) .compares) (words-order o) p (reduced .work .buckets) ts held-as dividesWord _-_ _+_ overWord divides quotient product (λ α β. not (below 128 (product α β)))
-        (words-agree o n vs (given .few)) (λ a b i j. sym (over-exponents o n vs (given .few) a b i j)) (word-operations o n vs (given .few)) choose sound (chosen divides G) same places limit (reduced .stop) (reduced .leads) f (reduced .remainder) (W.demand-1-ending given places limit)
+        ending-renamed (exponents o n) Is cmp (compareIn o vs) (exponents-order o vs) (words-agree o n vs (given .few) (given .small) .compares) (words-order o) p (reduced .work .buckets) ts held-as dividesWord _-_ _+_ overWord divides quotient product (λ α β. not (below 128 (product α β)))
+        (words-agree o n vs (given .few) (given .small)) (λ a b i j. sym (over-exponents o n vs (given .few) (given .small) a b i j)) (word-operations o n vs (given .few) (given .small)) choose sound (chosen divides G) same places limit (reduced .stop) (reduced .leads) f (reduced .remainder) (W.demand-1-ending given places limit)
 
     -- the polynomial is the remainder so far, what is still held, and a sum of multiples of divisors
     pub by-sum : length f ≤ mostTerms → Combined (E f) (E (reduced .remainder) ++ E ts)
@@ -227,7 +227,7 @@ module _ {o : Order} {n : ℕ} {vs : List ℕ} {p : ℕ} {gs : List (List (Term 
   last-are = W.last-state given places limit .out-gone .are
 
   pub remainder-canonical : Canonical (compareIn o vs) p (E (reduced .remainder))
-  remainder-canonical = canonical-renamed (exponents o n) Is cmp (compareIn o vs) (words-agree o n vs (given .few) .compares) p (reduced .remainder) last-are (W.remainder-canonical given places limit)
+  remainder-canonical = canonical-renamed (exponents o n) Is cmp (compareIn o vs) (words-agree o n vs (given .few) (given .small) .compares) p (reduced .remainder) last-are (W.remainder-canonical given places limit)
 
   pub remainder-irreducible : All (λ u. Undivided divides (map (inExponents o n) gs) (u .mono)) (E (reduced .remainder))
   remainder-irreducible =
@@ -255,7 +255,7 @@ module _ {o : Order} {n : ℕ} {vs : List ℕ} {p : ℕ} {gs : List (List (Term 
   leads-only ls d = leads-unique (compareIn o vs) (exponents-order o vs) (chosen divides G) quotient product p pos (reduced .leads) (E f) ls (E (reduced .work .given)) d leads-are
 
   pub leads-fall : Falling (compareIn o vs) (E (reduced .work .given))
-  leads-fall = let l = W.last-state given places limit .given-gone in canonical-renamed (exponents o n) Is cmp (compareIn o vs) (words-agree o n vs (given .few) .compares) p (reduced .work .given) (l .are) (l .canonical) .falling
+  leads-fall = let l = W.last-state given places limit .given-gone in canonical-renamed (exponents o n) Is cmp (compareIn o vs) (words-agree o n vs (given .few) (given .small) .compares) p (reduced .work .given) (l .are) (l .canonical) .falling
 
   pub leads-count : length (E (reduced .work .given)) ≡ reduced .leads
   leads-count = renamed-long (exponents o n) Is (reduced .work .given) ∙ W.leads-count given places limit

@@ -7,7 +7,7 @@ use lib.ListN.{length}
 use Rattle.limits.specs.Limits.{mostSteps, mostTerms}
 use Rattle.residue.specs.Prime.{Prime}
 use Rattle.monomial.specs.declared.order.Order.{Order}
-use Rattle.monomial.specs.Layout.{Layout}
+use Rattle.monomial.specs.Layout.{Below, Layout}
 use Rattle.monomial.specs.Words.{compareWords, dividesWord}
 use Rattle.monomial.proofs.OrderLaws.{words-order}
 use Rattle.polynomial.specs.Terms.{Term, All, Falling, total, Canonical}
@@ -35,6 +35,7 @@ use Rattle.division.proofs.AnyDivision.{division-none, division-kept, d
 -- what the opening checks leave of the polynomial f and the divisors gs
 pub record Given (o : Order) (n : ℕ) (vs : List ℕ) (p : ℕ) (gs : List (List (Term ℕ))) (f : List (Term ℕ)) : Type 0 where
   pub few : n ≤ 6
+  pub small : Below 17 vs
   pub prime : Prime p
   pub divisors : AllOf (Valid (compareWords o) p (λ w. Layout o n vs w)) gs
   pub valid : Valid (compareWords o) p (λ w. Layout o n vs w) f
@@ -65,12 +66,12 @@ module _ {o : Order} {n : ℕ} {vs : List ℕ} {p : ℕ} {gs : List (List (Term 
 
   -- ---- Demand 1: "a result, or a numbered refusal under its stated condition and no other". It bars a reduction that stops with 13 before the limit's leads are removed.
   pub demand-1-ending : Ending cmp choose _-_ overWord p places limit (reduced .stop) (reduced .leads) f (reduced .remainder) (reduced .work .buckets)
-  demand-1-ending = ending cmp (words-order o) dividesWord _-_ _+_ overWord Is (word-operations o n vs (given .few)) p (given .prime) choose sound places limit f (given .valid)
+  demand-1-ending = ending cmp (words-order o) dividesWord _-_ _+_ overWord Is (word-operations o n vs (given .few) (given .small)) p (given .prime) choose sound places limit f (given .valid)
 
   -- ---- Demand 2: "A finished remainder is that of the division algorithm in its stated divisor order", and the leads removed are its steps
   pub demand-2-division : reduced .stop ≡ 0 → Division cmp choose _-_ _+_ p (reduced .leads) f (reduced .remainder)
   demand-2-division z =
-      finished-follows cmp (words-order o) dividesWord _-_ _+_ overWord Is (word-operations o n vs (given .few)) p (given .prime) choose sound places (λ k g r ls. Division cmp choose _-_ _+_ p k g r)
+      finished-follows cmp (words-order o) dividesWord _-_ _+_ overWord Is (word-operations o n vs (given .few) (given .small)) p (given .prime) choose sound places (λ k g r ls. Division cmp choose _-_ _+_ p k g r)
       (λ k t ts s ks i e d. division-kept cmp choose _-_ _+_ p k t ts s e d)
       (λ k t ts s ks g tail h a d. division-divided cmp choose _-_ _+_ p k t ts s (a .number) g tail h (a .fit) (a .sum) d)
       limit f (given .valid) (division-none cmp choose _-_ _+_ p) z
@@ -83,7 +84,7 @@ module _ {o : Order} {n : ℕ} {vs : List ℕ} {p : ℕ} {gs : List (List (Term 
   pub demand-2-stopped : length f ≤ mostTerms → (k : ℕ) (s : List (Term ℕ)) → Division cmp choose _-_ _+_ p k (fullSum cmp p (reduced .work .buckets)) s
       → Division cmp choose _-_ _+_ p (reduced .leads + k) f (reduced .remainder ++ s)
   demand-2-stopped h k s d =
-      reduction-follows cmp (words-order o) dividesWord _-_ _+_ overWord Is (word-operations o n vs (given .few)) p (given .prime) choose sound places (λ k g r ls. Division cmp choose _-_ _+_ p k g r)
+      reduction-follows cmp (words-order o) dividesWord _-_ _+_ overWord Is (word-operations o n vs (given .few) (given .small)) p (given .prime) choose sound places (λ k g r ls. Division cmp choose _-_ _+_ p k g r)
       (λ k t ts s ks i e d. division-kept cmp choose _-_ _+_ p k t ts s e d)
       (λ k t ts s ks g tail h a d. division-divided cmp choose _-_ _+_ p k t ts s (a .number) g tail h (a .fit) (a .sum) d)
       limit f (given .valid) h k s [] d
@@ -91,22 +92,22 @@ module _ {o : Order} {n : ℕ} {vs : List ℕ} {p : ℕ} {gs : List (List (Term 
   -- the polynomial is the remainder, what the buckets still hold, and a sum of multiples of divisors
   pub demand-2-sum : length f ≤ mostTerms → Combination cmp _+_ Is p gs f (reduced .remainder ++ fullSum cmp p (reduced .work .buckets))
   demand-2-sum h =
-      reduction-follows cmp (words-order o) dividesWord _-_ _+_ overWord Is (word-operations o n vs (given .few)) p (given .prime) choose sound places (λ k g r ls. Combination cmp _+_ Is p gs g r)
+      reduction-follows cmp (words-order o) dividesWord _-_ _+_ overWord Is (word-operations o n vs (given .few) (given .small)) p (given .prime) choose sound places (λ k g r ls. Combination cmp _+_ Is p gs g r)
       (λ k t ts s ks i e c. combination-kept cmp _+_ Is p gs t ts s c)
-      (λ k t ts s ks g tail h a c. combination-divided cmp _+_ Is p gs dividesWord _-_ overWord (word-operations o n vs (given .few)) (given .prime) (given .divisors) choose choice t ts g tail h a s c)
+      (λ k t ts s ks g tail h a c. combination-divided cmp _+_ Is p gs dividesWord _-_ overWord (word-operations o n vs (given .few) (given .small)) (given .prime) (given .divisors) choose choice t ts g tail h a s c)
       limit f (given .valid) h 0 _ [] (combination-none cmp _+_ Is p gs _)
 
   -- of a finished one, the remainder and that
   pub demand-2-remainder : reduced .stop ≡ 0 → Combination cmp _+_ Is p gs f (reduced .remainder)
   demand-2-remainder z =
-      finished-follows cmp (words-order o) dividesWord _-_ _+_ overWord Is (word-operations o n vs (given .few)) p (given .prime) choose sound places (λ k g r ls. Combination cmp _+_ Is p gs g r)
+      finished-follows cmp (words-order o) dividesWord _-_ _+_ overWord Is (word-operations o n vs (given .few) (given .small)) p (given .prime) choose sound places (λ k g r ls. Combination cmp _+_ Is p gs g r)
       (λ k t ts s ks i e c. combination-kept cmp _+_ Is p gs t ts s c)
-      (λ k t ts s ks g tail h a c. combination-divided cmp _+_ Is p gs dividesWord _-_ overWord (word-operations o n vs (given .few)) (given .prime) (given .divisors) choose choice t ts g tail h a s c)
+      (λ k t ts s ks g tail h a c. combination-divided cmp _+_ Is p gs dividesWord _-_ overWord (word-operations o n vs (given .few) (given .small)) (given .prime) (given .divisors) choose choice t ts g tail h a s c)
       limit f (given .valid) (combination-none cmp _+_ Is p gs []) z
 
   -- what holds of the last state, finished or stopped
   pub last-state : Last cmp p Is choose places limit reduced
-  last-state = last cmp (words-order o) dividesWord _-_ _+_ overWord Is (word-operations o n vs (given .few)) p (given .prime) choose sound places limit f (given .valid)
+  last-state = last cmp (words-order o) dividesWord _-_ _+_ overWord Is (word-operations o n vs (given .few) (given .small)) p (given .prime) choose sound places limit f (given .valid)
 
   -- the buckets at return are canonical
   pub held-canon : Canon cmp p (reduced .work .buckets)
@@ -132,7 +133,7 @@ module _ {o : Order} {n : ℕ} {vs : List ℕ} {p : ℕ} {gs : List (List (Term 
       few-leads h =
           subst (λ (k : ℕ). LeadsOf cmp choose _-_ _+_ p k f (reduced .work .given)) (let i : reduced .leads + 0 ≡ reduced .leads = omega arith in i)
           (subst (λ (l : List (Term ℕ)). LeadsOf cmp choose _-_ _+_ p (reduced .leads + 0) f l) (append-nil (reduced .work .given))
-          (reduction-follows cmp (words-order o) dividesWord _-_ _+_ overWord Is (word-operations o n vs (given .few)) p (given .prime) choose sound places (λ k g r ls. LeadsOf cmp choose _-_ _+_ p k g ls)
+          (reduction-follows cmp (words-order o) dividesWord _-_ _+_ overWord Is (word-operations o n vs (given .few) (given .small)) p (given .prime) choose sound places (λ k g r ls. LeadsOf cmp choose _-_ _+_ p k g ls)
           (λ k t ts s ks i e d. leads-kept cmp choose _-_ _+_ p k t ts ks e d)
           (λ k t ts s ks g tail h a d. leads-divided cmp choose _-_ _+_ p k t ts ks (a .number) g tail h (a .fit) (a .sum) d)
           limit f (given .valid) h 0 [] [] (leads-none cmp choose _-_ _+_ p _)))
@@ -146,15 +147,15 @@ module _ {o : Order} {n : ℕ} {vs : List ℕ} {p : ℕ} {gs : List (List (Term 
   -- ---- Demand 3, finished or stopped
   -- "The monomial comparisons counted are exactly those that the published merge and search make on that list, one by one": the work is that of the events, from the empty geobucket
   pub demand-3-events : reduced .work ≡ perform cmp p (reductionEvents choose _-_ _+_ p f (reduced .work .given)) start
-  demand-3-events = reduction-performs cmp (words-order o) dividesWord _-_ _+_ overWord Is (word-operations o n vs (given .few)) p (given .prime) choose sound places limit f (given .valid)
+  demand-3-events = reduction-performs cmp (words-order o) dividesWord _-_ _+_ overWord Is (word-operations o n vs (given .few) (given .small)) p (given .prime) choose sound places limit f (given .valid)
 
   -- "They are at most 6·N·M"
   pub demand-3-bound : length (reduced .work .pairs) ≤ bound (length (reduced .work .brought))
-  demand-3-bound = reduction-bound cmp (words-order o) dividesWord _-_ _+_ overWord Is (word-operations o n vs (given .few)) p (given .prime) choose sound places limit f (given .valid)
+  demand-3-bound = reduction-bound cmp (words-order o) dividesWord _-_ _+_ overWord Is (word-operations o n vs (given .few) (given .small)) p (given .prime) choose sound places limit f (given .valid)
 
   -- "as polynomials modulo p, terms given out + terms still held = terms brought in"
   pub demand-3-kept : (m : ℕ) → (total cmp m (reduced .work .given) + totalIn cmp m (reduced .work .buckets)) % p ≡ total cmp m (reduced .work .brought) % p
-  demand-3-kept m = reduction-kept cmp (words-order o) dividesWord _-_ _+_ overWord Is (word-operations o n vs (given .few)) p (given .prime) choose sound places limit f (given .valid) m
+  demand-3-kept m = reduction-kept cmp (words-order o) dividesWord _-_ _+_ overWord Is (word-operations o n vs (given .few) (given .small)) p (given .prime) choose sound places limit f (given .valid) m
 
   -- the counts fit in 64 bits, with the largest limit that the opening checks pass
   pub counts-fit : limit ≤ mostSteps → (length (reduced .work .pairs) < 2 ^ 61) × (length (reduced .work .brought) < 2 ^ 56)

@@ -7,7 +7,7 @@ use native.Mathlib.Omega.{arith}
 use lib.ListN.{length}
 use Rattle.monomial.specs.declared.order.Order.{Order}
 use Rattle.monomial.specs.Exponents.{divides, quotient, product, compareIn}
-use Rattle.monomial.specs.Layout.{bytes, exponents, below, Layout}
+use Rattle.monomial.specs.Layout.{bytes, exponents, Below, below, Layout}
 use Rattle.monomial.specs.Words.{compareWords, dividesWord}
 use Rattle.monomial.proofs.Places.{below-true}
 use Rattle.monomial.proofs.ByteLaws.{bytes-add}
@@ -25,7 +25,7 @@ not-false : (b : Bool) → not b ≡ false → b ≡ true
 not-false true h = refl
 not-false false h = absurd (let z : _≡_ {A = ℕ} 0 1 = cc in let q : ⊥ = omega arith in q)
 
-module _ (o : Order) (n : ℕ) (vs : List ℕ) (few : n ≤ 6) where
+module _ (o : Order) (n : ℕ) (vs : List ℕ) (few : n ≤ 6) (small : Below 17 vs) where
   by-exponents : (a b : ℕ) → Layout o n vs a → Layout o n vs b → dividesWord b a ≡ true → divides (exponents o n b) (exponents o n a) ≡ true
   by-exponents a b la lb d = sym (divides-layout o n vs b a few lb la) ∙ d
 
@@ -51,13 +51,13 @@ module _ (o : Order) (n : ℕ) (vs : List ℕ) (few : n ≤ 6) where
         (ap (below 128) (sym (bytes-add 6 (a - b) b (layout-tops o n vs (a - b) few (word-quotient a b la lb d)) (layout-tops o n vs b few lb)))
         ∙ (ap (λ (w : ℕ). below 128 (bytes 6 w)) (word-back a b la lb d) ∙ below-true 128 (bytes 6 a) (layout-tops o n vs a few la)));
     product-is = λ a b la lb h. product-layout o n vs a b few la lb (fitting a b la lb h);
-    keeps = λ m a b lm la lb h k. multiply-keeps o n vs m a b few lm la lb (fitting m a lm la h) (fitting m b lm lb k);
+    keeps = λ m a b lm la lb h k. multiply-keeps o n vs m a b few small lm la lb (fitting m a lm la h) (fitting m b lm lb k);
   }
 
   -- ---- the same by exponents
   pub words-agree : Agrees (exponents o n) (λ w. Layout o n vs w) (compareWords o) dividesWord _-_ _+_ (compareIn o vs) divides quotient product
   words-agree = record {
-    compares = λ a b la lb. sym (compare-layout o n vs a b few la lb);
+    compares = λ a b la lb. sym (compare-layout o n vs a b few small la lb);
     divide = λ a b la lb. sym (divides-layout o n vs b a few lb la);
     quotients = λ a b la lb d. sym (quotient-exponents o n vs a b few la lb (by-exponents a b la lb d));
     products = λ a b la lb. sym (product-exponents o n vs a b few la lb);

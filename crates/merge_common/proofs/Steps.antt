@@ -7,12 +7,11 @@ use native.Mathlib.Omega.{arith}
 use lib.Dec.{ltb}
 use lib.ListN.{length, getD}
 use Rattle.monomial.specs.declared.order.Order.{Order}
-use Rattle.monomial.specs.declared.order.Order.the-variants.{DegLex}
 use Rattle.monomial.specs.Words.{keyOf, fromKey}
 use Rattle.monomial.proofs.KeyLaws.{word-of-key}
 use Rattle.polynomial.specs.Terms.{Term, term, terms, All}
 use Rattle.polynomial.specs.Opening.{isLarger}
-use Rattle.polynomial.proofs.OpeningLaws.{larger-key}
+use Rattle.polynomial.proofs.OpeningLaws.{larger-number}
 use Rattle.polynomial.proofs.TermLists.{length-terms, term-at}
 use Rattle.merge_common.specs.Lent.{Poly, flag, chosen}
 
@@ -24,8 +23,8 @@ pub chosen-none : (f x y : ℕ) → f ≤ 1 → (f ≡ 1 → ⊥) → y ≡ chos
 chosen-none f x y h ne = let e : f ≡ 0 = omega arith in rw e
 
 -- ---- the larger key
-pub larger-flag : (x y : ℕ) → x < 2 ^ 64 → y < 2 ^ 64 → flag (ltb y x) ≡ flag (isLarger (compare x y))
-larger-flag x y hx hy = ap flag (sym (larger-key DegLex x y hx hy))
+pub larger-flag : (x y : ℕ) → flag (ltb y x) ≡ flag (isLarger (compare x y))
+larger-flag x y = ap flag (sym (larger-number x y))
 
 -- the words of the keys of 64-bit words are these
 pub keys-back : (o : Order) (ws : List ℕ) → ((i : ℕ) → getD ws i 0 < 2 ^ 64) → map (fromKey o) (map (keyOf o) ws) ≡ ws

@@ -222,12 +222,12 @@ revLex-top [] (b ∷ β) h = absurd (let z : ⊥ = omega arith in z)
 revLex-top (a ∷ α) [] h = absurd (let z : ⊥ = omega arith in z)
 revLex-top (a ∷ α) (b ∷ β) h = ap (λ (o : Ordering). orElse o (compare b a)) (revLex-top α β (omega arith))
 
-orElse-assoc : (x y z : Ordering) → orElse (orElse x y) z ≡ orElse x (orElse y z)
+pub orElse-assoc : (x y z : Ordering) → orElse (orElse x y) z ≡ orElse x (orElse y z)
 orElse-assoc Ordering·lt y z = refl
 orElse-assoc Ordering·eq y z = refl
 orElse-assoc Ordering·gt y z = refl
 
-orElse-none : (x : Ordering) → orElse x Ordering·eq ≡ x
+pub orElse-none : (x : Ordering) → orElse x Ordering·eq ≡ x
 orElse-none Ordering·lt = refl
 orElse-none Ordering·eq = refl
 orElse-none Ordering·gt = refl

@@ -2,7 +2,7 @@
 use mathlib.Core.Path.{_≡_, refl, sym, ap, ap₂, _∙_, subst}
 use mathlib.Core.Bool.{Bool, false}
 use mathlib.Core.List.{List, [], _∷_, reverse}
-use Prim.Native.Nat.{ℕ, zero, suc, _+_, _-_, _*_, _/_, _%_, _^_, _<_, _≤_, min, zero-le, compare}
+use Prim.Native.Nat.{ℕ, zero, suc, _+_, _-_, _*_, _/_, _%_, _^_, _<_, _≤_, zero-le, compare}
 use native.Mathlib.Nat.{mul-pos, zero-mul, mod-eq-of-lt, div-div-eq-div-mul, mul-le-mul}
 use native.Mathlib.Numerals.{add-one}
 use native.Mathlib.Omega.{arith}
@@ -22,7 +22,7 @@ use Rattle.monomial.proofs.Comparing.{lt-compare, eq-compare, gt-compar
 use Rattle.monomial.proofs.Places.{length-each, below-reverse, below-true, below-upward, length-upward, weighted-zeros, upward-upward, weighted-upward, weighted-enough, true-below}
 use Rattle.monomial.proofs.ByteLaws.{length-bytes, bytes-below, ofBytes-bytes, bytes-of, tops, tops-clear, tops-set, apart, apart-sum, apart-below, apart-full, full, ofBytes-drop, ofBytes-take, zero-bytes}
 use Rattle.monomial.proofs.LayoutLaws.{below-fields}
-use Rattle.monomial.proofs.KeyLaws.{key-compare}
+use Rattle.monomial.proofs.KeyLaws.{key-compare, from-key}
 use Rattle.monomial.proofs.FieldLaws.{pow-bytes, drop-reverse, word-more}
 
 -- ---- the number of an order
@@ -39,7 +39,7 @@ order-other k h l = sym (ap₂ orderBy (ne-eqb k 1 h) (ne-eqb k 2 l))
 pub key-lex : (o : Order) (w : ℕ) → o ≡ Lex → w % 2 ^ 48 * 65536 + w / 2 ^ 48 ≡ keyOf o w
 key-lex o w h = rw h
 
-inverted : (r : ℕ) → r < 2 ^ 48 → bitXor r (2 ^ 48 - 1) ≡ 2 ^ 48 - 1 - r
+pub inverted : (r : ℕ) → r < 2 ^ 48 → bitXor r (2 ^ 48 - 1) ≡ 2 ^ 48 - 1 - r
 inverted r h = omega (arith, xor-add-and r (2 ^ 48 - 1), and-mask r 48)
 
 pub key-rev : (o : Order) (w : ℕ) → o ≡ DegRevLex → bitXor w (2 ^ 48 - 1) ≡ keyOf o w
@@ -50,14 +50,14 @@ key-rev o w h =
     ∙ ap₂ (λ (i j : ℕ). i * 2 ^ 48 + j) (xor-zero-r (high w)) (inverted (low w) (omega arith))))
 
 pub word-lex : (o : Order) (k : ℕ) → k < 2 ^ 64 → o ≡ Lex → k % 65536 * 2 ^ 48 + k / 65536 ≡ fromKey o k
-word-lex o k h e =
-    let m : min (k / 2 ^ 16) (2 ^ 48 - 1) ≡ k / 65536 = omega arith in
-    let r : k - k / 65536 * 2 ^ 16 ≡ k % 65536 = omega arith in
-    rw e (sym (ap (λ (n : ℕ). (k - n * 2 ^ 16) * 2 ^ 48 + n) m ∙ ap (λ (n : ℕ). n * 2 ^ 48 + k / 65536) r))
+word-lex o k h e = rw e (sym (from-key Lex k h))
+
+pub word-deg : (o : Order) (k : ℕ) → k < 2 ^ 64 → o ≡ DegLex → k ≡ fromKey o k
+word-deg o k h e = rw e (sym (from-key DegLex k h))
 
 -- the word of a key of dp is had as its key is
-pub word-rev : (o : Order) (k : ℕ) → o ≡ DegRevLex → bitXor k (2 ^ 48 - 1) ≡ fromKey o k
-word-rev o k h = key-rev DegRevLex k refl ∙ rw h
+pub word-rev : (o : Order) (k : ℕ) → k < 2 ^ 64 → o ≡ DegRevLex → bitXor k (2 ^ 48 - 1) ≡ fromKey o k
+word-rev o k h e = key-rev DegRevLex k refl ∙ rw e (sym (from-key DegRevLex k h))
 
 -- ---- the comparison of two words, by their keys
 module _ (o : Order) (x y a b : ℕ) (hx : x < 2 ^ 64) (hy : y < 2 ^ 64) (ea : a ≡ keyOf o x) (eb : b ≡ keyOf o y) where
@@ -164,7 +164,7 @@ above-bits n w h =
     ∙ ends-up n w))
 
 -- the fields beyond n are 0 where the bits beyond are
-beyond-clear : (o : Order) (n w : ℕ) → n ≤ 6 → eqb (bitAnd w (beyondBits o n)) 0 ≡ below 1 (drop n (fields o w))
+pub beyond-clear : (o : Order) (n w : ℕ) → n ≤ 6 → eqb (bitAnd w (beyondBits o n)) 0 ≡ below 1 (drop n (fields o w))
 unfolding fields
 beyond-clear Lex n w h = below-bits n w h
 beyond-clear DegLex n w h = below-bits n w h

@@ -36,8 +36,9 @@ module _ (o : Order) (vs α : List ℕ) (fits : length α ≤ 6) (small : Below 
   unfolding lying
   lying-below = true-below 256 (upward o (six α)) (below-upward 256 o (six α) ∙ below-true 256 (six α) (six-below 255 α small))
 
-  lying-lt : ofBytes lying < 2 ^ 48
-  lying-lt = subst (λ (k : ℕ). ofBytes lying < 256 ^ k) length-lying (ofBytes-lt lying lying-below)
+  pub lying-lt : ofBytes (upward o (six α)) < 2 ^ 48
+  unfolding lying
+  lying-lt = subst (λ (k : ℕ). ofBytes (upward o (six α)) < 256 ^ k) length-lying (ofBytes-lt lying lying-below)
 
   pub low-word : low (wordOf o vs α) ≡ ofBytes (upward o (six α))
   unfolding wordOf lying

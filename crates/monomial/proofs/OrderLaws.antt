@@ -1,17 +1,18 @@
 -- The three orders on exponents, and the comparison of words, are total orders; multiplying by a monomial keeps an order on exponents, and 1 is the least. Assumes nothing.
-use mathlib.Core.Path.{_≡_, refl, sym, ap₂}
+use mathlib.Core.Path.{_≡_, refl, sym, ap, ap₂, _∙_, subst}
 use mathlib.Core.Logic.{_⊎_, inl, inr}
 use mathlib.Core.List.{List, [], _∷_}
-use Prim.Native.Nat.{ℕ, zero, suc, _+_, _*_, _<_, _≤_, compare, Ordering, Ordering·lt, Ordering·eq, Ordering·gt}
+use Prim.Native.Nat.{ℕ, zero, suc, _+_, _*_, _/_, _%_, _^_, _<_, _≤_, compare, Ordering, Ordering·lt, Ordering·eq, Ordering·gt}
 use native.Mathlib.Nat.{mul-add, mul-pos}
 use native.Mathlib.Omega.{arith}
+use lib.Dec.{lit<}
 use lib.ListN.{length}
 use Rattle.monomial.specs.declared.order.Order.{Order}
 use Rattle.monomial.specs.declared.order.Order.the-variants.{Lex, DegLex, DegRevLex}
 use Rattle.monomial.specs.Exponents.{weighted, Positive, product, one, orElse, lex, revLex, compareIn}
-use Rattle.monomial.specs.Words.{low, high, compareWords}
+use Rattle.monomial.specs.Words.{low, high, degreeIn, firstIn, secondIn, overIn, compareTwo, compareWords, compareOne}
 use Rattle.monomial.specs.TotalOrder.{turned, TotalOrder}
-use Rattle.monomial.proofs.Comparing.{tri, Tri, less, same, more, compare-same, compare-add}
+use Rattle.monomial.proofs.Comparing.{tri, Tri, less, same, more, eq-compare, compare-same, compare-add}
 use Rattle.monomial.proofs.Places.{weighted-zeros}
 use Rattle.monomial.proofs.WeakOrder.{Chain, WeakOrder, strict, chain-lt-left, chain-gt-right, chain-orElse, weak-orElse, orElse-eq, weak-through, weak-turned, nat-weak, nat-order}
 
@@ -95,21 +96,94 @@ exponents-order Lex vs = strict lex-weak lex-same
 exponents-order DegLex vs = strict (weak-orElse (weak-through (weighted vs) nat-weak) lex-weak) (λ α β h. lex-same α β (orElse-eq (compare (weighted vs α) (weighted vs β)) (lex α β) h .1))
 exponents-order DegRevLex vs = strict (weak-orElse (weak-through (weighted vs) nat-weak) rev-weak) (λ α β h. rev-same α β (orElse-eq (compare (weighted vs α) (weighted vs β)) (revLex α β) h .1))
 
--- and so is each comparison of words, on all numbers
+-- ---- the comparison of words
+-- a number is the fields and the degree of its first word, or its first word, and what is above; that is its second word and the rest
+by-degree : (x : ℕ) → x ≡ low x + 2 ^ 48 * degreeIn x + 2 ^ 64 * (x / 2 ^ 64)
+by-degree x = omega arith
+
+pub by-word : (x : ℕ) → x ≡ x % 2 ^ 64 + 2 ^ 64 * (x / 2 ^ 64)
+by-word x = omega arith
+
+module _ (x y : ℕ) (over : overIn x ≡ overIn y) (second : secondIn x ≡ secondIn y) where
+  above : x / 2 ^ 64 ≡ y / 2 ^ 64
+  above = by-word (x / 2 ^ 64) ∙ (ap₂ (λ (a b : ℕ). a + 2 ^ 64 * b) second over ∙ sym (by-word (y / 2 ^ 64)))
+
+  same-parts : low x ≡ low y → degreeIn x ≡ degreeIn y → x ≡ y
+  same-parts h k = by-degree x ∙ (ap₂ (λ (a b : ℕ). a + 2 ^ 64 * b) (ap₂ (λ (a b : ℕ). a + 2 ^ 48 * b) h k) above ∙ sym (by-degree y))
+
+  same-words : firstIn x ≡ firstIn y → x ≡ y
+  same-words h = by-word x ∙ (ap₂ (λ (a b : ℕ). a + 2 ^ 64 * b) h above ∙ sym (by-word y))
+
+two-weak : (o : Order) → WeakOrder ℕ (compareTwo o)
+two-weak Lex = weak-orElse (weak-through low nat-weak) (weak-orElse (weak-through secondIn nat-weak) (weak-through degreeIn nat-weak))
+two-weak DegLex = weak-orElse (weak-through firstIn nat-weak) (weak-through secondIn nat-weak)
+two-weak DegRevLex = weak-orElse (weak-through degreeIn nat-weak) (weak-orElse (weak-turned (weak-through secondIn nat-weak)) (weak-turned (weak-through low nat-weak)))
+
+two-same : (o : Order) (x y : ℕ) → overIn x ≡ overIn y → compareTwo o x y ≡ Ordering·eq → x ≡ y
+two-same Lex x y a h =
+    let e = orElse-eq (compare (low x) (low y)) (orElse (compare (secondIn x) (secondIn y)) (compare (degreeIn x) (degreeIn y))) h in
+    let f = orElse-eq (compare (secondIn x) (secondIn y)) (compare (degreeIn x) (degreeIn y)) (e .1) in
+    same-parts x y a (compare-same (secondIn x) (secondIn y) (f .0)) (compare-same (low x) (low y) (e .0)) (compare-same (degreeIn x) (degreeIn y) (f .1))
+two-same DegLex x y a h =
+    let e = orElse-eq (compare (firstIn x) (firstIn y)) (compare (secondIn x) (secondIn y)) h in
+    same-words x y a (compare-same (secondIn x) (secondIn y) (e .1)) (compare-same (firstIn x) (firstIn y) (e .0))
+two-same DegRevLex x y a h =
+    let e = orElse-eq (compare (degreeIn x) (degreeIn y)) (orElse (compare (secondIn y) (secondIn x)) (compare (low y) (low x))) h in
+    let f = orElse-eq (compare (secondIn y) (secondIn x)) (compare (low y) (low x)) (e .1) in
+    same-parts x y a (sym (compare-same (secondIn y) (secondIn x) (f .0))) (sym (compare-same (low y) (low x) (f .1))) (compare-same (degreeIn x) (degreeIn y) (e .0))
+
+-- in each order what is above two words is compared first
+pub over-first : (o : Order) (x y : ℕ) → compareWords o x y ≡ orElse (compare (overIn x) (overIn y)) (compareTwo o x y)
+over-first Lex x y = refl
+over-first DegLex x y = refl
+over-first DegRevLex x y = refl
+
+-- each comparison of words is a total order on all numbers
 pub words-order : (o : Order) → TotalOrder ℕ (compareWords o)
-words-order Lex =
-    strict (weak-orElse (weak-through low nat-weak) (weak-through high nat-weak))
-    (λ x y h. let e = orElse-eq (compare (low x) (low y)) (compare (high x) (high y)) h in both x y (compare-same (low x) (low y) (e .0)) (compare-same (high x) (high y) (e .1)))
+words-order o = by o
   where
-    both : (x y : ℕ) → low x ≡ low y → high x ≡ high y → x ≡ y
-    both x y h k = omega arith
-words-order DegLex = nat-order
-words-order DegRevLex =
-    strict (weak-orElse (weak-through high nat-weak) (weak-turned (weak-through low nat-weak)))
-    (λ x y h. let e = orElse-eq (compare (high x) (high y)) (compare (low y) (low x)) h in both x y (compare-same (high x) (high y) (e .0)) (compare-same (low y) (low x) (e .1)))
+    made : (q : Order) → TotalOrder ℕ (λ x y. orElse (compare (overIn x) (overIn y)) (compareTwo q x y))
+    made q =
+        strict (weak-orElse (weak-through overIn nat-weak) (two-weak q))
+        (λ x y h. let e = orElse-eq (compare (overIn x) (overIn y)) (compareTwo q x y) h in two-same q x y (compare-same (overIn x) (overIn y) (e .0)) (e .1))
+
+    by : (q : Order) → TotalOrder ℕ (compareWords q)
+    by Lex = made Lex
+    by DegLex = made DegLex
+    by DegRevLex = made DegRevLex
+
+-- of two words nothing is above
+pub two-words : (o : Order) (x y : ℕ) → x / 2 ^ 64 < 2 ^ 64 → y / 2 ^ 64 < 2 ^ 64 → compareWords o x y ≡ compareTwo o x y
+two-words o x y h k = over-first o x y ∙ ap (λ (t : Ordering). orElse t (compareTwo o x y)) (eq-compare (none (x / 2 ^ 64) h ∙ sym (none (y / 2 ^ 64) k)))
   where
-    both : (x y : ℕ) → high x ≡ high y → low y ≡ low x → x ≡ y
-    both x y h k = omega arith
+    none : (t : ℕ) → t < 2 ^ 64 → t / 2 ^ 64 ≡ 0
+    none t l = omega arith
+
+-- and of one word the second is 0
+pub no-second : (x : ℕ) → x < 2 ^ 64 → x / 2 ^ 64 ≡ 0
+no-second x h = omega arith
+
+pub no-over : (x : ℕ) → x < 2 ^ 64 → x / 2 ^ 64 < 2 ^ 64
+no-over x h = subst (λ (t : ℕ). t < 2 ^ 64) (sym (no-second x h)) (lit< tt)
+
+pub one-word : (o : Order) (x y : ℕ) → x < 2 ^ 64 → y < 2 ^ 64 → compareWords o x y ≡ compareOne o x y
+one-word o x y h k = two-words o x y (no-over x h) (no-over y k) ∙ by o
+  where
+    seconds : secondIn x ≡ secondIn y
+    seconds = ap (λ (t : ℕ). t % 2 ^ 64) (no-second x h ∙ sym (no-second y k))
+
+    degrees : compare (degreeIn x) (degreeIn y) ≡ compare (high x) (high y)
+    degrees = ap₂ compare (let e : degreeIn x ≡ high x = omega arith in e) (let e : degreeIn y ≡ high y = omega arith in e)
+
+    end : (t : Ordering) → orElse t Ordering·eq ≡ t
+    end Ordering·lt = refl
+    end Ordering·eq = refl
+    end Ordering·gt = refl
+
+    by : (q : Order) → compareTwo q x y ≡ compareOne q x y
+    by Lex = ap₂ (λ (s d : Ordering). orElse (compare (low x) (low y)) (orElse s d)) (eq-compare seconds) degrees
+    by DegLex = ap₂ orElse (ap₂ compare (let e : firstIn x ≡ x = omega arith in e) (let e : firstIn y ≡ y = omega arith in e)) (eq-compare seconds) ∙ end (compare x y)
+    by DegRevLex = ap₂ (λ (d s : Ordering). orElse d (orElse s (compare (low y) (low x)))) degrees (eq-compare (sym seconds))
 
 -- ---- multiplying by a monomial keeps an order
 pub weighted-product : (vs γ α : List ℕ) → length γ ≡ length α → weighted vs (product γ α) ≡ weighted vs γ + weighted vs α
@@ -183,4 +257,4 @@ one-least DegRevLex vs α g f = least-by-degree (revLex (one (length α)) α) vs
 
 -- so are numbers, as keys are compared
 pub numbers-order : TotalOrder ℕ compare
-numbers-order = words-order DegLex
+numbers-order = nat-order

@@ -106,11 +106,11 @@ divides-each (b ∷ β) (a ∷ α) h = ap₂ _&&_ (go (decLe b a)) (divides-each
     go (no l) = lt-leb b a (omega arith) ∙ sym (le-ltb (b - a) 1 (omega arith))
 
 -- ---- weighted
-weighted-none : (vs : List ℕ) → weighted vs [] ≡ 0
+pub weighted-none : (vs : List ℕ) → weighted vs [] ≡ 0
 weighted-none [] = refl
 weighted-none (v ∷ vs) = refl
 
-weighted-append : (vs us α β : List ℕ) → length vs ≡ length α → weighted (vs ++ us) (α ++ β) ≡ weighted vs α + weighted us β
+pub weighted-append : (vs us α β : List ℕ) → length vs ≡ length α → weighted (vs ++ us) (α ++ β) ≡ weighted vs α + weighted us β
 weighted-append [] us [] β h = sym (zero-add (weighted us β))
 weighted-append [] us (a ∷ α) β h = absurd (let z : ⊥ = omega arith in z)
 weighted-append (v ∷ vs) us [] β h = absurd (let z : ⊥ = omega arith in z)

@@ -20,15 +20,15 @@ use Rattle.monomial.proofs.LayoutLaws.{length-exponents, word-exponents
 use Rattle.monomial.proofs.KeyLaws.{compare-layout}
 
 -- ---- lists of small numbers
-below-split : (k n : ℕ) (α : List ℕ) → below k α ≡ (below k (take n α) && below k (drop n α))
+pub below-split : (k n : ℕ) (α : List ℕ) → below k α ≡ (below k (take n α) && below k (drop n α))
 below-split k n α = ap (below k) (sym (take-append-drop n α)) ∙ below-append k (take n α) (drop n α)
 
-zero-quotient : (k : ℕ) (α β : List ℕ) → Below k α → Below k (quotient α β)
+pub zero-quotient : (k : ℕ) (α β : List ℕ) → Below k α → Below k (quotient α β)
 zero-quotient k [] β u = tt
 zero-quotient k (a ∷ α) [] u = tt
 zero-quotient k (a ∷ α) (b ∷ β) u = (let h : a - b < k = omega (arith, u .0) in h, zero-quotient k α β (u .1))
 
-zero-product : (α β : List ℕ) → Below 1 α → Below 1 β → Below 1 (product α β)
+pub zero-product : (α β : List ℕ) → Below 1 α → Below 1 β → Below 1 (product α β)
 zero-product [] β u v = tt
 zero-product (a ∷ α) [] u v = tt
 zero-product (a ∷ α) (b ∷ β) u v = (let h : a + b < 1 = omega (arith, u .0, v .0) in h, zero-product α β (u .1) (v .1))
@@ -38,13 +38,13 @@ ofBytes-half : (bs : List ℕ) → Below 128 bs → 255 * ofBytes bs + 127 ≤ 1
 ofBytes-half [] u = lit≤ tt
 ofBytes-half (b ∷ bs) u = omega (arith, u .0, ofBytes-half bs (u .1), pow-suc 256 (length bs))
 
-low-half : (w : ℕ) → Below 128 (bytes 6 w) → low w < 2 ^ 47
+pub low-half : (w : ℕ) → Below 128 (bytes 6 w) → low w < 2 ^ 47
 low-half w u =
     let h : 255 * ofBytes (bytes 6 w) + 127 ≤ 127 * 256 ^ 6 = subst (λ (k : ℕ). 255 * ofBytes (bytes 6 w) + 127 ≤ 127 * 256 ^ k) (length-bytes 6 w) (ofBytes-half (bytes 6 w) u) in
     omega (arith, ofBytes-bytes 6 w)
 
 -- ---- what divides is no larger as bytes, and the degree of a quotient is the difference
-divides-bytes : (β α : List ℕ) → divides β α ≡ true → length β ≡ length α → ofBytes β ≤ ofBytes α
+pub divides-bytes : (β α : List ℕ) → divides β α ≡ true → length β ≡ length α → ofBytes β ≤ ofBytes α
 divides-bytes [] [] h l = lit≤ tt
 divides-bytes [] (a ∷ α) h l = absurd (let z : ⊥ = omega arith in z)
 divides-bytes (b ∷ β) [] h l = absurd (let z : ⊥ = omega arith in z)
@@ -159,13 +159,13 @@ module _ (o : Order) (n : ℕ) (vs : List ℕ) (x y : ℕ) (fits : n ≤ 6) (a :
   quotient-word = sym (word-exponents o n vs (x - y) fits quotient-layout) ∙ ap (wordOf o vs) quotient-exponents
 
 -- ---- multiplying words of the layout keeps their order, and the word of 1 is 0
-pub multiply-keeps : (o : Order) (n : ℕ) (vs : List ℕ) (z x y : ℕ) → n ≤ 6 → Layout o n vs z → Layout o n vs x → Layout o n vs y → below 128 (product (exponents o n z) (exponents o n x)) ≡ true → below 128 (product (exponents o n z) (exponents o n y)) ≡ true → compareWords o (z + x) (z + y) ≡ compareWords o x y
-multiply-keeps o n vs z x y h c a b fx fy =
-    compare-layout o n vs (z + x) (z + y) h (product-layout o n vs z x h c a fx) (product-layout o n vs z y h c b fy)
+pub multiply-keeps : (o : Order) (n : ℕ) (vs : List ℕ) (z x y : ℕ) → n ≤ 6 → Below 17 vs → Layout o n vs z → Layout o n vs x → Layout o n vs y → below 128 (product (exponents o n z) (exponents o n x)) ≡ true → below 128 (product (exponents o n z) (exponents o n y)) ≡ true → compareWords o (z + x) (z + y) ≡ compareWords o x y
+multiply-keeps o n vs z x y h u c a b fx fy =
+    compare-layout o n vs (z + x) (z + y) h u (product-layout o n vs z x h c a fx) (product-layout o n vs z y h c b fy)
     ∙ (ap₂ (compareIn o vs) (product-exponents o n vs z x h c a) (product-exponents o n vs z y h c b)
-    ∙ (product-keeps o vs (exponents o n z) (exponents o n x) (exponents o n y) (alike o n vs z x h c a) (alike o n vs z y h c b) ∙ sym (compare-layout o n vs x y h a b)))
+    ∙ (product-keeps o vs (exponents o n z) (exponents o n x) (exponents o n y) (alike o n vs z x h c a) (alike o n vs z y h c b) ∙ sym (compare-layout o n vs x y h u a b)))
 
-six-ones : (n : ℕ) → n ≤ 6 → six (one n) ≡ one 6
+pub six-ones : (n : ℕ) → n ≤ 6 → six (one n) ≡ one 6
 six-ones n h =
     ap (λ (k : ℕ). one n ++ one (6 - k)) (length-replicate n 0)
     ∙ (replicate-append-replicate n (6 - n) 0 ∙ ap one (let e : n + (6 - n) ≡ 6 = omega arith in e))

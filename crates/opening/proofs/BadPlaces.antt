@@ -7,6 +7,7 @@ use native.Mathlib.Omega.{arith}
 use lib.ListN.{length}
 use Rattle.refusal.specs.Judgement.{Judged, AllHold, condition}
 use Rattle.refusal.proofs.JudgementLaws.{judged-once, judged-then, judged-stops, judged-parts}
+use Rattle.monomial.specs.Layout.{Below}
 use Rattle.polynomial.specs.declared.setting.Setting.{Setting}
 use Rattle.polynomial.specs.Terms.{Term}
 use Rattle.polynomial.specs.Opening.{polynomialRefusal}
@@ -54,12 +55,12 @@ module _ (t : Setting) where
   which b = ⊎-elim (λ e. inl (e .0)) (λ e. inr (e .0)) (b .is)
 
   -- ---- the refusal, both ways
-  module _ (few : t .n ≤ 6) (us : List (Term ℕ)) where
+  module _ (few : t .n ≤ 6) (small : Below 17 (t .weights)) (us : List (Term ℕ)) where
     parts : (r : ℕ) → polynomialRefusal t us ≡ r → Judged (placesConditions t us) r ⊎ (AllHold (placesConditions t us) × Judged (condition 6 (GoodOrder t us) ∷ []) r)
-    parts r e = judged-parts (placesConditions t us) (condition 6 (GoodOrder t us) ∷ []) r (subst (λ (s : ℕ). Judged (polynomialConditions t us) s) e (polynomial-judged t few us))
+    parts r e = judged-parts (placesConditions t us) (condition 6 (GoodOrder t us) ∷ []) r (subst (λ (s : ℕ). Judged (polynomialConditions t us) s) e (polynomial-judged t few small us))
 
     only : (r : ℕ) → Judged (polynomialConditions t us) r → polynomialRefusal t us ≡ r
-    only r j = judged-once (polynomialConditions t us) (polynomialRefusal t us) r (polynomial-judged t few us) j
+    only r j = judged-once (polynomialConditions t us) (polynomialRefusal t us) r (polynomial-judged t few small us) j
 
     pub bad-place : (r : ℕ) → (r ≡ 4) ⊎ (r ≡ 5) → polynomialRefusal t us ≡ r → BadPlace t us r
     bad-place r n e = by (parts r e)

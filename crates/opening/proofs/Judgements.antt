@@ -24,7 +24,7 @@ use Rattle.opening.specs.Run.{unless, between, weightsGood, setting, sha
 use Rattle.opening.specs.Judgement.{GoodPrime, Between, GoodWeights, settingConditions, GoodShape, polynomialsConditions, runConditions}
 use Rattle.opening.proofs.Judging.{judged-unless, judged-first, judged-test}
 use Rattle.opening.proofs.StartsJudged.{starts-good, good-starts}
-use Rattle.opening.proofs.WeightsJudged.{between-good, good-between, weights-good, good-weights}
+use Rattle.opening.proofs.WeightsJudged.{between-good, good-between, weights-good, good-weights, weights-small}
 use Rattle.opening.proofs.PolynomialsJudged.{polynomials-judged}
 
 -- ---- each test, and what it tests
@@ -77,7 +77,7 @@ module _ (t : Setting) (words coefs ss ops : List ℕ) (bw bc ww wc ow oc : ℕ)
       judged-first (settingConditions t) (eight ∷ (nine ∷ polynomials)) (setting t) (first (unless shape 8) (first (unless operations 9) late)) (setting-counted t) (setting-judged t)
       (λ s. judged-test eight (nine ∷ polynomials) shape (first (unless operations 9) late) (omega arith) (shape-good (t .weights) words coefs ss ops bw bc ww wc ow oc) (good-shape (t .weights) words coefs ss ops bw bc ww wc ow oc)
       (λ g. judged-test nine polynomials operations late (omega arith) (operations-good ops (length ss - 1)) (good-operations ops (length ss - 1))
-      (λ h. polynomials-judged t words coefs ss (s .1 .1 .0 .1))))
+      (λ h. polynomials-judged t words coefs ss (s .1 .1 .0 .1) (weights-small (t .n) (t .weights) (s .1 .1 .1 .0)))))
 
   -- and no other number is judged so
   pub judged-only : (r : ℕ) → Judged (runConditions t words coefs ss ops bw bc ww wc ow oc) r → runRefusal t words coefs ss ops bw bc ww wc ow oc ≡ r

@@ -9,6 +9,7 @@ use Rattle.refusal.proofs.JudgementLaws.{judged-once, all-judged}
 use Rattle.monomial.specs.Exponents.{orderOf}
 use Rattle.monomial.specs.Words.{compareWords}
 use Rattle.monomial.proofs.OrderLaws.{words-order}
+use Rattle.monomial.specs.Layout.{Below}
 use Rattle.polynomial.specs.declared.setting.Setting.{Setting}
 use Rattle.polynomial.specs.Terms.{Term}
 use Rattle.polynomial.specs.Opening.{termRefusal, termsRefusal, isLarger, polynomialRefusal}
@@ -30,8 +31,8 @@ module _ (t : Setting) (last : ℕ) where
   whole parts = check-parts judge cmp last parts
 
   -- parts get the number of the first condition on the polynomial that does not hold
-  pub parts-judged : t .n ≤ 6 → (parts : List (List (Term ℕ))) → Judged (polynomialConditions t (together parts)) (verdict (polynomialOver t (unseen last) parts))
-  parts-judged few parts = subst (λ (r : ℕ). Judged (polynomialConditions t (together parts)) r) (sym (whole parts)) (polynomial-judged t few (together parts))
+  pub parts-judged : t .n ≤ 6 → Below 17 (t .weights) → (parts : List (List (Term ℕ))) → Judged (polynomialConditions t (together parts)) (verdict (polynomialOver t (unseen last) parts))
+  parts-judged few small parts = subst (λ (r : ℕ). Judged (polynomialConditions t (together parts)) r) (sym (whole parts)) (polynomial-judged t few small (together parts))
 
   -- no place is bad
   none-bad : (us : List (Term ℕ)) → ((j : ℕ) → j < length us → GoodCoef t (placeOf t us j) × GoodWord t (placeOf t us j)) → termsRefusal judge us ≡ 0

@@ -13,7 +13,7 @@ use Rattle.refusal.specs.Judgement.{Judged, AllHold, Counted, condition}
 use Rattle.refusal.proofs.JudgementLaws.{counted-then}
 use Rattle.conditions.proofs.Tests.{both, clash}
 use Rattle.monomial.specs.Exponents.{orderOf}
-use Rattle.monomial.specs.Layout.{Layout, inLayout}
+use Rattle.monomial.specs.Layout.{Below, Layout, inLayout}
 use Rattle.monomial.specs.Words.{compareWords}
 use Rattle.monomial.proofs.KeyLaws.{compare-layout}
 use Rattle.monomial.proofs.LayoutLaws.{layout-test, test-layout}
@@ -66,20 +66,20 @@ module _ (t : Setting) where
   pub polynomial-counted : (us : List (Term ℕ)) → Counted (polynomialConditions t us)
   polynomial-counted us = counted-then (placesConditions t us) (condition 6 (GoodOrder t us) ∷ []) (places-counted us) (omega arith, tt)
 
-  module _ (few : t .n ≤ 6) where
+  module _ (few : t .n ≤ 6) (small : Below 17 (t .weights)) where
     -- ---- 6
     module _ (us : List (Term ℕ)) (a : All (λ u. GoodWord t u) us) where
       order-good : fall (compareWords (orderOf (t .order))) us ≡ true → GoodOrder t us
       order-good e =
           let o = orderOf (t .order) in
-          falling-agrees (compareWords o) (byExponents o (t .n) (t .weights)) (λ w. Layout o (t .n) (t .weights) w) (λ x y i j. sym (compare-layout o (t .n) (t .weights) x y few i j)) us a
+          falling-agrees (compareWords o) (byExponents o (t .n) (t .weights)) (λ w. Layout o (t .n) (t .weights) w) (λ x y i j. sym (compare-layout o (t .n) (t .weights) x y few small i j)) us a
           (fall-falling (compareWords o) (words-order o) us e)
 
       good-order : GoodOrder t us → fall (compareWords (orderOf (t .order))) us ≡ true
       good-order g =
           let o = orderOf (t .order) in
           falling-fall (compareWords o) us
-          (falling-agrees (byExponents o (t .n) (t .weights)) (compareWords o) (λ w. Layout o (t .n) (t .weights) w) (λ x y i j. compare-layout o (t .n) (t .weights) x y few i j) us a g)
+          (falling-agrees (byExponents o (t .n) (t .weights)) (compareWords o) (λ w. Layout o (t .n) (t .weights) w) (λ x y i j. compare-layout o (t .n) (t .weights) x y few small i j) us a g)
 
       order-judged : (b : Bool) → fall (compareWords (orderOf (t .order))) us ≡ b → Judged (condition 6 (GoodOrder t us) ∷ []) (orderBy b)
       order-judged true e = inr (order-good e, refl)
@@ -117,7 +117,7 @@ module _ (t : Setting) (words coefs ss : List ℕ) where
   pub polynomials-counted : Counted (polynomialsConditions t words coefs ss)
   polynomials-counted = below-counted (length ss - 1)
 
-  module _ (few : t .n ≤ 6) where
+  module _ (few : t .n ≤ 6) (small : Below 17 (t .weights)) where
     below-judged : (k : ℕ) → Judged (conditionsBelow t words coefs ss k) (refusalFrom t words coefs ss k 0)
     unfolding refusalFrom
     below-judged zero = refl
@@ -125,7 +125,7 @@ module _ (t : Setting) (words coefs ss : List ℕ) where
         let us = terms (partOf ss k words) (partOf ss k coefs) in
         subst (λ (r : ℕ). Judged (conditionsBelow t words coefs ss (suc k)) r)
         (ap (λ (j : ℕ). first (refusalFrom t words coefs ss k 0) (refusalAt t words coefs ss j)) (let e : k ≡ 0 + k = omega arith in e) ∙ sym (from-last k 0))
-        (judged-first (conditionsBelow t words coefs ss k) (polynomialConditions t us) (refusalFrom t words coefs ss k 0) (polynomialRefusal t us) (below-counted k) (below-judged k) (λ a. polynomial-judged t few us))
+        (judged-first (conditionsBelow t words coefs ss k) (polynomialConditions t us) (refusalFrom t words coefs ss k 0) (polynomialRefusal t us) (below-counted k) (below-judged k) (λ a. polynomial-judged t few small us))
 
     pub polynomials-judged : Judged (polynomialsConditions t words coefs ss) (polynomialsRefusal t words coefs ss)
     polynomials-judged = below-judged (length ss - 1)

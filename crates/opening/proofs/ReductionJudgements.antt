@@ -23,6 +23,7 @@ use Rattle.opening.specs.Judgement.{settingConditions, polynomialsCondit
 use Rattle.opening.specs.ReductionJudgement.{GoodReductionShape, GoodDivisors, reductionConditions}
 use Rattle.opening.proofs.Judging.{judged-unless, judged-first, judged-test}
 use Rattle.opening.proofs.StartsJudged.{good-starts}
+use Rattle.opening.proofs.WeightsJudged.{weights-small}
 use Rattle.opening.proofs.PolynomialLaws.{part-length}
 use Rattle.opening.proofs.PolynomialsJudged.{polynomials-counted, polynomials-judged}
 use Rattle.opening.proofs.ReductionLaws.{reduction-shape-passes}
@@ -69,7 +70,7 @@ module _ (t : Setting) (words coefs ss : List ℕ) (limit bw bc ww wc ow oc : �
       let eight = condition 8 (GoodReductionShape (length (t .weights)) (length words) (length coefs) ss limit bw bc ww wc ow oc) in
       judged-first (settingConditions t) (eight ∷ (polynomials ++ (seven ∷ []))) (setting t) (first (unless shape 8) (first late last)) (setting-counted t) (setting-judged t)
       (λ s. judged-test eight (polynomials ++ (seven ∷ [])) shape (first late last) (omega arith) reduction-shape-passes good-reduction-shape
-      (λ g. judged-first polynomials (seven ∷ []) late last (polynomials-counted t words coefs ss) (polynomials-judged t words coefs ss (s .1 .1 .0 .1))
+      (λ g. judged-first polynomials (seven ∷ []) late last (polynomials-counted t words coefs ss) (polynomials-judged t words coefs ss (s .1 .1 .0 .1) (weights-small (t .n) (t .weights) (s .1 .1 .1 .0)))
       (λ a. judged-unless seven (divisorsGood ss) (divisors-good words coefs g) (λ d. rise-good ss (not-zero words coefs g d)))))
 
   -- and no other number is judged so

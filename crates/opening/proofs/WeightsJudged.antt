@@ -78,6 +78,9 @@ weights-range n (v ∷ vs) e =
     let r = weights-range (n - 1) vs (a .1) in
     ((omega (arith, b .1), r .0), (b .0, r .1))
 
+pub weights-small : (n : ℕ) (vs : List ℕ) → GoodWeights n vs → Below 17 vs
+weights-small n vs g = weights-range n vs (good-weights n vs g) .0
+
 pub weights-fit : (n : ℕ) (vs : List ℕ) → weightsGood n vs ≡ true → length vs ≡ 6 → WeightsFit vs
 weights-fit n vs e six = record { six-are = six; bytes-are = Below-more 17 256 vs (omega arith) (weights-range n vs e .0) }
 

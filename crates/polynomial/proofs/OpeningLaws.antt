@@ -45,13 +45,16 @@ module _ (o : Order) (n : ℕ) (vs : List ℕ) (p w c : ℕ) where
   word-bad h k r e t = sym (ap (termBy true) t) ∙ by-word h k r e
 
 -- ---- the order of two neighbours, by their keys
-pub larger-key : (o : Order) (x y : ℕ) → x < 2 ^ 64 → y < 2 ^ 64 → isLarger (compareWords o x y) ≡ ltb (keyOf o y) (keyOf o x)
-larger-key o x y hx hy = ap isLarger (sym (key-compare o x y hx hy)) ∙ go (tri (keyOf o x) (keyOf o y))
+pub larger-number : (a b : ℕ) → isLarger (compare a b) ≡ ltb b a
+larger-number a b = go (tri a b)
   where
-    go : Tri (keyOf o x) (keyOf o y) → isLarger (compare (keyOf o x) (keyOf o y)) ≡ ltb (keyOf o y) (keyOf o x)
-    go (less k e) = ap isLarger e ∙ sym (le-ltb (keyOf o y) (keyOf o x) (let l : keyOf o x ≤ keyOf o y = omega arith in l))
-    go (same k e) = ap isLarger e ∙ sym (le-ltb (keyOf o y) (keyOf o x) (let l : keyOf o x ≤ keyOf o y = omega arith in l))
-    go (more k e) = ap isLarger e ∙ sym (lt-ltb (keyOf o y) (keyOf o x) k)
+    go : Tri a b → isLarger (compare a b) ≡ ltb b a
+    go (less k e) = ap isLarger e ∙ sym (le-ltb b a (let l : a ≤ b = omega arith in l))
+    go (same k e) = ap isLarger e ∙ sym (le-ltb b a (let l : a ≤ b = omega arith in l))
+    go (more k e) = ap isLarger e ∙ sym (lt-ltb b a k)
+
+pub larger-key : (o : Order) (x y : ℕ) → x < 2 ^ 64 → y < 2 ^ 64 → isLarger (compareWords o x y) ≡ ltb (keyOf o y) (keyOf o x)
+larger-key o x y hx hy = ap isLarger (sym (key-compare o x y hx hy)) ∙ larger-number (keyOf o x) (keyOf o y)
 
 -- after the last word the next one is smaller, or it is not
 module _ (o : Order) (last word late a b : ℕ) (hl : last < 2 ^ 64) (hw : word < 2 ^ 64) (ea : a ≡ keyOf o word) (eb : b ≡ keyOf o last) where

@@ -108,10 +108,10 @@ module _ {o : Order} {p : ℕ} {words coefs starts : List ℕ} {k : ℕ} {s : St
   q = lead .word - leadWord words starts k
 
   pub quotient-le : leadWord words starts k ≤ lead .word
-  quotient-le = omega (arith, word-operations o 6 (a .checked .weights) (omega arith) .back (lead .word) (leadWord words starts k) (a .of-layout) (valid .are .0) (a .fits))
+  quotient-le = omega (arith, word-operations o 6 (a .checked .weights) (omega arith) (a .checked .small) .back (lead .word) (leadWord words starts k) (a .of-layout) (valid .are .0) (a .fits))
 
   pub quotient-packed : Packed q
-  quotient-packed = layout-packed o 6 (a .checked .weights) q (omega arith) (word-operations o 6 (a .checked .weights) (omega arith) .quotient-is (lead .word) (leadWord words starts k) (a .of-layout) (valid .are .0) (a .fits)) (a .checked .small)
+  quotient-packed = layout-packed o 6 (a .checked .weights) q (omega arith) (word-operations o 6 (a .checked .weights) (omega arith) (a .checked .small) .quotient-is (lead .word) (leadWord words starts k) (a .of-layout) (valid .are .0) (a .fits)) (a .checked .small)
 
   pub tail-packed : AllPacked (tailOf starts k words)
   tail-packed = all-packed o (a .checked .weights) (a .checked .small) (tailOf starts k words) (tailOf starts k coefs) tail-long (valid .are .1)
@@ -133,7 +133,7 @@ module _ {o : Order} {p : ℕ} {words coefs starts : List ℕ} {k : ℕ} {s : St
     none-large = over-terms q (tailOf starts k words) (tailOf starts k coefs) tail-long ∙ none
 
     pub to-add : Addable (compareWords o) p (OfLayout o (a .checked .weights)) (term (lead .word) (lead .coef)) (toAdd o p words coefs starts k s lead x)
-    to-add = tail-added (compareWords o) dividesWord _-_ _+_ overWord (OfLayout o (a .checked .weights)) (word-operations o 6 (a .checked .weights) (omega arith)) p (a .checked .prime) (term (lead .word) (lead .coef)) divisorLead tail (a .of-layout) (a .coef-pos) (a .coef-small) valid (a .fits) none-large
+    to-add = tail-added (compareWords o) dividesWord _-_ _+_ overWord (OfLayout o (a .checked .weights)) (word-operations o 6 (a .checked .weights) (omega arith) (a .checked .small)) p (a .checked .prime) (term (lead .word) (lead .coef)) divisorLead tail (a .of-layout) (a .coef-pos) (a .coef-small) valid (a .fits) none-large
 
     module _ {q' : ℕ} (eq : q' ≡ q) {tw tc : List ℕ} (etw : tw ≡ tailOf starts k words) (etc : tc ≡ tailOf starts k coefs) {v : ℕ} (ev : v ≡ multiplier) {f : Factor} (ef : FactorOf p v f) {r : State} (er : r ≡ finishedOne s) {b₁ : Buckets} (eb₁ : b₁ ≡ dropped (x .places) (lead .bucket)) where
       made : timesTail f q' tw tc ≡ toAdd o p words coefs starts k s lead x

@@ -30,6 +30,7 @@ use Rattle.opening.specs.Reduction.{reductionRefusal, ReductionOpened}
 use Rattle.refusal.specs.Judgement.{Judged, OneOf}
 use Rattle.refusal.proofs.JudgementLaws.{one-of, one-of-more}
 use Rattle.opening.specs.ReductionJudgement.{reductionConditions}
+use Rattle.opening.proofs.WeightsJudged.{weights-range}
 use Rattle.opening.proofs.ReductionLaws.{reduction-opened}
 use Rattle.opening.proofs.ReductionJudgements.{reduction-judged}
 use Rattle.opening.proofs.ListedLaws.{reduction-numbers}
@@ -121,14 +122,14 @@ module _ (tally : Tally) (t : Setting) (words coefs ss : List ℕ) (limit : ℕ)
     opened = reduction-opened t words coefs ss limit (length bw) (length bc) (length ww) (length wc) (length ow) (length oc) none
 
     given : Given (orderOf (t .order)) (t .n) (t .weights) (t .p) (divisorsOf words coefs ss) (polynomial words coefs ss 0)
-    given = record { few = opened .n-high; prime = opened .prime; divisors = valid-divisors opened; valid = valid-polynomial opened 0 (opened .some) }
+    given = record { few = opened .n-high; small = weights-range (t .n) (t .weights) (opened .weights) .0; prime = opened .prime; divisors = valid-divisors opened; valid = valid-polynomial opened 0 (opened .some) }
 
     -- what they leave of polynomial 0 and the divisors, by exponents
     pub dividend-valid : Valid (compareIn (orderOf (t .order)) (t .weights)) (t .p) (InVariables t) f
-    dividend-valid = valid-exponents (orderOf order) n weights (opened .n-high) p (polynomial words coefs ss 0) (given .valid)
+    dividend-valid = valid-exponents (orderOf order) n weights (opened .n-high) (given .small) p (polynomial words coefs ss 0) (given .valid)
 
     pub divisors-valid : AllOf (Valid (compareIn (orderOf (t .order)) (t .weights)) (t .p) (InVariables t)) gs
-    divisors-valid = all-exponents (orderOf order) n weights (opened .n-high) p (divisorsOf words coefs ss) (given .divisors)
+    divisors-valid = all-exponents (orderOf order) n weights (opened .n-high) (given .small) p (divisorsOf words coefs ss) (given .divisors)
 
     few : length f ≤ mostTerms → length (polynomial words coefs ss 0) ≤ mostTerms
     few h = omega (arith, h, renamed-long (exponents (orderOf order) n) (λ w. Layout (orderOf order) n weights w) (polynomial words coefs ss 0))
@@ -265,7 +266,7 @@ module _ (tally : Tally) (t : Setting) (words coefs ss : List ℕ) (limit : ℕ)
         let bs = last .work .buckets in
         let gone = R.last-state given (length ow) limit .given-gone in
         renamed-all E Is (λ u. Layout (orderOf order) n weights (u .mono) × Under cmp (u .mono) (heldAt (outcome .bw) (outcome .bc))) (λ u. Under (compareIn (orderOf order) weights) (u .mono) (heldIn t outcome))
-        (λ u h. under-renamed E Is cmp (compareIn (orderOf order) weights) (words-agree (orderOf order) n weights (opened .n-high) .compares) (u .mono) (h .0) (heldAt (outcome .bw) (outcome .bc)) held-words (h .1)) leads
+        (λ u h. under-renamed E Is cmp (compareIn (orderOf order) weights) (words-agree (orderOf order) n weights (opened .n-high) (given .small) .compares) (u .mono) (h .0) (heldAt (outcome .bw) (outcome .bc)) held-words (h .1)) leads
         (all-zip {P = λ u. Layout (orderOf order) n weights (u .mono)} {Q = λ u. Above cmp p (u .mono) bs} {R = λ u. Layout (orderOf order) n weights (u .mono) × Under cmp (u .mono) (heldAt (outcome .bw) (outcome .bc))}
         (λ u l a. (l, subst (Under cmp (u .mono)) (sym held-is) (flat-are (λ w. cmp (u .mono) w ≡ Ordering·gt) bs (above-every cmp p (u .mono) bs a)))) leads leads-words (gone .over))
 

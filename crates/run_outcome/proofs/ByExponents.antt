@@ -12,7 +12,7 @@ use lib.ListN.{length}
 use Rattle.residue.proofs.Remainder.{cancel, sub-back}
 use Rattle.monomial.specs.declared.order.Order.{Order}
 use Rattle.monomial.specs.Exponents.{compareIn}
-use Rattle.monomial.specs.Layout.{Layout, exponents, wordOf, below}
+use Rattle.monomial.specs.Layout.{Layout, exponents, wordOf, Below, below}
 use Rattle.monomial.specs.Words.{compareWords}
 use Rattle.monomial.proofs.Places.{and-both, below-true, true-below, Below-more}
 use Rattle.monomial.proofs.KeyLaws.{compare-layout}
@@ -36,7 +36,7 @@ difference p pos B G T h =
     let whole : (x % p + G) % p ≡ (T + G) % p = sub-back p pos (B % p) G ∙ (mod-eq-of-lt (mod-lt B pos) ∙ (sym h ∙ ap (λ (k : ℕ). k % p) (let e : G + T ≡ T + G = omega arith in e))) in
     sym (mod-eq-of-lt (mod-lt x pos)) ∙ cancel p pos (x % p) T G whole
 
-module _ (o : Order) (n : ℕ) (vs : List ℕ) (fits : n ≤ 6) where
+module _ (o : Order) (n : ℕ) (vs : List ℕ) (fits : n ≤ 6) (light : Below 17 vs) where
   -- ---- the exponents α are those of a word of the layout, or of none
   record Reached (α : List ℕ) : Type 0 where
     word : ℕ
@@ -64,7 +64,7 @@ module _ (o : Order) (n : ℕ) (vs : List ℕ) (fits : n ≤ 6) where
   total-reached : (m : ℕ) → Layout o n vs m → (f : List (Term ℕ)) → All (λ t. Layout o n vs (t .mono)) f → total (compareIn o vs) (exponents o n m) (inExponents o n f) ≡ total (compareWords o) m f
   unfolding total
   total-reached m i [] a = refl
-  total-reached m i (t ∷ ts) a = ap₂ (λ (x : Ordering) (k : ℕ). here x (t .coef) + k) (sym (compare-layout o n vs (t .mono) m fits (a .0) i)) (total-reached m i ts (a .1))
+  total-reached m i (t ∷ ts) a = ap₂ (λ (x : Ordering) (k : ℕ). here x (t .coef) + k) (sym (compare-layout o n vs (t .mono) m fits light (a .0) i)) (total-reached m i ts (a .1))
 
   not-here : (x : Ordering) (c : ℕ) → (x ≡ Ordering·eq → ⊥) → here x c ≡ 0
   not-here Ordering·lt c h = refl
@@ -102,13 +102,13 @@ module _ (o : Order) (n : ℕ) (vs : List ℕ) (fits : n ≤ 6) where
           is = i;
           not-zero = r .not-zero;
           coef-is = true-reached (t .mono) i ∙ r .coef-is;
-          largest = λ α h. true-zero α (λ m l e. r .largest m (compare-layout o n vs m (t .mono) fits l i ∙ (ap (λ (β : List ℕ). compareIn o vs β (exponents o n (t .mono))) e ∙ h)));
+          largest = λ α h. true-zero α (λ m l e. r .largest m (compare-layout o n vs m (t .mono) fits light l i ∙ (ap (λ (β : List ℕ). compareIn o vs β (exponents o n (t .mono))) e ∙ h)));
         })
 
     pub sum-places : (f : List (Term ℕ)) → All (λ t. Layout o n vs (t .mono)) f → Canonical (compareWords o) p f → ((m : ℕ) → coefAt (compareWords o) p m f ≡ sumAt (compareWords o) p bs m) → SumPlaces o n vs p (trueSum o n vs p brought given) f
     sum-places f are c s = record {
       are = are;
-      canonical = canonical-renamed (exponents o n) (Layout o n vs) (compareWords o) (compareIn o vs) (λ a b i j. sym (compare-layout o n vs a b fits i j)) p f are c;
+      canonical = canonical-renamed (exponents o n) (Layout o n vs) (compareWords o) (compareIn o vs) (λ a b i j. sym (compare-layout o n vs a b fits light i j)) p f are c;
       coefs-are = λ α. by α (reach α);
     }
       where

@@ -33,6 +33,7 @@ use Rattle.opening.specs.Run.{Opened, runRefusal}
 use Rattle.opening.specs.Judgement.{runConditions}
 use Rattle.opening.proofs.Judgements.{judged}
 use Rattle.opening.proofs.ListedLaws.{run-numbers}
+use Rattle.opening.proofs.WeightsJudged.{weights-range}
 use Rattle.opening.proofs.RunLaws.{opened}
 use Rattle.run_outcome.specs.Runs.{Operation, adds, leads, sums, Running, begun, operationsOf}
 use Rattle.run_outcome.specs.Outcome.{answerOf, ended, ranThrough, runOutcome}
@@ -197,7 +198,7 @@ module _ (tally : Tally) (t : Setting) (words coefs ss ops bw bc ww wc ow oc : L
     pub demand-2 : GivenOut (orderOf order) n weights p done [] [] written
     demand-2 =
         subst (GivenOut (orderOf order) n weights p done [] []) (sym (written-is ∙ it .output-is))
-        (subst (λ (os : List Operation). GivenOut (orderOf order) n weights p os [] [] (after cmp p (length ow) (it .done) .output)) (sym done-are) (gives-out (orderOf order) n weights (open-run .n-high) p pos (length ow) (it .done) (subst (EachAdded (Valid (orderOf order) n weights p)) done-are (of-done (Valid (orderOf order) n weights p) valid)) (it .rooms)))
+        (subst (λ (os : List Operation). GivenOut (orderOf order) n weights p os [] [] (after cmp p (length ow) (it .done) .output)) (sym done-are) (gives-out (orderOf order) n weights (open-run .n-high) (weights-range n weights (open-run .weights) .0) p pos (length ow) (it .done) (subst (EachAdded (Valid (orderOf order) n weights p)) done-are (of-done (Valid (orderOf order) n weights p) valid)) (it .rooms)))
 
     -- no other places fit
     pub demand-2-only : (v : List (Term ℕ)) → GivenOut (orderOf order) n weights p done [] [] v → v ≡ written

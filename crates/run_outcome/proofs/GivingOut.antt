@@ -3,7 +3,7 @@ use mathlib.Core.Path.{_≡_, refl, sym, ap, _∙_, subst}
 use mathlib.Core.List.{List, [], _∷_, _++_, append-nil, append-assoc}
 use Prim.Native.Nat.{ℕ, _+_, _%_, _<_, _≤_, Ordering}
 use Rattle.monomial.specs.declared.order.Order.{Order}
-use Rattle.monomial.specs.Layout.{Layout}
+use Rattle.monomial.specs.Layout.{Below, Layout}
 use Rattle.monomial.specs.Words.{compareWords}
 use Rattle.monomial.specs.TotalOrder.{TotalOrder}
 use Rattle.monomial.proofs.OrderLaws.{words-order}
@@ -28,7 +28,7 @@ use Rattle.run_outcome.proofs.ByExponents.{lead-place, sum-places}
 abbrev pub Valid : Order → (n : ℕ) (weights : List ℕ) (p : ℕ) → List (Term ℕ) → Type 0
 Valid o n vs p f = Canonical (compareWords o) p f × All (λ t. Layout o n vs (t .mono)) f
 
-module _ (o : Order) (n : ℕ) (vs : List ℕ) (fits : n ≤ 6) (p : ℕ) (pos : 0 < p) (places : ℕ) where
+module _ (o : Order) (n : ℕ) (vs : List ℕ) (fits : n ≤ 6) (light : Below 17 vs) (p : ℕ) (pos : 0 < p) (places : ℕ) where
   abbrev cmp : ℕ → ℕ → Ordering
   cmp = compareWords o
 
@@ -123,7 +123,7 @@ module _ (o : Order) (n : ℕ) (vs : List ℕ) (fits : n ≤ 6) (p : ℕ) (pos :
       let a = search cmp p bs .answer in
       let k = canon cmp p (come-sound c) in
       let r = gives os (taken cmp p t) (come-did c leads (h .0) tt) (laid-taken t l) g (subst (RoomForAll cmp p places os) (room-did cmp p places leads t (h .0)) (h .1)) in
-      let place = lead-place o n vs fits p pos (t .work .brought) (t .work .given) bs (l .brought) (l .given) (come-kept c) a (search-every (Layout o n vs) cmp p bs (l .held) .0) (lead-right cmp p O pos bs k) in
+      let place = lead-place o n vs fits light p pos (t .work .brought) (t .work .given) bs (l .brought) (l .given) (come-kept c) a (search-every (Layout o n vs) cmp p bs (l .held) .0) (lead-right cmp p O pos bs k) in
       record {
         more = placeOf a ∷ r .more;
         output-is = after-did leads os t c (h .0) ∙ (r .output-is ∙ append-assoc (t .output) (placeOf a ∷ []) (r .more));
@@ -137,7 +137,7 @@ module _ (o : Order) (n : ℕ) (vs : List ℕ) (fits : n ≤ 6) (p : ℕ) (pos :
       record {
         more = f ++ (term 0 0 ∷ r .more);
         output-is = after-did sums os t c (h .0) ∙ (r .output-is ∙ (append-assoc (t .output) (f ++ (term 0 0 ∷ [])) (r .more) ∙ ap (λ (x : List (Term ℕ)). t .output ++ x) (append-assoc f (term 0 0 ∷ []) (r .more))));
-        given-out = (f, r .more, refl, sum-places o n vs fits p pos (t .work .brought) (t .work .given) bs (l .brought) (l .given) (come-kept c) f (sum-laid t l) (s .0) (s .1), r .given-out);
+        given-out = (f, r .more, refl, sum-places o n vs fits light p pos (t .work .brought) (t .work .given) bs (l .brought) (l .given) (come-kept c) f (sum-laid t l) (s .0) (s .1), r .given-out);
       }
 
   -- operations that are all done, from the beginning

@@ -9,7 +9,7 @@ cast-result : tie.Need-cast-result
 cast-result c = search needs
 
 returns : tie.Need-returns
-returns c = let a = c .args in (larger-flag (a .x) (a .y) (c .fits .x .fits) (c .fits .y .fits), flag-small (ltb (a .y) (a .x)))
+returns c = let a = c .args in (larger-flag (a .x) (a .y), flag-small (ltb (a .y) (a .x)))
 
 pub larger-spec : {M : Type 1} → statement M
 larger-spec = tie.close (tie.spec cast-result returns)

@@ -1,5 +1,5 @@
 -- `monomial::order::Order::word` meets its contract, order by order. Assumes nothing.
-use Rattle.monomial.proofs.CodeLaws.{word-lex, word-rev, word-fits}
+use Rattle.monomial.proofs.CodeLaws.{word-lex, word-deg, word-rev, word-fits}
 use borrow.Author.Needs.{needs}
 use Rattle.monomial.proofs.order.Order.word.Statement.{statement}
 use Rattle.monomial.proofs.order.Order.word.Tie as tie
@@ -25,10 +25,10 @@ returns : tie.Need-returns
 returns c = word-lex _ _ (c .before .before .fits .k .fits) (c .enum-told .given .1)
 
 returns-2 : tie.Need-returns-2
-returns-2 c = search needs
+returns-2 c = word-deg _ _ (c .before .before .fits .k .fits) (c .enum-told2 .given .1)
 
 returns-3 : tie.Need-returns-3
-returns-3 c = word-rev _ _ (c .enum-told3 .given .1)
+returns-3 c = word-rev _ _ (c .before .before .fits .k .fits) (c .enum-told3 .given .1)
 
 pub word-spec : {M : Type 1} → statement M
 word-spec =
