@@ -1,0 +1,4 @@
+pub mod Parts
+pub mod WideLaws
+pub mod CompareLaws
+pub mod NarrowLaws
