@@ -2,3 +2,5 @@ pub mod Parts
 pub mod WideLaws
 pub mod CompareLaws
 pub mod NarrowLaws
+pub mod WideKeyLaws
+pub mod CodeLaws

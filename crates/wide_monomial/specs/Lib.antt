@@ -1,2 +1,3 @@
 pub mod Widths
 pub mod Wide
+pub mod WideKeys
