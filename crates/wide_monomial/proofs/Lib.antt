@@ -3,4 +3,5 @@ pub mod WideLaws
 pub mod CompareLaws
 pub mod NarrowLaws
 pub mod WideKeyLaws
+pub mod WideWordLaws
 pub mod CodeLaws

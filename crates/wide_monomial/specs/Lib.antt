@@ -1,3 +1,4 @@
 pub mod Widths
 pub mod Wide
 pub mod WideKeys
+pub mod WideWords

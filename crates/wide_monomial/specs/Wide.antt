@@ -53,6 +53,10 @@ inFirst n = min n 6
 abbrev pub inSecond : ℕ → ℕ
 inSecond n = n - 6
 
+-- r is whether the fields of the word w have their top bits 0 and those beyond n are 0, for each order and number of variables that has these bits beyond
+abbrev pub TestsClear : (b w : ℕ) (r : Bool) → Type 0
+TestsClear b w r = (o : Order) (n : ℕ) → n ≤ 6 → b ≡ beyondBits o n → r ≡ (below 128 (fields o w) && below 1 (drop n (fields o w)))
+
 -- r is whether x is of the layout, for each order, number of variables and weights that have these bits beyond, b in the first word and c in the second, and these words of weights
 abbrev pub TestsWide : (b c u v x : ℕ) (r : Bool) → Type 0
 TestsWide b c u v x r = (o : Order) (n : ℕ) → n ≤ 12 → b ≡ beyondBits o (inFirst n) → c ≡ beyondBits o (inSecond n) → r ≡ inWide o n (fields o u ++ fields o v) x
