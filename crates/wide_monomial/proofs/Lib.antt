@@ -5,3 +5,4 @@ pub mod NarrowLaws
 pub mod WideKeyLaws
 pub mod WideWordLaws
 pub mod CodeLaws
+pub mod ExponentLaws
