@@ -1,7 +1,7 @@
 -- Comparing monomials of two words is comparing their exponents, in each order. Assumes nothing.
 use mathlib.Core.Path.{_≡_, refl, sym, ap, ap₂, _∙_, subst}
 use mathlib.Core.List.{List, [], _∷_}
-use Prim.Native.Nat.{ℕ, zero, suc, _+_, _*_, _/_, _%_, _^_, _<_, _≤_, min, compare, Ordering, Ordering·lt, Ordering·eq, Ordering·gt}
+use Prim.Native.Nat.{ℕ, zero, suc, _+_, _*_, _/_, _^_, _<_, _≤_, min, compare, Ordering}
 use native.Mathlib.Nat.{mod-eq-of-lt}
 use native.Mathlib.Omega.{arith}
 use lib.ListN.{length, take, drop, length-take, length-drop}
@@ -9,7 +9,7 @@ use Rattle.monomial.specs.declared.order.Order.{Order}
 use Rattle.monomial.specs.declared.order.Order.the-variants.{Lex, DegLex, DegRevLex}
 use Rattle.monomial.specs.Exponents.{weighted, orElse, lex, revLex, compareIn}
 use Rattle.monomial.specs.Layout.{ofBytes, six, upward, Below}
-use Rattle.monomial.specs.Words.{low, degreeIn, firstIn, secondIn, compareTwo, compareWords}
+use Rattle.monomial.specs.Words.{degreeIn, firstIn, secondIn, compareTwo, compareWords}
 use Rattle.monomial.proofs.Comparing.{compare-digits}
 use Rattle.monomial.proofs.OrderLaws.{two-words}
 use Rattle.monomial.proofs.Places.{Below-more}

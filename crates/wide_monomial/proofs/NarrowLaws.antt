@@ -10,7 +10,7 @@ use lib.Seq.{take-all, take-append-le, drop-append-le}
 use Rattle.monomial.specs.declared.order.Order.{Order}
 use Rattle.monomial.specs.declared.order.Order.the-variants.{Lex, DegLex, DegRevLex}
 use Rattle.monomial.specs.Exponents.{weighted, orElse, lex, revLex, compareIn}
-use Rattle.monomial.specs.Layout.{bytes, ofBytes, six, upward, wordOf, fields, exponents, Below, below, Layout}
+use Rattle.monomial.specs.Layout.{bytes, ofBytes, six, upward, wordOf, fields, exponents, Below, Layout}
 use Rattle.monomial.specs.Words.{degreeIn, firstIn, secondIn}
 use Rattle.monomial.proofs.OrderLaws.{no-second}
 use Rattle.monomial.proofs.Places.{true-below, weighted-none, Below-more}

@@ -1,6 +1,6 @@
 -- Comparing the keys of monomials of two words is comparing the monomials; keys and monomials are got back from each other. Assumes nothing.
 use mathlib.Core.Path.{_≡_, refl, sym, ap, ap₂, _∙_, subst}
-use Prim.Native.Nat.{ℕ, suc, _+_, _-_, _*_, _/_, _%_, _^_, _<_, _≤_, min, compare, Ordering}
+use Prim.Native.Nat.{ℕ, _+_, _-_, _*_, _/_, _%_, _^_, _<_, _≤_, min, compare, Ordering}
 use native.Mathlib.Nat.{div-add-mod', mod-lt, div-lt-iff-lt-mul, min-le-right}
 use native.Mathlib.Omega.{arith}
 use lib.Dec.{lit<}
@@ -8,7 +8,7 @@ use lib.Arith.{digits-lt, digits-div, digits-mod}
 use Rattle.monomial.specs.declared.order.Order.{Order}
 use Rattle.monomial.specs.declared.order.Order.the-variants.{Lex, DegLex, DegRevLex}
 use Rattle.monomial.specs.Exponents.{orElse}
-use Rattle.monomial.specs.Words.{low, high, degreeIn, firstIn, secondIn, compareTwo, compareWords}
+use Rattle.monomial.specs.Words.{low, high, firstIn, secondIn, compareTwo, compareWords}
 use Rattle.monomial.proofs.Comparing.{carried, compare-digits}
 use Rattle.monomial.proofs.OrderLaws.{two-words}
 use Rattle.monomial.proofs.ByteLaws.{orElse-assoc}

@@ -1,6 +1,5 @@
 -- `wide_monomial::two::product` meets its contract, word by word. Assumes nothing.
 use Rattle.wide_monomial.proofs.CodeLaws.{first-packed, second-packed, sums-fit, sums-paired}
-use borrow.Author.Needs.{needs}
 use Rattle.wide_monomial.proofs.two.product.Statement.{statement}
 use Rattle.wide_monomial.proofs.two.product.Tie as tie
 
