@@ -1,0 +1,2 @@
+pub mod Pulls
+pub mod WideLeads
