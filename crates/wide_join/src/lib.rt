@@ -1,0 +1,2 @@
+// What a merge makes of two terms of two keys each.
+pub mod joining; // the choice by flags
