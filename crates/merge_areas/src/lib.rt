@@ -12,8 +12,8 @@ ghost use Rattle.merge_common.specs.Lent.{part};
 ghost use Rattle.merge_common.specs.Placing.{PlacedIn};
 ghost use Rattle.merge_areas.specs.Areas.{Areas};
 
-mod rest; // terms that are moved as they stand
-mod turns; // the turns of the merge
+pub mod rest; // terms that are moved as they stand
+pub mod turns; // the turns of the merge
 
 // Merges the n terms at place a of the work space with the m terms at place b, both not empty, to the
 // places from `to` up to to + n + m, which lie apart from both. The result ends there. The rest of a list

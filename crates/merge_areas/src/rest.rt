@@ -31,7 +31,7 @@ fn rest_len(ww: &[u64], i: usize, ie: usize, j: usize, je: usize) -> usize
 }
 
 // Where the terms begin that are left of two lists, of which one is used up.
-fn source(i: usize, ie: usize, j: usize) -> usize
+pub fn source(i: usize, ie: usize, j: usize) -> usize
     ensures { λ r. ⌜ Source i ie j r ⌝ }
 {
     if i < ie { i } else { j }
