@@ -1,1 +1,2 @@
 pub mod StoredTwo
+pub mod RestTwo
