@@ -14,7 +14,7 @@ use Rattle.merge_areas.proofs.Moving.{rest-long}
 use Rattle.merge_areas.proofs.Resting.{one-rest, rest-fits, rest-ends, rest-apart, rest-moved}
 use Rattle.place.specs.Numbers.{keyed, keyPairs}
 use Rattle.place.proofs.PairLaws.{pair-at}
-use Rattle.wide_areas.proofs.StoredTwo.{atPlace}
+use Rattle.wide_join.proofs.TwoPlaces.{atPlace}
 
 -- ---- the place k by the flag of its comparison with the last one
 module _ (ws : List ℕ) (last k l : ℕ) (e : l ≡ flag (isLarger (compare last (atPlace ws k)))) (h : k < length (keyPairs ws)) where

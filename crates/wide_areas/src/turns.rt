@@ -1,7 +1,8 @@
-// The turns of a merge from both ends, for terms of two keys: place k of the keys lies at 2k and 2k + 1.
+// The turns of a merge from both ends, for terms of two keys.
 use merge_areas::turns::Ends;
-use wide_join::joining::join_last_two;
-use wide_join::joining::join_two;
+use wide_join::places::join_at;
+use wide_join::places::join_last_at;
+use wide_join::places::store;
 ghost use mathlib.Core.Path.{_≡_};
 ghost use mathlib.Core.Logic.{_⊎_};
 ghost use Prim.Native.Nat.{_*_, _≤_, _<_};
@@ -17,18 +18,8 @@ fn front_two(p: u32, ww: &mut [u64], wc: &mut [u32], s: Ends) -> Ends
     let i = s.i;
     let j = s.j;
     let d = s.d;
-    let t = join_two(
-        ww[2 * i],
-        ww[2 * i + 1],
-        wc[i],
-        ww[2 * j],
-        ww[2 * j + 1],
-        wc[j],
-        p,
-    );
-    ww[2 * d] = t.first;
-    ww[2 * d + 1] = t.second;
-    wc[d] = t.coef;
+    let t = join_at(ww, wc, i, ww, wc, j, p);
+    store(ww, wc, d, t);
     Ends {
         i: i + t.left,
         ie: s.ie,
@@ -48,18 +39,8 @@ fn back_two(p: u32, ww: &mut [u64], wc: &mut [u32], s: Ends) -> Ends
     let i = s.ie - 1;
     let j = s.je - 1;
     let d = s.e - 1;
-    let t = join_last_two(
-        ww[2 * i],
-        ww[2 * i + 1],
-        wc[i],
-        ww[2 * j],
-        ww[2 * j + 1],
-        wc[j],
-        p,
-    );
-    ww[2 * d] = t.first;
-    ww[2 * d + 1] = t.second;
-    wc[d] = t.coef;
+    let t = join_last_at(ww, wc, i, ww, wc, j, p);
+    store(ww, wc, d, t);
     Ends {
         i: s.i,
         ie: s.ie - t.left,

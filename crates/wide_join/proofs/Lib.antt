@@ -1,1 +1,2 @@
 mod TwoKeys
+pub mod TwoPlaces
