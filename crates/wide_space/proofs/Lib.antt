@@ -1,2 +1,3 @@
 pub mod Pulls
 pub mod WideLeads
+pub mod WideSettle

@@ -1,4 +1,4 @@
-// The spaces as they are at return, for monomials of two words.
+// Terms pulled to an earlier place as words, and places cleared, for monomials of two words.
 use monomial::order::Order;
 use space::settle::clear_words;
 use wide_monomial::keys::words;
