@@ -4,12 +4,24 @@ use merge_areas::rest::source;
 use merge_areas::turns::Ends;
 use wide_copy::copy::move_terms_two;
 use wide_join::joining::larger_two;
+use wide_join::places::keys_at;
 ghost use mathlib.Core.Path.{_≡_};
 ghost use mathlib.Core.Logic.{_⊎_};
-ghost use Prim.Native.Nat.{_*_, _≤_, _<_};
-ghost use lib.ListN.{length};
+ghost use Prim.Native.Nat.{_+_, _*_, _≤_, _<_, compare};
+ghost use lib.ListN.{length, getD};
+ghost use Rattle.polynomial.specs.Opening.{isLarger};
+ghost use Rattle.merge_common.specs.Lent.{flag};
 ghost use Rattle.place.specs.Numbers.{keyed, keyPairs};
 ghost use Rattle.merge_areas.specs.Ways.{Ready, Rested, MovedLeft, Above};
+
+// 1 where the term at place k is below the two keys, and else 0.
+fn below_keys(ww: &[u64], k: usize, first: u64, second: u64) -> usize
+    requires { ⌜ 2 * k + 1 < length (now ww) ⌝ }
+    ensures { λ r. ⌜ r ≡ flag (isLarger (compare (keyed first second) (getD (keyPairs (now (ww .entry))) k 0))) ⌝ }
+{
+    let x = keys_at(ww, k);
+    larger_two(first, second, x.first, x.second)
+}
 
 // The end of the terms at places `from` up to `end` that are not below the two keys.
 fn above_two(ww: &[u64], from: usize, end: usize, first: u64, second: u64) -> usize
@@ -17,7 +29,7 @@ fn above_two(ww: &[u64], from: usize, end: usize, first: u64, second: u64) -> us
     ensures { λ r. ⌜ Above (keyPairs (now (ww .entry))) from end (keyed first second) r ⌝ }
 {
     let mut k = end;
-    while k > from && larger_two(first, second, ww[2 * (k - 1)], ww[2 * (k - 1) + 1]) == 1 {
+    while k > from && below_keys(ww, k - 1, first, second) == 1 {
         k -= 1;
     }
     k
@@ -31,12 +43,10 @@ pub fn move_rest_two(ww: &mut [u64], wc: &mut [u32], s: Ends) -> Ends
 {
     let ie = s.ie;
     let je = s.je;
-    let x1 = ww[2 * (ie - 1)];
-    let x2 = ww[2 * (ie - 1) + 1];
-    let y1 = ww[2 * (je - 1)];
-    let y2 = ww[2 * (je - 1) + 1];
-    let i = above_two(ww, s.i, ie, y1, y2);
-    let j = above_two(ww, s.j, je, x1, x2);
+    let x = keys_at(ww, ie - 1);
+    let y = keys_at(ww, je - 1);
+    let i = above_two(ww, s.i, ie, y.first, y.second);
+    let j = above_two(ww, s.j, je, x.first, x.second);
     let left = ie - i + (je - j);
     let from = source(i, ie, j);
     let e = s.e - left;

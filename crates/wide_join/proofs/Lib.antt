@@ -1,2 +1,2 @@
 mod TwoKeys
-pub mod TwoPlaces
+mod TwoPlaces

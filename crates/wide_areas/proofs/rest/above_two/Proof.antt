@@ -1,11 +1,8 @@
 -- `wide_areas::rest::above_two` meets its contract: the keys from k on are below the last ones. Assumes nothing.
 use mathlib.Core.Logic.{inl, inr}
-use Prim.Native.Nat.{_-_}
 use native.Mathlib.Omega.{arith}
-use borrow.Author.Needs.{needs}
 use borrow.Author.Tests.{eqb-true, eqb-false}
 use Rattle.place.specs.Numbers.{keyed, keyPairs}
-use Rattle.place.proofs.PairLaws.{length-pairs}
 use Rattle.merge_areas.proofs.Resting.{Scanned, scan-start, scan-on, scanned}
 use Rattle.wide_areas.proofs.RestTwo.{below-last, not-below}
 use Rattle.wide_areas.proofs.rest.above_two.Statement.{statement}
@@ -21,20 +18,10 @@ loop-holds : tie.Need-loop-holds Inv-loop μ-loop
 loop-holds c = scan-start _ _ _ _ (c .before .pre .0)
 
 loop-again : tie.Need-loop-again Inv-loop μ-loop
-loop-again c =
-    let s = c .before .before .before .before .before .before .before in
-    let h = c .before .before .before .before .before .loop in
-    let t = c .before .before .before .before .loop-test .taken in
-    let l = c .before .larger-two in
-    scan-on (h .inv) t (below-last (s .args .ww .now) (keyed (s .args .first) (s .args .second)) (h .k - 1) (l .result) (l .ensures .0) (omega (arith, h .inv, s .pre, length-pairs keyed (s .args .ww .now))) (eqb-true _ _ (c .if1 .taken)))
+loop-again c = let l = c .before .below-keys in scan-on (c .before .before .before .loop .inv) (c .before .before .loop-test .taken) (below-last _ _ (l .result) (l .ensures) (eqb-true _ _ (c .if1 .taken)))
 
 returns : tie.Need-returns Inv-loop μ-loop
-returns c =
-    let s = c .before .before .before .before .before .before .before in
-    let h = c .before .before .before .before .before .loop in
-    let t = c .before .before .before .before .loop-test .taken in
-    let l = c .before .larger-two in
-    scanned (h .inv) (inr (not-below (s .args .ww .now) (keyed (s .args .first) (s .args .second)) (h .k - 1) (l .result) (l .ensures .0) (omega (arith, h .inv, s .pre, length-pairs keyed (s .args .ww .now))) (eqb-false _ _ (c .if1 .left))))
+returns c = let l = c .before .below-keys in scanned (c .before .before .before .loop .inv) (inr (not-below _ _ (l .result) (l .ensures) (eqb-false _ _ (c .if1 .left))))
 
 returns-2 : tie.Need-returns-2 Inv-loop μ-loop
 returns-2 c = let s = c .before .loop .inv in scanned s (inl (omega (arith, s, c .loop-test .left)))
@@ -47,15 +34,7 @@ above-two-spec =
     μ-loop
     loop-holds
     (λ c. omega arith)
-    (λ c. omega arith)
-    (λ c. omega arith)
-    (λ c. omega arith)
-    (λ c. omega arith)
-    (λ c. omega arith)
-    (λ c. omega arith)
-    (λ c. omega arith)
-    (λ c. omega arith)
-    (λ c κs. search needs)
+    (λ c κs. omega arith)
     (λ c. omega arith)
     (λ c. omega arith)
     loop-again

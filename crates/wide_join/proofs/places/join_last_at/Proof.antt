@@ -1,4 +1,5 @@
 -- `wide_join::places::join_last_at` meets its contract. Assumes nothing.
+use lib.ListN.{getD}
 use Rattle.wide_join.proofs.TwoPlaces.{last-at}
 use borrow.Author.Needs.{needs}
 use Rattle.wide_join.proofs.places.join_last_at.Statement.{statement}
@@ -6,28 +7,15 @@ use Rattle.wide_join.proofs.places.join_last_at.Tie as tie
 
 returns : tie.Need-returns
 returns c =
-    let s = c .before .before .before .before .before .before .before .before .before .before .before in
-    let a = s .args in
-    last-at (a .aw .now) (a .ac .now) (a .i) (s .pre .1) (a .bw .now) (a .bc .now) (a .j) (s .pre .2) (a .p) (c .join-last-two .ensures)
+    let a = c .before .before .before .before .before .before .before .before .before .args in
+    last-at (c .before .before .before .before .keys-at .ensures) (c .before .before .before .keys-at2 .ensures) (getD (a .ac .now) (a .i) 0) (getD (a .bc .now) (a .j) 0) (a .p) (c .join-last-two .ensures)
 
 pub join-last-at-spec : {M : Type 1} → statement M
 join-last-at-spec =
     tie.close
     (tie.spec
-    (λ c. search needs)
-    (λ c. search needs)
-    (λ c. search needs)
-    (λ c. search needs)
-    (λ c. search needs)
-    (λ c. search needs)
-    (λ c. search needs)
-    (λ c. search needs)
-    (λ c. search needs)
-    (λ c. search needs)
-    (λ c. search needs)
-    (λ c. search needs)
-    (λ c. search needs)
-    (λ c. search needs)
+    (λ c κs. search needs)
+    (λ c κs. search needs)
     (λ c. search needs)
     (λ c. search needs)
     (λ c. search needs)
