@@ -1,3 +1,4 @@
 pub mod Pulls
 pub mod WideLeads
 pub mod WideSettle
+pub mod WideInWords
