@@ -5,13 +5,13 @@ use Prim.Native.Nat.{ℕ, _*_, _/_, _^_, _<_}
 use native.Mathlib.Omega.{arith}
 use lib.ListN.{length, getD}
 use Rattle.wide_monomial.specs.declared.width.Width.{Width}
-use Rattle.wide_monomial.specs.declared.width.Width.the-variants.{One, Two}
 use Rattle.wide_monomial.specs.Widths.{wordsEach}
 use Rattle.monomial.specs.Words.{firstIn}
 use Rattle.wide_monomial.specs.Wide.{paired}
 use Rattle.wide_monomial.proofs.Parts.{first-of, above-of}
 use Rattle.place.specs.Numbers.{keyed, wordPairs, keyPairs, wordNumbers, keyNumbers}
-use Rattle.place.proofs.PairLaws.{pairs-long, pairs-each, pairs-one-to-one}
+use Rattle.place.proofs.PairLaws.{pairs-each, pairs-one-to-one}
+use Rattle.place.proofs.WidthLaws.{numbers-long}
 
 -- ---- two numbers of 64 bits are determined by what they are put together to
 paired-one : (a b c d : ℕ) → a < 2 ^ 64 → b < 2 ^ 64 → c < 2 ^ 64 → d < 2 ^ 64 → paired a b ≡ paired c d → (a ≡ c) × (b ≡ d)
@@ -51,9 +51,7 @@ module _ (ws : List ℕ) (small : (i : ℕ) → getD ws i 0 < 2 ^ 64) (k : ℕ) 
 
 -- ---- by width: a slice of whole places has as many
 pub word-numbers-long : (w : Width) (ws : List ℕ) (n : ℕ) → length ws ≡ wordsEach w * n → length (wordNumbers w ws) ≡ n
-word-numbers-long One ws n e = omega arith
-word-numbers-long Two ws n e = pairs-long paired ws n e
+word-numbers-long w ws n e = numbers-long paired w ws n e
 
 pub key-numbers-long : (w : Width) (ks : List ℕ) (n : ℕ) → length ks ≡ wordsEach w * n → length (keyNumbers w ks) ≡ n
-key-numbers-long One ks n e = omega arith
-key-numbers-long Two ks n e = pairs-long keyed ks n e
+key-numbers-long w ks n e = numbers-long keyed w ks n e

@@ -22,11 +22,13 @@ wordPairs ws = pairsBy paired ws
 abbrev pub keyPairs : List ℕ → List ℕ
 keyPairs ks = pairsBy keyed ks
 
--- the same by width
+-- the same by width: with one word to a place it is the list itself
+abbrev pub numbersBy : (ℕ → ℕ → ℕ) → Width → List ℕ → List ℕ
+numbersBy f One ws = ws
+numbersBy f Two ws = pairsBy f ws
+
 abbrev pub wordNumbers : Width → List ℕ → List ℕ
-wordNumbers One ws = ws
-wordNumbers Two ws = wordPairs ws
+wordNumbers w ws = numbersBy paired w ws
 
 abbrev pub keyNumbers : Width → List ℕ → List ℕ
-keyNumbers One ks = ks
-keyNumbers Two ks = keyPairs ks
+keyNumbers w ks = numbersBy keyed w ks
