@@ -10,7 +10,7 @@ use Rattle.wide_monomial.specs.Wide.{paired}
 use Rattle.wide_monomial.specs.WideKeys.{wideKeyOf, fromWideKey}
 use Rattle.wide_monomial.proofs.WideKeyLaws.{wide-of-key}
 use Rattle.place.specs.Numbers.{pairsBy, wordPairs}
-use Rattle.place.proofs.PairLaws.{length-pairs, pair-at, pairs-set, pairs-drop}
+use Rattle.place.proofs.PairLaws.{length-pairs, pair-at, pairs-set, pairs-sets, pairs-drop}
 use Rattle.place.proofs.PlaceLaws.{paired-fits}
 use Rattle.merge_common.specs.Lent.{restOf, part, Apart}
 use Rattle.merge_common.proofs.Lists.{Begun, begun-none, begun-more, begun-all, begun-reads, getD-each, length-part, rest-left, rest-right, part-from}
@@ -104,6 +104,10 @@ unfolding pairsBy
 wide-keys-back o [] h = refl
 wide-keys-back o (a ∷ []) h = refl
 wide-keys-back o (a ∷ (b ∷ ws)) h = ap₂ (λ (x : ℕ) (y : List ℕ). x ∷ y) (wide-of-key o (paired a b) (paired-fits a b (h 0) (h 1))) (wide-keys-back o ws (λ i. h (suc (suc i))))
+
+-- whole places are put as they are
+pub pairs-put : (f : ℕ → ℕ → ℕ) (l s : List ℕ) (to : ℕ) {o : List ℕ} → length s % 2 ≡ 0 → 2 * to + length s ≤ length l → o ≡ sets l (2 * to) s → pairsBy f o ≡ sets (pairsBy f l) to (pairsBy f s)
+pairs-put f l s to whole room e = ap (pairsBy f) e ∙ pairs-sets f l to s (length s / 2) (omega arith) (omega (arith, length-pairs f l))
 
 -- ---- which list is not used up
 module _ (f : ℕ → ℕ → ℕ) (a b : List ℕ) (i j : ℕ) (whole-a : length a % 2 ≡ 0) (whole-b : length b % 2 ≡ 0) where
