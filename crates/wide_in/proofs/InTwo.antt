@@ -1,19 +1,20 @@
 -- The merge in place for terms of two keys, by the laws of the one for a number to a place. Assumes nothing.
-use mathlib.Core.Path.{_≡_, sym, ap, ap₂, _∙_, subst}
+use mathlib.Core.Path.{_≡_, sym, ap, _∙_, subst}
 use mathlib.Core.List.{List}
 use mathlib.Core.Logic.{_⊎_}
-use Prim.Native.Nat.{ℕ, _+_, _-_, _*_, _<_, _≤_, compare}
+use Prim.Native.Nat.{ℕ, _+_, _-_, _*_, _<_, _≤_, compare, Ordering}
 use native.Mathlib.Omega.{arith}
-use lib.ListN.{length, drop}
+use lib.ListN.{length}
 use lib.Seq.{sets}
-use Rattle.polynomial.specs.Terms.{terms}
+use Rattle.polynomial.specs.Terms.{Term, terms}
 use Rattle.merge_common.specs.Lent.{part}
 use Rattle.merge_common.specs.Placing.{PlacedIn}
+use Rattle.merge_common.specs.declared.merging.Placed.{Placed}
 use Rattle.merge_common.proofs.Lists.{length-part}
 use Rattle.merge_in.specs.Placing.{Into}
 use Rattle.merge_in.proofs.Ahead.{Ahead, ahead-start, put-rest, gap-closed}
 use Rattle.place.specs.Numbers.{keyed, keyPairs}
-use Rattle.place.proofs.PairLaws.{length-pairs, pairs-long, pairs-part, pairs-sets}
+use Rattle.place.proofs.PairLaws.{pairs-long, pairs-part, pairs-sets}
 
 -- whole places from place i on are put from place k on
 pub rest-put : (fw sw : List ℕ) (i k n : ℕ) {o : List ℕ} → length fw ≡ 2 * n → i ≤ n → k + (n - i) ≤ length (keyPairs sw) → o ≡ sets sw (2 * k) (part (2 * i) (length fw - 2 * i) fw) → keyPairs o ≡ sets (keyPairs sw) k (part i (length (keyPairs fw) - i) (keyPairs fw))
@@ -48,3 +49,7 @@ module _ {p : ℕ} {fw fc sw₀ sc₀ : List ℕ} {h e : ℕ} (pre : Into p fw f
   pub gap-closed-two : length fc ≤ i → {sw' sc' : List ℕ} {head : ℕ} → head ≡ h - length fc + (j - k) → sw' ≡ sets sw head (part (h - length fc) (k - (h - length fc)) sw) → sc' ≡ sets sc head (part (h - length fc) (k - (h - length fc)) sc) → Result sw' sc' head (e - head)
   gap-closed-two end {sw'} {sc'} {head} eh ew ec =
       gap-closed pre s (omega (arith, pre .lent .long)) (eh ∙ ap (λ (x : ℕ). x + (j - k)) low) (ew ∙ ap (λ (x : ℕ). sets sw head (part x (k - x) sw)) low) (ec ∙ ap (λ (x : ℕ). sets sc head (part x (k - x) sc)) low)
+
+-- the result, by what it is
+pub placed-as : {cmp : ℕ → ℕ → Ordering} {p : ℕ} {f g : List (Term ℕ)} {low e : ℕ} {sw sc sw' sc' : List ℕ} {r q : Placed} → r ≡ q → PlacedIn cmp p f g low e sw sc sw' sc' q → PlacedIn cmp p f g low e sw sc sw' sc' r
+placed-as {cmp} {p} {f} {g} {low} {e} {sw} {sc} {sw'} {sc'} h k = subst (λ (x : Placed). PlacedIn cmp p f g low e sw sc sw' sc' x) (sym h) k

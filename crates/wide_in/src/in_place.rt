@@ -27,6 +27,18 @@ fn put_rest(fw: &[u64], fc: &[u32], i: usize, sw: &mut [u64], sc: &mut [u32], k:
     put_coefs(tc, sc, k);
 }
 
+// A merge that lies from place `head` up to `end`.
+fn placed(head: usize, end: usize, comparisons: u64) -> Placed
+    requires { ⌜ head ≤ end ⌝ }
+    ensures { λ r. ⌜ r ≡ record { head = head; len = end - head; comparisons = comparisons } ⌝ }
+{
+    Placed {
+        head,
+        len: end - head,
+        comparisons,
+    }
+}
+
 // Merges the polynomial f with the one at places h up to e, towards the room in front of it: what is
 // written stays behind what is read. Once f is used up, the other's terms stay, and the merged ones in
 // front are moved up to them over the places of like terms.
@@ -57,17 +69,8 @@ pub fn merge_into_two(
     }
     if i < fc.len() {
         put_rest(fw, fc, i, sw, sc, k);
-        let end = k + (fc.len() - i);
-        return Placed {
-            head: from,
-            len: end - from,
-            comparisons: n,
-        };
+        return placed(from, k + (fc.len() - i), n);
     }
     let head = close_gap_two(sw, sc, from, k, j);
-    Placed {
-        head,
-        len: e - head,
-        comparisons: n,
-    }
+    placed(head, e, n)
 }

@@ -8,7 +8,7 @@ use lib.ListN.{length}
 use Rattle.merge_common.proofs.Joins.{joined-small}
 use Rattle.merge_in.proofs.Ahead.{Ahead, x-within, y-within, turn-less, turn-ahead}
 use Rattle.place.specs.Numbers.{keyPairs}
-use Rattle.wide_in.proofs.InTwo.{start-two, ahead-as, put-rest-two, gap-closed-two}
+use Rattle.wide_in.proofs.InTwo.{start-two, ahead-as, put-rest-two, gap-closed-two, placed-as}
 use Rattle.wide_in.proofs.in_place.merge_into_two.Statement.{statement}
 use Rattle.wide_in.proofs.in_place.merge_into_two.Tie as tie
 
@@ -92,27 +92,27 @@ put-rest-requires c κs =
     let v = h .loop .inv in
     (q .1, omega (arith, q .2, v .1, v .0 .coefs-held .long), omega (arith, c .before .before .if2 .taken), omega (arith, c .before .before .if2 .taken, q .0, v .0, v .0 .coefs-held .long))
 
-sub-end : tie.Need-sub-end Inv-loop μ-loop
-sub-end c = omega (arith, c .before .before .before .before .before .before .before .if2 .taken)
+sub-placed : tie.Need-sub-placed Inv-loop μ-loop
+sub-placed c = omega (arith, c .before .before .before .before .before .before .before .if2 .taken)
 
-add-end : tie.Need-add-end Inv-loop μ-loop
-add-end c = let h = c .before .before .before .before .before .before .before .before .before in let s = entry h in omega (arith, c .before .before .before .before .before .before .before .if2 .taken, s .pre .0, s .pre .2, s .good, h .loop .inv .0)
+add-placed : tie.Need-add-placed Inv-loop μ-loop
+add-placed c = let h = c .before .before .before .before .before .before .before .before .before in let s = entry h in omega (arith, c .before .before .before .before .before .before .before .if2 .taken, s .pre .0, s .pre .2, s .good, h .loop .inv .0)
 
-sub-t35 : tie.Need-sub-t35 Inv-loop μ-loop
-sub-t35 c = let h = c .before .before .before .before .before .before .before .before .before in let s = entry h in omega (arith, c .before .before .before .before .before .before .before .if2 .taken, s .pre .0, h .loop .inv .0)
+placed-requires : tie.Need-placed-requires Inv-loop μ-loop
+placed-requires c κs = let h = c .before .before .before .before .before .before .before .before .before in let s = entry h in omega (arith, c .before .before .before .before .before .before .before .if2 .taken, s .pre .0, h .loop .inv .0)
 
 same-length : tie.Need-same-length Inv-loop μ-loop
-same-length c = omega (arith, c .before .before .before .before .before .before .before .before .before .loop .inv .1, c .before .before .before .sw2 .given)
+same-length c = omega (arith, c .before .before .before .before .before .before .before .before .before .before .loop .inv .1, c .before .before .before .before .sw2 .given)
 
 same-length-2 : tie.Need-same-length-2 Inv-loop μ-loop
-same-length-2 c = omega (arith, c .before .before .before .before .before .before .before .before .before .loop .inv .0 .coefs-held .long, c .before .sc2 .given)
+same-length-2 c = omega (arith, c .before .before .before .before .before .before .before .before .before .before .loop .inv .0 .coefs-held .long, c .before .before .sc2 .given)
 
 returns : tie.Need-returns Inv-loop μ-loop
 returns c =
-    let h = c .before .before .before .before .before .before .before .before .before in
-    let end = ⊎-elim (λ w. inr (ltb-false _ _ (w .1 .left))) (λ w. inl (w .left)) (c .before .before .before .before .before .before .before .before .loop-test .came) in
-    let w = c .before .before .before .before .put-rest .ensures in
-    put-rest-two (entry h .pre .0) (h .loop .inv .0) end (c .before .before .before .before .before .before .before .if2 .taken) (w .0) (w .1)
+    let h = c .before .before .before .before .before .before .before .before .before .before in
+    let end = ⊎-elim (λ w. inr (ltb-false _ _ (w .1 .left))) (λ w. inl (w .left)) (c .before .before .before .before .before .before .before .before .before .loop-test .came) in
+    let w = c .before .before .before .before .before .put-rest .ensures in
+    placed-as (c .placed .ensures) (put-rest-two (entry h .pre .0) (h .loop .inv .0) end (c .before .before .before .before .before .before .before .before .if2 .taken) (w .0) (w .1))
 
 close-gap-two-requires : tie.Need-close-gap-two-requires Inv-loop μ-loop
 close-gap-two-requires c κs =
@@ -121,20 +121,20 @@ close-gap-two-requires c κs =
     let v = h .loop .inv in
     (omega (arith, q .2, v .1, v .0 .coefs-held .long), omega (arith, q .0, v .0), omega (arith, q .0, v .0), omega (arith, q .0, v .0, v .0 .coefs-held .long))
 
-sub-t16 : tie.Need-sub-t16 Inv-loop μ-loop
-sub-t16 c = let h = c .before .before .before .before .before .before .before .before .before in omega (arith, entry h .pre .0, h .loop .inv .0, c .before .before .before .before .close-gap-two .ensures .0)
+placed-requires-2 : tie.Need-placed-requires-2 Inv-loop μ-loop
+placed-requires-2 c κs = let h = c .before .before .before .before .before .before .before .before .before in omega (arith, entry h .pre .0, h .loop .inv .0, c .before .before .before .before .close-gap-two .ensures .0)
 
 same-length-3 : tie.Need-same-length-3 Inv-loop μ-loop
-same-length-3 c = omega (arith, c .before .before .before .before .before .before .before .before .before .loop .inv .1, c .before .before .before .sw3 .given)
+same-length-3 c = omega (arith, c .before .before .before .before .before .before .before .before .before .before .loop .inv .1, c .before .before .before .before .sw3 .given)
 
 same-length-4 : tie.Need-same-length-4 Inv-loop μ-loop
-same-length-4 c = omega (arith, c .before .before .before .before .before .before .before .before .before .loop .inv .0 .coefs-held .long, c .before .sc3 .given)
+same-length-4 c = omega (arith, c .before .before .before .before .before .before .before .before .before .before .loop .inv .0 .coefs-held .long, c .before .before .sc3 .given)
 
 returns-2 : tie.Need-returns-2 Inv-loop μ-loop
 returns-2 c =
-    let h = c .before .before .before .before .before .before .before .before .before in
-    let g = c .before .before .before .before .close-gap-two .ensures in
-    gap-closed-two (entry h .pre .0) (h .loop .inv .0) (c .before .before .before .before .before .before .before .if2 .left) (g .0) (g .1) (g .2)
+    let h = c .before .before .before .before .before .before .before .before .before .before in
+    let g = c .before .before .before .before .before .close-gap-two .ensures in
+    placed-as (c .placed2 .ensures) (gap-closed-two (entry h .pre .0) (h .loop .inv .0) (c .before .before .before .before .before .before .before .before .if2 .left) (g .0) (g .1) (g .2))
 
 pub merge-into-two-spec : {M : Type 1} → statement M
 merge-into-two-spec =
@@ -153,14 +153,14 @@ merge-into-two-spec =
     loop-less
     loop-again
     put-rest-requires
-    sub-end
-    add-end
-    sub-t35
+    sub-placed
+    add-placed
+    placed-requires
     same-length
     same-length-2
     returns
     close-gap-two-requires
-    sub-t16
+    placed-requires-2
     same-length-3
     same-length-4
     returns-2)
