@@ -15,6 +15,9 @@ returns c =
     let z = c .if1 .taken in
     (omega (arith, z), two-no-gap keyed (x .sw .now) _ _ _ (q .1) (q .2) (omega (arith, q)) z, no-gap _ _ _ _ (q .1) (q .2) (q .3) z)
 
+shift-terms-two-requires : tie.Need-shift-terms-two-requires
+shift-terms-two-requires c κs = search needs
+
 pub close-gap-two-spec : {M : Type 1} → statement M
 close-gap-two-spec =
     tie.close
@@ -23,7 +26,7 @@ close-gap-two-spec =
     returns
     (λ c. search needs)
     (λ c. search needs)
-    (λ c κs. search needs)
+    shift-terms-two-requires
     (λ c. search needs)
     (λ c. search needs)
     (λ c. search needs))
