@@ -3,14 +3,12 @@ use limits::BUCKET_PLACES;
 use limits::WORK_PLACES;
 use merge_common::shift::close_gap;
 use merge_in::in_place::merge_into;
+use space::state::LAST_START;
 use space::state::head_of;
 use space::state::len_of;
 use space::state::place;
 ghost use Rattle.polynomial.specs.Terms.{terms};
 ghost use Rattle.buckets.specs.Last.{MergeLast, LastMerged, Roomy, Shifted, lastAt};
-
-// Where the last bucket starts in the bucket space.
-const LAST_START: usize = 1364;
 
 // Merges the polynomial f into the last bucket, and gives the comparisons.
 pub fn merge_last(

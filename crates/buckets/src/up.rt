@@ -26,7 +26,7 @@ pub fn merge_up(
     wc: &mut [u32],
 ) -> Placed
     requires { ⌜ MergeUp p (now b) l from len (now ww) (now wc) ⌝ }
-    ensures { λ r. ⌜ PlacedIn compare p (terms (part from len (now (ww .entry))) (part from len (now (wc .entry)))) (bucketAt (now (b .entry)) (now (ww .entry)) (now (wc .entry)) (l .bucket)) (sideAt (now (b .entry)) (l .bucket)) (sideAt (now (b .entry)) (l .bucket) + (len + lenAt (now (b .entry)) (l .bucket))) (now (ww .entry)) (now (wc .entry)) (now (ww .exit)) (now (wc .exit)) r ⌝ }
+    ensures { λ r. ⌜ PlacedIn compare p (terms (part from len (now (ww .entry))) (part from len (now (wc .entry)))) (bucketAt (now (b .entry)) (now (ww .entry)) (now (wc .entry)) (l .bucket)) (sideAt (now (b .entry)) (l .bucket)) (sideAt (now (b .entry)) (l .bucket) + (len + lenAt (now (b .entry)) (l .bucket))) (now (ww .entry)) (now (wc .entry)) (now (ww .exit)) (now (wc .exit)) r × (r .head + r .len ≡ sideAt (now (b .entry)) (l .bucket) + (len + lenAt (now (b .entry)) (l .bucket))) ⌝ }
 {
     let n = len_of(b, l.bucket);
     let to = side_of(b, l.bucket);

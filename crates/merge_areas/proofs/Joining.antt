@@ -156,14 +156,17 @@ module _ {p : ℕ} {ww wc : List ℕ} {a n b m to : ℕ} (r : Areas p ww wc a n 
                 let g : between w5 c5 (s4 .e) end ≡ between w4 c4 (s4 .e) end = between-like w4 c4 w5 c5 (s4 .e) end (last .long) word-long coef-long (omega (arith, r .room, steps .words-long)) (λ t u v. word-else t (inr u)) (λ t u v. coef-else t (inr u)) in
                 split w5 c5 long5 head (s4 .e) end (let e = head-end in omega arith) (steps .back) end-in ∙ (ap₂ (λ (u v : List (Term ℕ)). u ++ v) f g ∙ sym two-parts)
 
-            pub merged : PlacedIn compare p (terms (part a n ww) (part a n wc)) (terms (part b m ww) (part b m wc)) to end ww wc w5 c5 (record { head = head; len = end - head; comparisons = s4 .turns })
-            merged = record {
-              len-is = sym (length-between w5 c5 long5 head end head-in end-in) ∙ ap length all-there;
-              to-end = let h = head-in in omega arith;
-              from-low = from-low;
-              words-are = sym (words-between w5 c5 long5 head end head-in end-in) ∙ ap words all-there;
-              coefs-are = sym (coefs-between w5 c5 long5 head end head-in end-in) ∙ ap coefs all-there;
-              words-else = λ t u. word-else t (⊎-elim (λ v. inl (omega arith)) (λ v. inr (omega (arith, steps .back))) u) ∙ steps .words-else t u;
-              coefs-else = λ t u. coef-else t (⊎-elim (λ v. inl (omega arith)) (λ v. inr (omega (arith, steps .back))) u) ∙ steps .coefs-else t u;
-              count-is = counted;
-            }
+            pub merged : PlacedIn compare p (terms (part a n ww) (part a n wc)) (terms (part b m ww) (part b m wc)) to end ww wc w5 c5 (record { head = head; len = end - head; comparisons = s4 .turns }) × (head + (end - head) ≡ end)
+            merged = (
+              record {
+                len-is = sym (length-between w5 c5 long5 head end head-in end-in) ∙ ap length all-there;
+                to-end = let h = head-in in omega arith;
+                from-low = from-low;
+                words-are = sym (words-between w5 c5 long5 head end head-in end-in) ∙ ap words all-there;
+                coefs-are = sym (coefs-between w5 c5 long5 head end head-in end-in) ∙ ap coefs all-there;
+                words-else = λ t u. word-else t (⊎-elim (λ v. inl (omega arith)) (λ v. inr (omega (arith, steps .back))) u) ∙ steps .words-else t u;
+                coefs-else = λ t u. coef-else t (⊎-elim (λ v. inl (omega arith)) (λ v. inr (omega (arith, steps .back))) u) ∙ steps .coefs-else t u;
+                count-is = counted;
+              },
+              let h = head-in in omega arith,
+            )

@@ -6,6 +6,7 @@ use crate::turns::both_ends;
 use crate::turns::one_end;
 use merge_common::merging::Placed;
 use merge_common::shift::close_gap;
+ghost use mathlib.Core.Path.{_≡_};
 ghost use Prim.Native.Nat.{_+_, compare};
 ghost use Rattle.polynomial.specs.Terms.{terms};
 ghost use Rattle.merge_common.specs.Lent.{part};
@@ -30,7 +31,7 @@ pub fn merge_areas(
     to: usize,
 ) -> Placed
     requires { ⌜ Areas p (now ww) (now wc) a n b m to ⌝ }
-    ensures { λ r. ⌜ PlacedIn compare p (terms (part a n (now (ww .entry))) (part a n (now (wc .entry)))) (terms (part b m (now (ww .entry))) (part b m (now (wc .entry)))) to (to + (n + m)) (now (ww .entry)) (now (wc .entry)) (now (ww .exit)) (now (wc .exit)) r ⌝ }
+    ensures { λ r. ⌜ PlacedIn compare p (terms (part a n (now (ww .entry))) (part a n (now (wc .entry)))) (terms (part b m (now (ww .entry))) (part b m (now (wc .entry)))) to (to + (n + m)) (now (ww .entry)) (now (wc .entry)) (now (ww .exit)) (now (wc .exit)) r × (r .head + r .len ≡ to + (n + m)) ⌝ }
 {
     let end = to + (n + m);
     let all = Ends {

@@ -199,7 +199,7 @@ pub extern "C" fn probe_merge_areas(
     to: usize,
 ) -> Places
     requires { ⌜ Areas p (now ww) (now wc) a n b m to ⌝ }
-    ensures { λ r. ⌜ PlacedIn compare p (terms (part a n (now (ww .entry))) (part a n (now (wc .entry)))) (terms (part b m (now (ww .entry))) (part b m (now (wc .entry)))) to (to + (n + m)) (now (ww .entry)) (now (wc .entry)) (now (ww .exit)) (now (wc .exit)) (placed r) ⌝ }
+    ensures { λ r. ⌜ PlacedIn compare p (terms (part a n (now (ww .entry))) (part a n (now (wc .entry)))) (terms (part b m (now (ww .entry))) (part b m (now (wc .entry)))) to (to + (n + m)) (now (ww .entry)) (now (wc .entry)) (now (ww .exit)) (now (wc .exit)) (placed r) × (placed r .head + placed r .len ≡ to + (n + m)) ⌝ }
 {
     let made = merge_areas(p, ww, wc, a, n, b, m, to);
     Places {

@@ -7,6 +7,9 @@ ghost use Prim.Native.Nat.{_<_};
 ghost use lib.ListN.{length};
 ghost use Rattle.space.specs.Space.{Laid, headAt, heldIn, lenAt, sideAt, moved, turned, noBuckets};
 
+// Where bucket 5 starts in the bucket space.
+pub const LAST_START: usize = 1364;
+
 // Six empty buckets: each of buckets 0 to 4 in its first area, and bucket 5 at the end of its place.
 const EMPTY: [usize; 18] = [
     0,

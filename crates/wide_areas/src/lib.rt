@@ -32,7 +32,7 @@ pub fn merge_areas_two(
     to: usize,
 ) -> Placed
     requires { ⌜ Areas p (keyPairs (now ww)) (now wc) a n b m to × (length (now ww) ≡ 2 * length (now wc)) ⌝ }
-    ensures { λ r. ⌜ PlacedIn compare p (terms (part a n (keyPairs (now (ww .entry)))) (part a n (now (wc .entry)))) (terms (part b m (keyPairs (now (ww .entry)))) (part b m (now (wc .entry)))) to (to + (n + m)) (keyPairs (now (ww .entry))) (now (wc .entry)) (keyPairs (now (ww .exit))) (now (wc .exit)) r ⌝ }
+    ensures { λ r. ⌜ PlacedIn compare p (terms (part a n (keyPairs (now (ww .entry)))) (part a n (now (wc .entry)))) (terms (part b m (keyPairs (now (ww .entry)))) (part b m (now (wc .entry)))) to (to + (n + m)) (keyPairs (now (ww .entry))) (now (wc .entry)) (keyPairs (now (ww .exit))) (now (wc .exit)) r × (r .head + r .len ≡ to + (n + m)) ⌝ }
 {
     let end = to + (n + m);
     let all = Ends {

@@ -7,6 +7,7 @@ use limits::WORK_PLACES;
 use merge_common::copy::put_coefs;
 use monomial::order::Order;
 use space::settle::clear_coefs;
+use space::state::LAST_START;
 use space::state::head_of;
 use space::state::len_of;
 use wide_copy::keys::put_words_two;
@@ -20,9 +21,6 @@ ghost use Rattle.space.specs.Space.{Laid, settled, spaces, AtReturn};
 ghost use Rattle.wide_monomial.specs.WideKeys.{fromWideKey};
 ghost use Rattle.place.specs.Numbers.{wordPairs, keyPairs};
 ghost use Rattle.wide_space.specs.Rows.{lastStart, firstRows, lastRow, wideWordsIn};
-
-// Where the last bucket starts.
-const LAST_START: usize = 1364;
 
 // Leaves the spaces as document 01 has them at return: each bucket's terms, their keys made words
 // again, from its start on and 0 past them, the work space all 0.

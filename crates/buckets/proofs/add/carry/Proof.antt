@@ -41,7 +41,7 @@ turn-requires : tie.Need-turn-requires Inv-loop μ-loop
 turn-requires c κs = (c .before .before .before .before .before .before .before .before .before .before .before .before .before .before .before .before .before .loop .inv .laid .eighteen, c .before .before .before .before .before .before .before .before .before .before .before .before .before .before .before .if1 .taken)
 
 add-result : tie.Need-add-result Inv-loop μ-loop
-add-result c = let k = c .before .before .before .before .before .before .before .before .before .before .before .before .before .before .before .before .before .before .before .if1 .taken in omega (arith, short-count (c .before .before .before .before .before .before .before .before .before .before .before .before .before .before .before .before .before .before .before .before .before .loop .inv) (c .before .before .before .before .before .before .before .before .before .before .before .before .before .before .before .before .before .before .before .if1 .taken) (c .before .before .before .before .before .before .before .before .before .before .before .before .before .merge-up .ensures) (c .before .before .before .before .before .before .before .before .before .before .before .before .before .merge-up .kept .1 .1 .1 .1 .1 .0) (c .before .before .before .before .before .before .before .before .before .before .before .before .before .merge-up .kept .1 .1 .1 .1 .1 .1 .0), k)
+add-result c = let k = c .before .before .before .before .before .before .before .before .before .before .before .before .before .before .before .before .before .before .before .if1 .taken in omega (arith, short-count (c .before .before .before .before .before .before .before .before .before .before .before .before .before .before .before .before .before .before .before .before .before .loop .inv) (c .before .before .before .before .before .before .before .before .before .before .before .before .before .before .before .before .before .before .before .if1 .taken) (c .before .before .before .before .before .before .before .before .before .before .before .before .before .merge-up .ensures .0) (c .before .before .before .before .before .before .before .before .before .before .before .before .before .merge-up .kept .1 .1 .1 .1 .1 .0) (c .before .before .before .before .before .before .before .before .before .before .before .before .before .merge-up .kept .1 .1 .1 .1 .1 .1 .0), k)
 
 same-length : tie.Need-same-length Inv-loop μ-loop
 same-length c = c .before .before .before .turn .kept .0 ∙ (c .before .before .before .before .before .before .before .before .before .before .before .before .before .before .before .before .before .before .before .before .before .loop .inv .laid .eighteen ∙ sym (c .before .before .before .before .before .before .before .before .before .before .before .before .before .before .before .before .before .before .before .before .before .before .before .before .before .before .before .pre .stands .laid .eighteen))
@@ -55,7 +55,7 @@ same-length-3 c = c .before .before .before .before .before .before .before .bef
 returns : tie.Need-returns Inv-loop μ-loop
 returns c =
     let q = c .before .before .before .before .before .before .before .before .before .before .before .before .before .before .before .before .before .before .before .before .before .loop .l in
-    let s = stays (c .before .before .before .before .before .before .before .before .before .before .before .before .before .before .before .before .before .before .before .before .before .loop .inv) (c .before .before .before .before .before .before .before .before .before .before .before .before .before .before .before .before .before .before .before .if1 .taken) (c .before .before .before .before .before .before .before .before .before .before .before .before .before .merge-up .ensures) (c .before .before .before .before .before .before .before .before .before .before .before .before .before .merge-up .kept .1 .1 .1 .1 .1 .0) (c .before .before .before .before .before .before .before .before .before .before .before .before .before .merge-up .kept .1 .1 .1 .1 .1 .1 .0) (c .before .before .before .before .before .before .if2 .taken) (c .before .before .before .before .other-area .ensures ∙ ap (λ (x : ℕ). q .zone + (q .zone + 2 * q .cap - x)) (c .before .before .before .before .before .before .before .before .before .before .before .before .before .before .before .before .before .side-of .ensures)) (c .before .before .before .turn .ensures) in
+    let s = stays (c .before .before .before .before .before .before .before .before .before .before .before .before .before .before .before .before .before .before .before .before .before .loop .inv) (c .before .before .before .before .before .before .before .before .before .before .before .before .before .before .before .before .before .before .before .if1 .taken) (c .before .before .before .before .before .before .before .before .before .before .before .before .before .merge-up .ensures .0) (c .before .before .before .before .before .before .before .before .before .before .before .before .before .merge-up .kept .1 .1 .1 .1 .1 .0) (c .before .before .before .before .before .before .before .before .before .before .before .before .before .merge-up .kept .1 .1 .1 .1 .1 .1 .0) (c .before .before .before .before .before .before .if2 .taken) (c .before .before .before .before .other-area .ensures ∙ ap (λ (x : ℕ). q .zone + (q .zone + 2 * q .cap - x)) (c .before .before .before .before .before .before .before .before .before .before .before .before .before .before .before .before .before .side-of .ensures)) (c .before .before .before .turn .ensures) in
     record { lists-are = s .0; count-is = s .1; few = s .2; stands = s .3 }
 
 head-of-requires : tie.Need-head-of-requires Inv-loop μ-loop
@@ -65,7 +65,7 @@ place-requires : tie.Need-place-requires Inv-loop μ-loop
 place-requires c κs = (c .before .before .before .before .before .before .before .before .before .before .before .before .before .before .before .before .before .before .loop .inv .laid .eighteen, c .before .before .before .before .before .before .before .before .before .before .before .before .before .before .before .before .before .before .loop .inv .within)
 
 add-n : tie.Need-add-n Inv-loop μ-loop
-add-n c = let k = c .before .before .before .before .before .before .before .before .before .before .before .before .before .before .before .before .before .before .before .before .if1 .taken in omega (arith, short-count (c .before .before .before .before .before .before .before .before .before .before .before .before .before .before .before .before .before .before .before .before .before .before .loop .inv) (c .before .before .before .before .before .before .before .before .before .before .before .before .before .before .before .before .before .before .before .before .if1 .taken) (c .before .before .before .before .before .before .before .before .before .before .before .before .before .before .merge-up .ensures) (c .before .before .before .before .before .before .before .before .before .before .before .before .before .before .merge-up .kept .1 .1 .1 .1 .1 .0) (c .before .before .before .before .before .before .before .before .before .before .before .before .before .before .merge-up .kept .1 .1 .1 .1 .1 .1 .0), k)
+add-n c = let k = c .before .before .before .before .before .before .before .before .before .before .before .before .before .before .before .before .before .before .before .before .if1 .taken in omega (arith, short-count (c .before .before .before .before .before .before .before .before .before .before .before .before .before .before .before .before .before .before .before .before .before .before .loop .inv) (c .before .before .before .before .before .before .before .before .before .before .before .before .before .before .before .before .before .before .before .before .if1 .taken) (c .before .before .before .before .before .before .before .before .before .before .before .before .before .before .merge-up .ensures .0) (c .before .before .before .before .before .before .before .before .before .before .before .before .before .before .merge-up .kept .1 .1 .1 .1 .1 .0) (c .before .before .before .before .before .before .before .before .before .before .before .before .before .before .merge-up .kept .1 .1 .1 .1 .1 .1 .0), k)
 
 next-requires : tie.Need-next-requires Inv-loop μ-loop
 next-requires c κs = (c .before .before .before .before .before .before .before .before .before .before .before .before .before .before .before .before .before .before .before .before .before .before .loop .inv .level-is, c .before .before .before .before .before .before .before .before .before .before .before .before .before .before .before .before .before .before .before .before .before .before .loop .inv .within)
@@ -74,7 +74,7 @@ loop-less : tie.Need-loop-less Inv-loop μ-loop
 loop-less c = omega (arith, c .before .before .before .before .before .before .before .before .before .before .before .before .before .before .before .before .before .before .before .before .before .before .before .loop .inv .within, ap (λ (k : Level). k .bucket) (c .next .ensures))
 
 loop-again : tie.Need-loop-again Inv-loop μ-loop
-loop-again c = goes (c .before .before .before .before .before .before .before .before .before .before .before .before .before .before .before .before .before .before .before .before .before .before .before .loop .inv) (c .before .before .before .before .before .before .before .before .before .before .before .before .before .before .before .before .before .before .before .before .before .if1 .taken) (c .before .before .before .before .before .before .before .before .before .before .before .before .before .before .before .merge-up .ensures) (c .before .before .before .before .before .before .before .before .before .before .before .before .before .before .before .merge-up .kept .1 .1 .1 .1 .1 .0) (c .before .before .before .before .before .before .before .before .before .before .before .before .before .before .before .merge-up .kept .1 .1 .1 .1 .1 .1 .0) (omega (arith, c .before .before .before .before .before .before .before .before .if2 .left)) (c .before .before .before .before .before .before .head-of .ensures) (c .before .before .before .before .place .ensures) (c .next .ensures)
+loop-again c = goes (c .before .before .before .before .before .before .before .before .before .before .before .before .before .before .before .before .before .before .before .before .before .before .before .loop .inv) (c .before .before .before .before .before .before .before .before .before .before .before .before .before .before .before .before .before .before .before .before .before .if1 .taken) (c .before .before .before .before .before .before .before .before .before .before .before .before .before .before .before .merge-up .ensures .0) (c .before .before .before .before .before .before .before .before .before .before .before .before .before .before .before .merge-up .kept .1 .1 .1 .1 .1 .0) (c .before .before .before .before .before .before .before .before .before .before .before .before .before .before .before .merge-up .kept .1 .1 .1 .1 .1 .1 .0) (omega (arith, c .before .before .before .before .before .before .before .before .if2 .left)) (c .before .before .before .before .before .before .head-of .ensures) (c .before .before .before .before .place .ensures) (c .next .ensures)
 
 add-end : tie.Need-add-end Inv-loop μ-loop
 add-end c = omega (arith, c .before .before .loop .inv .in-places)

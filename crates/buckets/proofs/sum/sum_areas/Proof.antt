@@ -47,7 +47,7 @@ merge-areas-requires : tie.Need-merge-areas-requires Inv-loop μ-loop
 merge-areas-requires c κs = sum-asks (c .before .before .before .before .before .before .before .before .before .before .before .before .pre) (c .before .before .before .before .before .before .before .before .loop .inv) (c .before .before .before .before .before .before .before .loop-test .taken) (c .before .before .before .if2 .left) (c .before .before .before .before .before .before .head-of .ensures) (c .before .before .before .before .before .len-of .ensures) (c .side-of .ensures) (c .before .before .before .before .if1 .left)
 
 add-n : tie.Need-add-n Inv-loop μ-loop
-add-n c = let m = c .before .before .before .before .before in let t = m .before in omega (arith, sum-count (t .before .before .before .before .before .before .before .before .before .before .before .before .pre) (t .before .before .before .before .before .before .before .before .loop .inv) (t .before .before .before .before .before .before .before .loop-test .taken) (t .before .before .before .if2 .left) (t .before .before .before .before .before .before .head-of .ensures) (t .before .before .before .before .before .len-of .ensures) (t .side-of .ensures) (m .merge-areas .ensures), t .before .before .before .before .before .before .before .loop-test .taken)
+add-n c = let m = c .before .before .before .before .before in let t = m .before in omega (arith, sum-count (t .before .before .before .before .before .before .before .before .before .before .before .before .pre) (t .before .before .before .before .before .before .before .before .loop .inv) (t .before .before .before .before .before .before .before .loop-test .taken) (t .before .before .before .if2 .left) (t .before .before .before .before .before .before .head-of .ensures) (t .before .before .before .before .before .len-of .ensures) (t .side-of .ensures) (m .merge-areas .ensures .0), t .before .before .before .before .before .before .before .loop-test .taken)
 
 add-i-3 : tie.Need-add-i-3 Inv-loop μ-loop
 add-i-3 c = search needs
@@ -56,7 +56,7 @@ loop-less-3 : tie.Need-loop-less-3 Inv-loop μ-loop
 loop-less-3 c = search needs
 
 loop-again-3 : tie.Need-loop-again-3 Inv-loop μ-loop
-loop-again-3 c = let m = c .before .before .before .before .before in let t = m .before in sum-next (t .before .before .before .before .before .before .before .before .before .before .before .before .pre) (t .before .before .before .before .before .before .before .before .loop .inv) (t .before .before .before .before .before .before .before .loop-test .taken) (t .before .before .before .if2 .left) (t .before .before .before .before .before .before .head-of .ensures) (t .before .before .before .before .before .len-of .ensures) (t .side-of .ensures) (m .merge-areas .ensures) (m .merge-areas .kept .1 .0) (m .merge-areas .kept .1 .1 .0)
+loop-again-3 c = let m = c .before .before .before .before .before in let t = m .before in sum-next (t .before .before .before .before .before .before .before .before .before .before .before .before .pre) (t .before .before .before .before .before .before .before .before .loop .inv) (t .before .before .before .before .before .before .before .loop-test .taken) (t .before .before .before .if2 .left) (t .before .before .before .before .before .before .head-of .ensures) (t .before .before .before .before .before .len-of .ensures) (t .side-of .ensures) (m .merge-areas .ensures .0) (m .merge-areas .kept .1 .0) (m .merge-areas .kept .1 .1 .0)
 
 same-length : tie.Need-same-length Inv-loop μ-loop
 same-length c = c .before .loop .inv .work-words ∙ sym (c .before .before .before .before .before .pre .work-words)

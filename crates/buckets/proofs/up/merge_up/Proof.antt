@@ -27,7 +27,7 @@ same-length-2 : tie.Need-same-length-2
 same-length-2 c = search needs
 
 returns : tie.Need-returns
-returns c = let m = c .before .before .before .before .move-terms .ensures in moved-up (c .before .before .before .before .before .before .before .before .before .before .before .before .before .pre) (sym (c .before .before .before .before .before .before .before .before .before .len-of .ensures) ∙ c .before .before .before .before .before .before .before .if1 .taken) (c .before .before .before .before .before .before .before .before .side-of .ensures) (m .0) (m .1)
+returns c = let m = c .before .before .before .before .move-terms .ensures in (moved-up (c .before .before .before .before .before .before .before .before .before .before .before .before .before .pre) (sym (c .before .before .before .before .before .before .before .before .before .len-of .ensures) ∙ c .before .before .before .before .before .before .before .if1 .taken) (c .before .before .before .before .before .before .before .before .side-of .ensures) (m .0) (m .1), omega (arith, c .before .before .before .before .before .before .before .before .side-of .ensures, sym (c .before .before .before .before .before .before .before .before .before .len-of .ensures) ∙ c .before .before .before .before .before .before .before .if1 .taken))
 
 head-of-requires : tie.Need-head-of-requires
 head-of-requires c κs = let a = c .before .before .before .before .before .before .before .before .pre in (a .laid .eighteen, omega (arith, a .within))
@@ -42,7 +42,7 @@ same-length-4 : tie.Need-same-length-4
 same-length-4 c = search needs
 
 returns-2 : tie.Need-returns-2
-returns-2 c = merged (c .before .before .before .before .before .before .before .before .before .before .before .before .before .before .pre) (c .before .before .before .before .before .head-of .ensures) (c .before .before .before .before .before .before .before .before .before .before .len-of .ensures) (c .before .before .before .before .before .before .before .before .before .side-of .ensures) (c .before .before .before .before .merge-areas .ensures)
+returns-2 c = (merged (c .before .before .before .before .before .before .before .before .before .before .before .before .before .before .pre) (c .before .before .before .before .before .head-of .ensures) (c .before .before .before .before .before .before .before .before .before .before .len-of .ensures) (c .before .before .before .before .before .before .before .before .before .side-of .ensures) (c .before .before .before .before .merge-areas .ensures .0), omega (arith, c .before .before .before .before .merge-areas .ensures .1, c .before .before .before .before .before .before .before .before .before .side-of .ensures, c .before .before .before .before .before .before .before .before .before .before .len-of .ensures))
 
 pub merge-up-spec : {M : Type 1} → statement M
 merge-up-spec =
