@@ -1,90 +1,87 @@
 // What is written to standard output.
 ghost use Rattle.std.specs.Prelude.{◌≡◌, ◌<◌, length};
 
-pub fn put(text: &[u8]) {
-    io::write_all(1, text);
+use std::io;
+
+pub fn put(rt: &impl Print, text: &[u8]) -> io::Result<()> {
+    rt.write_all(text)
 }
 
 // A name and a number.
-pub fn number(name: &[u8], n: u64) {
-    put(name);
-    io::print_decimal(1, n);
-    put(b"\n");
+pub fn number(rt: &impl Print, name: &[u8], n: u64) -> io::Result<()> {
+    put(rt, name)?;
+    println!(rt; "{n}")
 }
 
 // The weights of x1 to x6, by their number in a header, where they are not all 1.
-pub fn weights(number: u64) {
+pub fn weights(rt: &impl Print, number: u64) -> io::Result<()> {
     if number == 0 {
-        return;
+        return Ok(());
     }
-    put(b"weights");
+    put(rt, b"weights")?;
     let mut left = number;
     let mut i: usize = 0;
     while i < 6 {
-        put(b" ");
-        io::print_decimal(1, left % 16 + 1);
+        let weight = left % 16 + 1;
+        print!(rt; " {weight}")?;
         left /= 16;
         i += 1;
     }
-    put(b"\n");
+    put(rt, b"\n")
 }
 
 // A block: its header, its first five places and its check, byte by byte.
-pub fn block(bytes: &[u8])
+pub fn block(rt: &impl Print, bytes: &[u8]) -> io::Result<()>
     requires { 512 ≡ length bytes.now }
 {
-    put(b"header");
-    row(&bytes[0..16]);
+    put(rt, b"header")?;
+    row(rt, &bytes[0..16])?;
     for i in 0..5 {
-        place(bytes, i);
+        place(rt, bytes, i)?;
     }
-    put(b"check ");
-    row(&bytes[508..512]);
+    put(rt, b"check ")?;
+    row(rt, &bytes[508..512])
 }
 
 // Place i of a block.
-fn place(bytes: &[u8], i: usize)
+fn place(rt: &impl Print, bytes: &[u8], i: usize) -> io::Result<()>
     requires { (512 ≡ length bytes.now) × (i < 41) }
 {
     let from = 16 + 12 * i;
     let to = from + 12;
-    put(b"place ");
-    row(&bytes[from..to]);
+    put(rt, b"place ")?;
+    row(rt, &bytes[from..to])
 }
 
 // Bytes in two hexadecimal digits each.
-fn row(bytes: &[u8]) {
+fn row(rt: &impl Print, bytes: &[u8]) -> io::Result<()> {
     let mut i = 0;
     while i < bytes.len() {
-        byte(bytes[i]);
+        byte(rt, bytes[i])?;
         i += 1;
     }
-    put(b"\n");
+    put(rt, b"\n")
 }
 
-fn byte(b: u8) {
-    put(b" ");
-    io::print_hex(1, b as u64, 2);
+fn byte(rt: &impl Print, b: u8) -> io::Result<()> {
+    print!(rt; " {b:02x}")
 }
 
 // The first terms, a coefficient and a word to a line.
-pub fn terms(words: &[u64], coefs: &[u32], len: u64) {
+pub fn terms(rt: &impl Print, words: &[u64], coefs: &[u32], len: u64) -> io::Result<()> {
     let mut i: usize = 0;
     while i < words.len() {
         if i as u64 >= len {
-            return;
+            return Ok(());
         }
         if i < coefs.len() {
-            term(words[i], coefs[i]);
+            term(rt, words[i], coefs[i])?;
         }
         i += 1;
     }
+    Ok(())
 }
 
-fn term(word: u64, coef: u32) {
-    put(b"term ");
-    io::print_decimal(1, coef as u64);
-    put(b" ");
-    io::print_hex(1, word, 16);
-    put(b"\n");
+fn term(rt: &impl Print, word: u64, coef: u32) -> io::Result<()> {
+    println!(rt; "term {coef} {word:016x}")
 }

@@ -1,27 +1,55 @@
-// The file that the blocks go to.
-ghost use Rattle.io.specs.Counts.{IsPrefixLen};
+// The file that the blocks go to. Where it cannot be opened, that is said on standard error; a read or a
+// write that fails is an error.
+ghost use Rattle.std.specs.Io.{ReadsAtMost};
+
+use std::io::{Error, Read, Write};
+use std::rt::Files;
+use std::{fs, io};
+
+const NAME: &str = "polynomial";
 
 // Writes the bytes to the file.
-pub fn save(bytes: &[u8]) {
-    let file = os::open_overwrite(b"polynomial");
-    if file < 0 {
-        os::fail(b"polynomial");
-        return;
+pub fn save(rt: &(impl Files + Eprint + AllocGlobal), bytes: &[u8]) -> io::Result<()> {
+    match fs::create(rt, NAME) {
+        Ok(mut file) => file.write_all(bytes),
+        Err(error) => fail(rt, error),
     }
-    io::write_all(file, bytes);
-    libc::close(file);
 }
 
-// Reads the file, and answers how many bytes it has, or as many as there is room for.
-pub fn load(bytes: &mut [u8]) -> usize
-    ensures { IsPrefixLen result bytes.new }
+// Reads the file, and answers how many bytes it has, or as many as there is room for. Where it cannot be
+// opened it is read as empty. After an error no clause says what bytes hold.
+pub fn load(rt: &(impl Files + Eprint + AllocGlobal), bytes: &mut [u8]) -> io::Result<usize>
+    ensures { ReadsAtMost result bytes.new }
 {
-    let file = os::open_read(b"polynomial");
-    if file < 0 {
-        os::fail(b"polynomial");
-        return 0;
+    match fs::open(rt, NAME) {
+        Ok(mut file) => read_full(&mut file, bytes),
+        Err(error) => {
+            fail(rt, error)?;
+            Ok(0)
+        }
     }
-    let len = io::read_full(file, bytes);
-    libc::close(file);
-    len
+}
+
+// Reads until bytes is full or the file ends, and answers how many bytes it put at the start of bytes.
+fn read_full(file: &mut impl Read, bytes: &mut [u8]) -> io::Result<usize>
+    ensures { ReadsAtMost result bytes.new }
+{
+    let mut done = 0;
+    while done < bytes.len() {
+        let more = file.read(&mut bytes[done..])?;
+        if more == 0 {
+            return Ok(done);
+        }
+        done += more;
+    }
+    Ok(done)
+}
+
+// Says on standard error why the file cannot be opened, in the system's words without their number.
+fn fail(rt: &(impl Eprint + AllocGlobal), error: Error) -> io::Result<()> {
+    let text = format!(in rt.alloc(); "{error}")?;
+    if let Some((words, _)) = text.as_str().split_once(" (os error ") {
+        return eprintln!(rt; "{NAME}: {words}");
+    }
+    eprintln!(rt; "{NAME}: {text}")
 }

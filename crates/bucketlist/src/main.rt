@@ -1,53 +1,69 @@
 // Reads a script from standard input and writes its listing. A read or a write that fails is said on
 // standard error, and is not taken for a script or a listing.
-ghost use Rattle.std.specs.Prelude.{◌≡◌, length};
-ghost use Rattle.libc.specs.Io.{Moved};
+#![tactic(auto)]
+
+ghost use Rattle.std.specs.Io.KnownBytes.{Consumes, IsAtEnd};
+ghost use Rattle.std.specs.Prelude.{◌≡◌, ◌<◌, ◌≤◌, IfOk, length, take};
 
 use limits::LISTING_BYTES;
 use listing::entry::{Listed, listing};
+use std::io;
+use std::io::{Error, Read};
 
 // One byte more than the longest script: a longer input is not of the form, and is not cut.
-fn main() {
+fn main(rt: HostRuntime) -> io::Result<()> {
     let mut script = [0u8; 16385];
-    let got = read_input(&mut script);
-    if got < 0 {
-        os::fail(b"standard input");
-        return;
-    }
-    let bytes = io::count(got, &script);
+    let bytes = match read_input(&mut rt.stdin(), &mut script) {
+        Ok(bytes) => bytes,
+        Err(error) => return fail(&rt, "standard input", error),
+    };
     let mut out = [0u8; LISTING_BYTES];
     let listed = listing(&script[..bytes], &mut out);
     let Listed::Written(length) = listed else {
-        return;
+        return Ok(());
     };
-    write_listing(&out, length);
+    write_listing(&rt, &out, length)
 }
 
 // Reads until the input ends or there is no more room, and answers how many bytes it put at the start of
-// bytes, or -1 where a read failed. (`io::read_full` answers alike to an input that ends and to one that fails.)
-fn read_input(bytes: &mut [u8]) -> isize
+// bytes: those that the input had next, and all of them where there is room left. A read that fails is an
+// error, after which no clause says what bytes hold.
+fn read_input<R: Read>(input: &mut R, bytes: &mut [u8]) -> io::Result<usize>
     requires { 16385 ≡ length bytes.old }
-    ensures { Moved 16385 result }
+    ensures bound { IfOk result (λ n. n ≤ 16385) }
+    ensures bytes { IfOk result (λ n.
+        Consumes (R.remaining input.old) (R.remaining input.new) (take n bytes.new)) }
+    ensures end { IfOk result (λ n. n < 16385 → IsAtEnd (R.remaining input.new)) }
 {
     let mut done: usize = 0;
     while done < bytes.len() {
-        let got = libc::read(libc::STDIN_FILENO, &mut bytes[done..]);
-        if got < 0 {
-            return -1;
-        }
-        let more = io::count(got, &bytes[done..]);
+        let more = input.read(&mut bytes[done..])?;
         if more == 0 {
-            return done as isize;
+            return Ok(done);
         }
         done += more;
     }
-    done as isize
+    Ok(done)
 }
 
-fn write_listing(out: &[u8], length: usize) {
+fn write_listing(
+    rt: &(impl Print + Eprint + AllocGlobal),
+    out: &[u8],
+    length: usize,
+) -> io::Result<()> {
     if length <= out.len() {
-        if !io::write_all(libc::STDOUT_FILENO, &out[..length]) {
-            os::fail(b"standard output");
+        if let Err(error) = rt.write_all(&out[..length]) {
+            return fail(rt, "standard output", error);
         }
     }
+    Ok(())
+}
+
+// Says on standard error what failed and why, in the system's words without their number.
+fn fail(rt: &(impl Eprint + AllocGlobal), what: &str, error: Error) -> io::Result<()> {
+    let text = format!(in rt.alloc(); "{error}")?;
+    if let Some((words, _)) = text.as_str().split_once(" (os error ") {
+        return eprintln!(rt; "{what}: {words}");
+    }
+    eprintln!(rt; "{what}: {text}")
 }

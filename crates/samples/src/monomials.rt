@@ -4,6 +4,7 @@ ghost use Rattle.std.specs.Prelude.{◌≡◌, ◌≤◌, length};
 use crate::{text, words};
 use monomial::exponents::word_of;
 use monomial::order::{Comparison, Order, order_of};
+use std::io;
 
 // The largest exponent.
 const M: u8 = 127;
@@ -37,26 +38,27 @@ const PAIRS: [[u8; 13]; 24] = [
     [6, M, M, M, M, M, M, 0, 0, 0, 0, 0, 0],
 ];
 
-pub fn pairs() {
+pub fn pairs(rt: &impl Print) -> io::Result<()> {
     for i in 0..24 {
         let row = PAIRS[i];
-        pair(row);
+        pair(rt, row)?;
     }
+    Ok(())
 }
 
 // A row of the table, by value: so its length is known where it is lent.
-fn pair(row: [u8; 13]) {
-    in_row(&row);
+fn pair(rt: &impl Print, row: [u8; 13]) -> io::Result<()> {
+    in_row(rt, &row)
 }
 
-fn in_row(row: &[u8])
+fn in_row(rt: &impl Print, row: &[u8]) -> io::Result<()>
     requires { length row.now ≡ 13 }
 {
     let n = wide(row[0]);
     if n > 6 {
-        return;
+        return Ok(());
     }
-    in_orders(&row[1..1 + n], &row[7..7 + n]);
+    in_orders(rt, &row[1..1 + n], &row[7..7 + n])
 }
 
 fn wide(n: u8) -> usize
@@ -66,42 +68,43 @@ fn wide(n: u8) -> usize
 }
 
 // The pair in the three orders.
-fn in_orders(x: &[u8], y: &[u8])
+fn in_orders(rt: &impl Print, x: &[u8], y: &[u8]) -> io::Result<()>
     requires { (length x.now ≤ 6) × (length y.now ≤ 6) }
 {
     for number in 1..4 {
-        in_order(order_of(number), x, y);
+        in_order(rt, order_of(number), x, y)?;
     }
+    Ok(())
 }
 
-fn in_order(order: Order, x: &[u8], y: &[u8])
+fn in_order(rt: &impl Print, order: Order, x: &[u8], y: &[u8]) -> io::Result<()>
     requires { (length x.now ≤ 6) × (length y.now ≤ 6) }
 {
-    comparison(order, x, y);
-    word(order, x);
-    word(order, y);
+    comparison(rt, order, x, y)?;
+    word(rt, order, x)?;
+    word(rt, order, y)
 }
 
-fn comparison(order: Order, x: &[u8], y: &[u8])
+fn comparison(rt: &impl Print, order: Order, x: &[u8], y: &[u8]) -> io::Result<()>
     requires { (length x.now ≤ 6) × (length y.now ≤ 6) }
 {
-    text::order(order);
-    text::exponents(x);
+    text::order(rt, order)?;
+    text::exponents(rt, x)?;
     match order.compare(word_in(order, x), word_in(order, y)) {
-        Comparison::Smaller => text::put(b" < "),
-        Comparison::Same => text::put(b" = "),
-        Comparison::Larger => text::put(b" > "),
+        Comparison::Smaller => text::put(rt, b" < ")?,
+        Comparison::Same => text::put(rt, b" = ")?,
+        Comparison::Larger => text::put(rt, b" > ")?,
     }
-    text::exponents(y);
-    text::put(b"\n");
+    text::exponents(rt, y)?;
+    text::put(rt, b"\n")
 }
 
-fn word(order: Order, x: &[u8])
+fn word(rt: &impl Print, order: Order, x: &[u8]) -> io::Result<()>
     requires { length x.now ≤ 6 }
 {
-    text::order(order);
-    text::exponents(x);
-    words::reading(order, x.len(), word_in(order, x));
+    text::order(rt, order)?;
+    text::exponents(rt, x)?;
+    words::reading(rt, order, x.len(), word_in(order, x))
 }
 
 // The word of the monomial with these exponents.

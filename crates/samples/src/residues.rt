@@ -7,6 +7,7 @@ use primes::is_prime;
 use residue::arithmetic::{add, multiply, negate};
 use residue::factor::Factor;
 use residue::inverse::invert;
+use std::io;
 
 // Squares of primes, the ends of the type, and the largest modulus and its neighbours are among
 // them.
@@ -54,94 +55,96 @@ const ROWS: [[u32; 3]; 28] = [
     [2147483648, 1, 1],
 ];
 
-pub fn primes() {
+pub fn primes(rt: &impl Print) -> io::Result<()> {
     for i in 0..8 {
         let row = NUMBERS[i];
-        tested(row[0]);
-        tested(row[1]);
-        tested(row[2]);
-        tested(row[3]);
+        tested(rt, row[0])?;
+        tested(rt, row[1])?;
+        tested(rt, row[2])?;
+        tested(rt, row[3])?;
     }
+    Ok(())
 }
 
-fn tested(p: u32) {
-    text::number(p as u64);
+fn tested(rt: &impl Print, p: u32) -> io::Result<()> {
+    text::number(rt, p as u64)?;
     if is_prime(p) {
-        text::put(b" prime\n");
+        text::put(rt, b" prime\n")
     } else {
-        text::put(b" not prime\n");
+        text::put(rt, b" not prime\n")
     }
 }
 
-pub fn rows() {
+pub fn rows(rt: &impl Print) -> io::Result<()> {
     for i in 0..28 {
         let row = ROWS[i];
-        modulo(row[0], row[1], row[2]);
+        modulo(rt, row[0], row[1], row[2])?;
     }
+    Ok(())
 }
 
-fn modulo(p: u32, a: u32, b: u32) {
+fn modulo(rt: &impl Print, p: u32, a: u32, b: u32) -> io::Result<()> {
     if p < 2 {
-        return refused(p, a, b);
+        return refused(rt, p, a, b);
     }
     if p > 2147483647 {
-        return refused(p, a, b);
+        return refused(rt, p, a, b);
     }
     if a >= p {
-        return refused(p, a, b);
+        return refused(rt, p, a, b);
     }
     if b >= p {
-        return refused(p, a, b);
+        return refused(rt, p, a, b);
     }
-    sums(p, a, b);
-    products(p, a, b);
-    inverse(p, a);
+    sums(rt, p, a, b)?;
+    products(rt, p, a, b)?;
+    inverse(rt, p, a)
 }
 
-fn refused(p: u32, a: u32, b: u32) {
-    operation(p, a, b" and ", b);
-    text::put(b" refused\n");
+fn refused(rt: &impl Print, p: u32, a: u32, b: u32) -> io::Result<()> {
+    operation(rt, p, a, b" and ", b)?;
+    text::put(rt, b" refused\n")
 }
 
 // The start of a line on a and b.
-fn operation(p: u32, a: u32, sign: &[u8], b: u32) {
-    modulus(p);
-    text::number(a as u64);
-    text::put(sign);
-    text::number(b as u64);
+fn operation(rt: &impl Print, p: u32, a: u32, sign: &[u8], b: u32) -> io::Result<()> {
+    modulus(rt, p)?;
+    text::number(rt, a as u64)?;
+    text::put(rt, sign)?;
+    text::number(rt, b as u64)
 }
 
-fn modulus(p: u32) {
-    text::put(b"mod ");
-    text::number(p as u64);
-    text::put(b": ");
+fn modulus(rt: &impl Print, p: u32) -> io::Result<()> {
+    text::put(rt, b"mod ")?;
+    text::number(rt, p as u64)?;
+    text::put(rt, b": ")
 }
 
-fn result(r: u32) {
-    text::put(b" = ");
-    text::number(r as u64);
-    text::put(b"\n");
+fn result(rt: &impl Print, r: u32) -> io::Result<()> {
+    text::put(rt, b" = ")?;
+    text::number(rt, r as u64)?;
+    text::put(rt, b"\n")
 }
 
-fn sums(p: u32, a: u32, b: u32)
+fn sums(rt: &impl Print, p: u32, a: u32, b: u32) -> io::Result<()>
     requires { Modulus p × (a < p) × (b < p) }
 {
-    operation(p, a, b" + ", b);
-    result(add(a, b, p));
-    modulus(p);
-    text::put(b"-");
-    text::number(a as u64);
-    result(negate(a, p));
+    operation(rt, p, a, b" + ", b)?;
+    result(rt, add(a, b, p))?;
+    modulus(rt, p)?;
+    text::put(rt, b"-")?;
+    text::number(rt, a as u64)?;
+    result(rt, negate(a, p))
 }
 
 // The product by a division, and by the prepared factor a.
-fn products(p: u32, a: u32, b: u32)
+fn products(rt: &impl Print, p: u32, a: u32, b: u32) -> io::Result<()>
     requires { Modulus p × (a < p) × (b < p) }
 {
-    operation(p, a, b" * ", b);
-    result(multiply(a, b, p));
-    operation(p, a, b" as a factor * ", b);
-    result(factor_times(p, a, b));
+    operation(rt, p, a, b" * ", b)?;
+    result(rt, multiply(a, b, p))?;
+    operation(rt, p, a, b" as a factor * ", b)?;
+    result(rt, factor_times(p, a, b))
 }
 
 fn factor_times(p: u32, a: u32, b: u32) -> u32
@@ -150,15 +153,15 @@ fn factor_times(p: u32, a: u32, b: u32) -> u32
     Factor::new(a, p).times(b)
 }
 
-fn inverse(p: u32, a: u32)
+fn inverse(rt: &impl Print, p: u32, a: u32) -> io::Result<()>
     requires { Modulus p × (a < p) }
 {
-    operation(p, 1, b" / ", a);
+    operation(rt, p, 1, b" / ", a)?;
     let r = inverse_or_0(p, a);
     if r == 0 {
-        text::put(b" refused\n");
+        text::put(rt, b" refused\n")
     } else {
-        result(r);
+        result(rt, r)
     }
 }
 

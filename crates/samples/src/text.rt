@@ -1,40 +1,42 @@
 // What is written to standard output: fixed words, numbers, exponents, names of orders.
 use monomial::order::Order;
+use std::io;
 
-pub fn put(text: &[u8]) {
-    io::write_all(1, text);
+pub fn put(rt: &impl Print, text: &[u8]) -> io::Result<()> {
+    rt.write_all(text)
 }
 
-pub fn number(n: u64) {
-    io::print_decimal(1, n);
+pub fn number(rt: &impl Print, n: u64) -> io::Result<()> {
+    print!(rt; "{n}")
 }
 
 // A word in 16 hexadecimal digits.
-pub fn word(w: u64) {
-    io::print_hex(1, w, 16);
+pub fn word(rt: &impl Print, w: u64) -> io::Result<()> {
+    print!(rt; "{w:016x}")
 }
 
 // The exponents, parted by dots.
-pub fn exponents(exps: &[u8]) {
+pub fn exponents(rt: &impl Print, exps: &[u8]) -> io::Result<()> {
     let mut i = 0;
     while i < exps.len() {
-        dotted(i, exps[i]);
+        dotted(rt, i, exps[i])?;
         i += 1;
     }
+    Ok(())
 }
 
 // The exponent at place i, after a dot unless it is the first.
-pub fn dotted(i: usize, e: u8) {
+pub fn dotted(rt: &impl Print, i: usize, e: u8) -> io::Result<()> {
     if i > 0 {
-        put(b".");
+        put(rt, b".")?;
     }
-    number(e as u64);
+    number(rt, e as u64)
 }
 
-pub fn order(order: Order) {
+pub fn order(rt: &impl Print, order: Order) -> io::Result<()> {
     match order {
-        Order::Lex => put(b"lp "),
-        Order::DegLex => put(b"Dp "),
-        Order::DegRevLex => put(b"dp "),
+        Order::Lex => put(rt, b"lp "),
+        Order::DegLex => put(rt, b"Dp "),
+        Order::DegRevLex => put(rt, b"dp "),
     }
 }

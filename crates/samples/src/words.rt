@@ -7,6 +7,7 @@ use crate::text;
 use monomial::exponents::{exponent, weight_word};
 use monomial::layout::{beyond_bits, in_layout};
 use monomial::order::{Order, order_of};
+use std::io;
 
 // A number of variables and a word, each tried in the three orders. Past the first ones a top bit
 // is set, the degree is wrong, or a field beyond the last variable is not 0.
@@ -33,44 +34,46 @@ const WORDS: [[u64; 2]; 20] = [
     [6, 0xffff_ffff_ffff_ffff],
 ];
 
-pub fn given() {
+pub fn given(rt: &impl Print) -> io::Result<()> {
     for i in 0..20 {
         let row = WORDS[i];
-        in_orders(row[0], row[1]);
+        in_orders(rt, row[0], row[1])?;
     }
+    Ok(())
 }
 
 // The word w in n variables, in the three orders.
-fn in_orders(n: u64, w: u64) {
+fn in_orders(rt: &impl Print, n: u64, w: u64) -> io::Result<()> {
     if n > 6 {
-        return;
+        return Ok(());
     }
     for number in 1..4 {
-        one(order_of(number), n as usize, w);
+        one(rt, order_of(number), n as usize, w)?;
     }
+    Ok(())
 }
 
-fn one(order: Order, n: usize, w: u64)
+fn one(rt: &impl Print, order: Order, n: usize, w: u64) -> io::Result<()>
     requires { n ≤ 6 }
 {
-    text::order(order);
-    text::put(b"n = ");
-    text::number(n as u64);
-    reading(order, n, w);
+    text::order(rt, order)?;
+    text::put(rt, b"n = ")?;
+    text::number(rt, n as u64)?;
+    reading(rt, order, n, w)
 }
 
 // The word, its exponents, and whether it is of the layout.
-pub fn reading(order: Order, n: usize, w: u64)
+pub fn reading(rt: &impl Print, order: Order, n: usize, w: u64) -> io::Result<()>
     requires { n ≤ 6 }
 {
-    text::put(b" word ");
-    text::word(w);
-    text::put(b" exponents ");
-    back(order, n, w);
+    text::put(rt, b" word ")?;
+    text::word(rt, w)?;
+    text::put(rt, b" exponents ")?;
+    back(rt, order, n, w)?;
     if in_layout(beyond_bits(order, n as u32), unit_weights(order), w) {
-        text::put(b" of the layout\n");
+        text::put(rt, b" of the layout\n")
     } else {
-        text::put(b" not of the layout\n");
+        text::put(rt, b" not of the layout\n")
     }
 }
 
@@ -83,12 +86,13 @@ pub fn unit_weights(order: Order) -> u64
 }
 
 // The exponents of a word.
-pub fn back(order: Order, n: usize, w: u64)
+pub fn back(rt: &impl Print, order: Order, n: usize, w: u64) -> io::Result<()>
     requires { n ≤ 6 }
 {
     let mut i = 0;
     while i < n {
-        text::dotted(i, exponent(order, w, i as u32));
+        text::dotted(rt, i, exponent(order, w, i as u32))?;
         i += 1;
     }
+    Ok(())
 }
