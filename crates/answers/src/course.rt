@@ -8,7 +8,7 @@ use refusal::number_of;
 
 // The operations finished and the output places written; where there is a refusal, before it.
 #[repr(C)]
-#[derive(Drop)]
+#[derive(Clone, Copy)]
 pub struct RunAnswer {
     pub refusal: u64,
     pub finished: u64,
@@ -17,20 +17,20 @@ pub struct RunAnswer {
 
 // The leads removed and the terms of the remainder written; where there is a refusal, before it.
 #[repr(C)]
-#[derive(Drop)]
+#[derive(Clone, Copy)]
 pub struct ReductionAnswer {
     pub refusal: u64,
     pub leads: u64,
     pub terms: u64,
 }
 
-#[derive(Drop)]
+#[derive(Clone, Copy)]
 pub struct RunNumbers {
     pub answer: RunAnswer,
     pub tally: Tally,
 }
 
-#[derive(Drop)]
+#[derive(Clone, Copy)]
 pub struct ReductionNumbers {
     pub answer: ReductionAnswer,
     pub tally: Tally,

@@ -8,7 +8,7 @@ use refusal::number_of;
 
 // The bytes of the listing, 0 where there is a refusal. `finished` is always 0.
 #[repr(C)]
-#[derive(Drop)]
+#[derive(Clone, Copy)]
 pub struct ListingAnswer {
     pub refusal: u64,
     pub finished: u64,

@@ -9,7 +9,7 @@ use refusal::number_of;
 
 // The blocks written, 0 where there is a refusal. `finished` is always 0.
 #[repr(C)]
-#[derive(Drop)]
+#[derive(Clone, Copy)]
 pub struct WriteAnswer {
     pub refusal: u64,
     pub finished: u64,
@@ -19,7 +19,7 @@ pub struct WriteAnswer {
 // The setting and the terms read, all 0 where there is a refusal; the weights are one number, as a
 // block's header has them. `finished` is always 0.
 #[repr(C)]
-#[derive(Drop)]
+#[derive(Clone, Copy)]
 pub struct ReadAnswer {
     pub refusal: u64,
     pub finished: u64,

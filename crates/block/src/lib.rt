@@ -1,4 +1,6 @@
 // One block of the block store: its layout, written and looked at in a lent slice of bytes.
+#![tactic(auto)]
+
 pub mod block; // a whole block, written
 pub mod check; // its last four bytes
 pub mod filler; // runs of 0

@@ -14,7 +14,7 @@ use refusal::{Refusal, refusal_of};
 
 // The polynomial is read: its setting, with the weights as one number as a header has them, and its
 // terms in the lent words and coefficients; or the bytes are refused, with nothing changed.
-#[derive(Drop)]
+#[derive(Clone, Copy)]
 pub enum Reading {
     Done {
         p: u32,

@@ -16,7 +16,7 @@ use polynomial::setting::{Setting, setting_of};
 use refusal::{Refusal, refusal_of};
 
 // The blocks are written, so many; or the polynomial is refused, with nothing changed.
-#[derive(Drop)]
+#[derive(Clone, Copy)]
 pub enum Writing {
     Done { blocks: u64 },
     Refused { refusal: Refusal, finished: u64 },

@@ -5,8 +5,8 @@ use mathlib.Core.Logic.{inr}
 use Prim.Native.Nat.{ℕ, zero, suc, ◌+◌, ◌-◌, ◌<◌, ◌≤◌, compare}
 use native.Mathlib.Omega.{arith}
 use lib.ListN.{length}
-use Rattle.limits.specs.Limits.{most_terms, work_places}
-use Rattle.polynomial.specs.Terms.{Term, terms, Canonical}
+use Rattle.limits.specs.Limits.{most_terms}
+use Rattle.polynomial.specs.Terms.{Term, terms}
 use Rattle.polynomial.proofs.TermLists.{length-terms}
 use Rattle.merge_common.specs.Lent.{part}
 use Rattle.merge_common.proofs.Lists.{length_part}

@@ -2,29 +2,28 @@
 use mathlib.Core.Path.{◌≡◌, refl, sym, ap, ap₂, ◌∙◌, subst}
 use mathlib.Core.List.{List, [], ◌∷◌, ◌++◌, append_assoc}
 use mathlib.Core.Logic.{◌⊎◌, inl, inr, ⊎_elim}
-use Prim.Native.Nat.{ℕ, zero, suc, ◌+◌, ◌-◌, ◌*◌, ◌<◌, ◌≤◌, compare}
-use native.Mathlib.Decide.{dec_le}
+use Prim.Native.Nat.{ℕ, suc, ◌+◌, ◌-◌, ◌*◌, ◌<◌, ◌≤◌, compare}
 use native.Mathlib.Omega.{arith}
-use lib.ListN.{length, get_or}
-use Rattle.limits.specs.Limits.{bucket_places, most_terms, work_places}
+use lib.ListN.{length}
+use Rattle.limits.specs.Limits.{most_terms, work_places}
 use Rattle.residue.specs.Modular.{Modulus}
 use Rattle.monomial.proofs.OrderLaws.{numbers-order}
-use Rattle.polynomial.specs.Terms.{Term, terms, words, coefs, Canonical}
+use Rattle.polynomial.specs.Terms.{Term, terms, Canonical}
 use Rattle.polynomial.specs.Merge.{merge, merge_count}
 use Rattle.polynomial.proofs.MergeLaws.{merge-size, merge-canonical, count-size}
 use Rattle.polynomial.proofs.TermLists.{length-terms, terms-of}
-use Rattle.merge_common.specs.Lent.{Poly, part}
+use Rattle.merge_common.specs.Lent.{part}
 use Rattle.merge_common.specs.declared.merging.Placed.{Placed}
 use Rattle.merge_common.proofs.Lists.{length_part}
 use Rattle.merge_common.specs.Placing.{PlacedIn}
 use Rattle.geobucket.specs.Buckets.{held, carry, carry_compared}
-use Rattle.space.specs.Space.{Buckets, head_at, len_at, side_at, capacity, start, zone, zone_end, all_places, list_from, row_at, bucket_at, buckets_in, Laid, Stands, Slices, moved, turned}
-use Rattle.space.proofs.Starts.{next-capacity, next_start, cap-last, zone-work, end-work, zone-areas, end-in-work, five}
-use Rattle.space.proofs.Joined.{SameBut, part_left, same-wider, same_left}
-use Rattle.space.proofs.SpaceLaws.{from-same, from-none, from_last, from_at, bucket-long, bucket-none, held_cons, moved-len, moved-head-other, moved-len-other, laid-moved, bucket-else, turned-head, turned-len, laid-turned, bucket-else-turned, side-low, side-high}
+use Rattle.space.specs.Space.{Buckets, head_at, len_at, side_at, capacity, start, zone, zone_end, all_places, list_from, bucket_at, buckets_in, Laid, Stands, Slices, moved, turned}
+use Rattle.space.proofs.Starts.{next-capacity, zone-work, end-work, zone-areas, end-in-work}
+use Rattle.space.proofs.Joined.{SameBut, same-wider, same_left}
+use Rattle.space.proofs.SpaceLaws.{from-same, from_last, from_at, bucket-long, bucket-none, held_cons, moved-len, laid-moved, bucket-else, turned-head, turned-len, laid-turned, bucket-else-turned, side-low, side-high}
 use Rattle.buckets.specs.declared.level.Level.{Level}
 use Rattle.buckets.specs.Levels.{level_at}
-use Rattle.buckets.specs.Adding.{Carry, CarryDone, MergeUp, free}
+use Rattle.buckets.specs.Adding.{Carry, MergeUp, free}
 use Rattle.buckets.specs.Last.{MergeLast, LastMerged, last_at}
 use Rattle.buckets.proofs.CarryLaws.{carry-stays, count-stays, carry-goes, count-goes}
 use Rattle.buckets.proofs.PlaceLaws.{in-work, in-space, all-long, stands_of, canon-of, from-here, each-by}

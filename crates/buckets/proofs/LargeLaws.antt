@@ -1,7 +1,7 @@
 -- A polynomial whose keys are put into a place of their own, for the last bucket. Assumes nothing.
-use mathlib.Core.Path.{◌≡◌, refl, sym, ap, ap₂, ◌∙◌}
+use mathlib.Core.Path.{◌≡◌, sym, ap₂, ◌∙◌}
 use mathlib.Core.List.{List, [], ◌∷◌, map}
-use Prim.Native.Nat.{ℕ, ◌+◌, ◌-◌, ◌≤◌}
+use Prim.Native.Nat.{ℕ, ◌-◌, ◌≤◌}
 use native.Mathlib.Omega.{arith}
 use lib.ListN.{length, take, drop, length-map}
 use lib.Seq.{sets}
@@ -11,7 +11,7 @@ use Rattle.monomial.specs.Words.{key_of}
 use Rattle.polynomial.specs.Terms.{terms, Reduced}
 use Rattle.merge_common.specs.Lent.{part}
 use Rattle.space.specs.Space.{Buckets}
-use Rattle.space.proofs.SpaceLaws.{part-put, part-to}
+use Rattle.space.proofs.SpaceLaws.{part-put}
 use Rattle.buckets.specs.Last.{MergeLast, Large}
 
 -- the coefficients are what is reduced

@@ -1,7 +1,7 @@
 -- A polynomial that is merged into the last bucket: the other buckets stand as they stood. Assumes nothing.
-use mathlib.Core.Path.{◌≡◌, refl, sym, ap, ap₂, ◌∙◌, subst}
-use mathlib.Core.List.{List, [], ◌∷◌, ◌++◌}
-use Prim.Native.Nat.{ℕ, suc, ◌+◌, ◌-◌, ◌<◌, ◌≤◌, compare}
+use mathlib.Core.Path.{◌≡◌, sym, ap, ap₂, ◌∙◌, subst}
+use mathlib.Core.List.{List, ◌∷◌, ◌++◌}
+use Prim.Native.Nat.{ℕ, ◌+◌, ◌-◌, ◌<◌, ◌≤◌, compare}
 use native.Mathlib.Decide.{dec_le}
 use native.Mathlib.Omega.{arith}
 use lib.ListN.{length}
@@ -13,7 +13,7 @@ use Rattle.polynomial.specs.Merge.{merge, merge_count}
 use Rattle.polynomial.proofs.MergeLaws.{merge-size, merge-canonical, count-size}
 use Rattle.merge_common.specs.Lent.{part}
 use Rattle.geobucket.specs.Buckets.{carry, carry_compared}
-use Rattle.space.specs.Space.{Buckets, head_at, len_at, capacity, list_from, bucket_at, buckets_in, Laid, Stands, Slices, moved}
+use Rattle.space.specs.Space.{Buckets, head_at, len_at, capacity, list_from, bucket_at, buckets_in, Laid, Stands, Slices}
 use Rattle.space.proofs.Starts.{cap-last}
 use Rattle.space.proofs.SpaceLaws.{from-same, from-none, from_at, bucket-long, moved-head-other, moved-len-other}
 use Rattle.buckets.specs.Last.{LastMerged, last_at}

@@ -1,16 +1,14 @@
 -- The buckets in the two slices: those of the work space, and the last one in the bucket space. Assumes nothing.
-use mathlib.Core.Path.{◌≡◌, refl, sym, ap, ap₂, ◌∙◌, subst}
-use mathlib.Core.List.{List, [], ◌∷◌, ◌++◌}
-use Prim.Native.Nat.{ℕ, suc, ◌+◌, ◌-◌, ◌*◌, ◌<◌, ◌≤◌, compare}
+use mathlib.Core.Path.{◌≡◌, ap, ap₂, ◌∙◌, subst}
+use mathlib.Core.List.{List, ◌∷◌, ◌++◌}
+use Prim.Native.Nat.{ℕ, suc, ◌-◌, ◌<◌, ◌≤◌, compare}
 use native.Mathlib.Decide.{dec_le}
 use native.Mathlib.Omega.{arith}
 use lib.ListN.{length}
-use Rattle.limits.specs.Limits.{bucket_places, work_places}
 use Rattle.residue.specs.Modular.{Modulus}
-use Rattle.polynomial.specs.Terms.{Term, terms, Canonical}
-use Rattle.merge_common.specs.Lent.{part}
-use Rattle.geobucket.specs.Buckets.{held, Good}
-use Rattle.space.specs.Space.{Buckets, head_at, len_at, capacity, all_places, list_from, row_at, bucket_at, buckets_in, Laid, Stands, Slices}
+use Rattle.polynomial.specs.Terms.{terms, Canonical}
+use Rattle.geobucket.specs.Buckets.{Good}
+use Rattle.space.specs.Space.{Buckets, all_places, list_from, bucket_at, buckets_in, Laid, Stands, Slices}
 use Rattle.space.proofs.Starts.{cap-zero}
 use Rattle.space.proofs.Joined.{joined-long}
 use Rattle.space.proofs.SpaceLaws.{row-work, row-space, good-at, canon-from, good-from, bucket-short, from_next}

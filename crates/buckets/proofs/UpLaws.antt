@@ -1,13 +1,13 @@
 -- A merge of a polynomial in the work space with one of buckets 0 to 4, to the bucket's free area. Assumes nothing.
-use mathlib.Core.Path.{◌≡◌, refl, sym, ap, ap₂, ◌∙◌, subst}
+use mathlib.Core.Path.{◌≡◌, sym, ap, ap₂, ◌∙◌}
 use mathlib.Core.List.{List, []}
-use mathlib.Core.Logic.{◌⊎◌, inl, inr, ⊎_elim}
-use Prim.Native.Nat.{ℕ, suc, ◌+◌, ◌-◌, ◌*◌, ◌<◌, ◌≤◌, compare}
+use mathlib.Core.Logic.{inl, inr, ⊎_elim}
+use Prim.Native.Nat.{ℕ, suc, ◌+◌, ◌*◌, ◌<◌, ◌≤◌, compare}
 use native.Mathlib.Omega.{arith}
 use lib.ListN.{length, get_or}
 use lib.Seq.{sets}
 use Rattle.limits.specs.Limits.{work_places}
-use Rattle.polynomial.specs.Terms.{Term, terms, words, coefs}
+use Rattle.polynomial.specs.Terms.{terms, words, coefs}
 use Rattle.polynomial.specs.Merge.{merge, merge_count}
 use Rattle.polynomial.proofs.MergeLaws.{merge-nil, count-right}
 use Rattle.polynomial.proofs.TermLists.{length-terms, words-terms, coefs-terms}
@@ -16,8 +16,8 @@ use Rattle.merge_common.specs.declared.merging.Placed.{Placed}
 use Rattle.merge_common.proofs.Lists.{length_part, get_d-sets-other}
 use Rattle.merge_common.specs.Placing.{PlacedIn}
 use Rattle.merge_areas.specs.Areas.{Areas}
-use Rattle.space.specs.Space.{Buckets, head_at, len_at, side_at, capacity, start, zone, zone_end, row_at, bucket_at}
-use Rattle.space.proofs.Starts.{five, start_up, zone-work, end-work, zone-areas, end-in-work}
+use Rattle.space.specs.Space.{Buckets, head_at, len_at, side_at, capacity, zone_end, bucket_at}
+use Rattle.space.proofs.Starts.{five, start_up, zone-work, end-work, end-in-work}
 use Rattle.space.proofs.SpaceLaws.{bucket-none, part-put, side-low, side-high}
 use Rattle.buckets.specs.declared.level.Level.{Level}
 use Rattle.buckets.specs.Adding.{MergeUp, free}

@@ -8,7 +8,7 @@ use Rattle.monomial.specs.Words.{compare_words}
 use Rattle.polynomial.specs.Terms.{Term, terms, Canonical}
 use Rattle.merge_common.specs.Lent.{part}
 use Rattle.geobucket.specs.Buckets.{held, carry, carry_compared, add, add_compared}
-use Rattle.space.specs.Space.{Buckets, len_at, capacity, start, list_from, bucket_at, buckets_in, Laid, Stands, Slices, Spaces, words_in, Standing}
+use Rattle.space.specs.Space.{Buckets, capacity, start, list_from, bucket_at, buckets_in, Laid, Stands, Slices, Spaces, words_in, Standing}
 use Rattle.buckets.specs.declared.level.Level.{Level}
 use Rattle.buckets.specs.Levels.{level_at}
 

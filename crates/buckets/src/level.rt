@@ -3,7 +3,7 @@ ghost use Rattle.std.specs.Prelude.{◌≡◌, suc, ◌<◌, ◌≤◌};
 ghost use Rattle.limits.specs.Limits.{most_terms};
 ghost use Rattle.buckets.specs.Levels.{level_at, LevelFor};
 
-#[derive(Drop)]
+#[derive(Clone, Copy)]
 pub struct Level {
     pub bucket: usize,
     pub zone: usize,

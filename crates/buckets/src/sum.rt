@@ -8,7 +8,7 @@ use merge_areas::merge_areas;
 use space::state::{clear, head_of, len_of, side_of};
 
 // Where a full sum lies in the bucket space, and the comparisons.
-#[derive(Drop)]
+#[derive(Clone, Copy)]
 pub struct Summed {
     pub from: usize,
     pub len: usize,

@@ -1,5 +1,4 @@
 -- Empty buckets stand in the lent spaces. Assumes nothing.
-use mathlib.Core.Path.{◌≡◌, ◌∙◌}
 use mathlib.Core.List.{List, ◌++◌}
 use Prim.Native.Nat.{ℕ, compare}
 use native.Mathlib.Omega.{arith}

@@ -10,7 +10,7 @@ use space::state::held;
 
 // The four counts of a call.
 #[repr(C)]
-#[derive(Drop)]
+#[derive(Clone, Copy)]
 pub struct Tally {
     pub comparisons: u64,
     pub brought: u64,
@@ -20,7 +20,7 @@ pub struct Tally {
 
 // A call is done; or it is refused, at its opening or on its way. Both give the operations (or leads)
 // finished and the output places written.
-#[derive(Drop)]
+#[derive(Clone, Copy)]
 pub enum Answer {
     Done {
         finished: u64,
@@ -33,7 +33,7 @@ pub enum Answer {
     },
 }
 
-#[derive(Drop)]
+#[derive(Clone, Copy)]
 pub struct Returned {
     pub answer: Answer,
     pub tally: Tally,

@@ -5,7 +5,7 @@ ghost use Rattle.call.specs.States.{begun, counted, brought, gave, finished_one,
 use refusal::Refusal;
 
 // Whether a call goes on.
-#[derive(Drop)]
+#[derive(Clone, Copy)]
 pub enum Course {
     Going,
     Finished,
@@ -14,7 +14,7 @@ pub enum Course {
 
 // The counts of the tally but for the terms held, the output places written, how many operations (or
 // leads) are finished, and whether the call goes on.
-#[derive(Drop)]
+#[derive(Clone, Copy)]
 pub struct State {
     pub comparisons: u64,
     pub brought: u64,

@@ -1,2 +1,4 @@
 // Runs of operations on a geobucket in lent space.
+#![tactic(auto)]
+
 pub mod run; // the operations in turn

@@ -15,7 +15,6 @@ use Rattle.text.specs.Bytes.{begins, same, index_of, parts, joined}
 use Rattle.text.specs.Numbers.{decimal, and_then, only_if, number_of}
 use Rattle.text.proofs.ByteLaws.{cons, begins-is, same-is, parts-some, joined-parts, cut}
 use Rattle.text.proofs.NumberLaws.{then_some, only-if, number_read}
-use Rattle.grammar.specs.Grammar
 use Rattle.grammar.specs.Grammar.{Entry, Line, add_line, Script, prime-word, order-word, vars-word, weights-word, add-word, lead-word, sum-word, order_name, entry_text, entries_text, line_text, lines_text, spaced_text, rest_text, script_text, Small, AllSmall, GoodEntry, GoodEntries, GoodLine, GoodLines, GoodWeights, GoodScript}
 use Rattle.grammar.specs.Reading.{numbers_of, exponents_of, entry_by, entry_of, entries_of, fields_of, add_of, line_by, line_of, lines_of, number_if, after_word, order_by, order_read, spaced_of, weights_of, script_from, rest_by, rest_of, with_header, script_of}
 

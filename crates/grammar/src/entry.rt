@@ -11,7 +11,7 @@ use text::bytes::find;
 use text::number::{Number, read_number};
 
 // A term as word and coefficient.
-#[derive(Drop)]
+#[derive(Clone, Copy)]
 pub enum Parsed {
     Term(u64, u32),
     Bad,

@@ -10,7 +10,7 @@ use text::number::{Number, read_number};
 
 // The prime, the number of the order, the number of variables, the weights as one number, and where the
 // other lines begin.
-#[derive(Drop)]
+#[derive(Clone, Copy)]
 pub struct Header {
     pub prime: u32,
     pub order: u32,
@@ -19,7 +19,7 @@ pub struct Header {
     pub from: usize,
 }
 
-#[derive(Drop)]
+#[derive(Clone, Copy)]
 pub enum Head {
     Is(Header),
     Bad,

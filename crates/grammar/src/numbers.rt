@@ -6,7 +6,7 @@ use text::bytes::find;
 use text::number::{Number, byte_of, read_number};
 
 // How many there are, or that they are not of the form.
-#[derive(Drop)]
+#[derive(Clone, Copy)]
 pub enum Counted {
     All(usize),
     Bad,

@@ -11,7 +11,7 @@ use monomial::order::Order;
 
 // The weights of six variables as one number, a byte for each, x1's the lowest; or that they are not of
 // the form.
-#[derive(Drop)]
+#[derive(Clone, Copy)]
 pub enum Weights {
     Are(u64),
     Bad,

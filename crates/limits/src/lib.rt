@@ -1,4 +1,5 @@
 // The limits that documents 01 and 02 name, each once.
+#![tactic(auto)]
 
 // "p may go up to 2,147,483,647."
 pub const LARGEST_PRIME: u32 = 2147483647;

@@ -17,7 +17,7 @@ use Rattle.geobucket.proofs.SearchLaws.{Leads, Fewer, finds}
 use Rattle.geobucket.proofs.SumLaws.{sum-size, emptied-held}
 use Rattle.geobucket.proofs.LeadLaws.{sum-right}
 use Rattle.call.specs.Lending.{polynomial}
-use Rattle.run_outcome.specs.Runs.{Operation, adds, leads, Running, begun, operate_all, added, taken, summed, place_of, operations_of}
+use Rattle.run_outcome.specs.Runs.{Operation, Running, begun, operate_all, added, taken, summed, place_of, operations_of}
 use Rattle.run_outcome.specs.Demanded.{events_of, terms_named}
 use Rattle.run_outcome.proofs.Follow.{Sound, canon, sound-along}
 use Rattle.grammar.specs.Grammar.{Line, add_line, lead_line, sum_line}

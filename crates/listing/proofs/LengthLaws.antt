@@ -19,7 +19,7 @@ use Rattle.monomial.proofs.Places.{below_true, true_below}
 use Rattle.monomial.proofs.ByteLaws.{bytes_below}
 use Rattle.monomial.proofs.LayoutLaws.{below-fields, below-take}
 use Rattle.monomial.proofs.OrderLaws.{words-order}
-use Rattle.polynomial.specs.Terms.{Term, term, terms, All}
+use Rattle.polynomial.specs.Terms.{Term, term, All}
 use Rattle.polynomial.proofs.OpeningLaws.{passes}
 use Rattle.geobucket.specs.Events.{levels, bound}
 use Rattle.geobucket.proofs.Levels.{levels-are}

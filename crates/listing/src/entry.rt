@@ -7,7 +7,7 @@ use limits::LISTING_BYTES;
 use refusal::Refusal;
 
 // The listing is written, so many bytes long; or refused, with 0 operations finished.
-#[derive(Drop)]
+#[derive(Clone, Copy)]
 pub enum Listed {
     Written(usize),
     Refused { refusal: Refusal, finished: u64 },

@@ -9,7 +9,7 @@ use crate::put::{put, put_byte};
 use monomial::order::Order;
 
 // The next output place to be read, and the next place of the listing.
-#[derive(Drop)]
+#[derive(Clone, Copy)]
 pub struct Next {
     pub place: usize,
     pub at: usize,

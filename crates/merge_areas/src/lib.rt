@@ -1,4 +1,6 @@
 // The merge of two areas of the work space to a third one, from both ends.
+#![tactic(auto)]
+
 ghost use Rattle.std.specs.Prelude.{◌≡◌};
 ghost use Prim.Native.Nat.{◌+◌, compare};
 ghost use Rattle.polynomial.specs.Terms.{terms};

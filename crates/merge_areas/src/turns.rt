@@ -6,7 +6,7 @@ use merge_common::merging::{join, join_last};
 
 // What is left of the two lists, at places i up to ie and j up to je, and the places d up to e that are
 // free for their merge, with the turns made.
-#[derive(Drop)]
+#[derive(Clone, Copy)]
 pub struct Ends {
     pub i: usize,
     pub ie: usize,

@@ -1,4 +1,6 @@
 // What the merges share, on lent slices.
+#![tactic(auto)]
+
 pub mod copy; // parts of slices, put and moved
 pub mod keys; // words put as keys, and keys as words
 pub mod merging; // what a merge makes, and the choice by flags

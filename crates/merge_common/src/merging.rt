@@ -9,7 +9,7 @@ ghost use Rattle.merge_common.specs.Joining.{joined, joined_last};
 use residue::arithmetic::add;
 
 // Where a merge lies, and the comparisons.
-#[derive(Drop)]
+#[derive(Clone, Copy)]
 pub struct Placed {
     pub head: usize,
     pub len: usize,
@@ -18,7 +18,7 @@ pub struct Placed {
 
 // What a turn makes of a term of each list: the term to store, how many of the left and of the
 // right list it is made of, and how many it is, none where like terms cancel.
-#[derive(Drop)]
+#[derive(Clone, Copy)]
 pub struct Joined {
     pub word: u64,
     pub coef: u32,

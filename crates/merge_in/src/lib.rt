@@ -1,2 +1,4 @@
 // The merge of a lent polynomial into another one in place, towards the room in front of it.
+#![tactic(auto)]
+
 pub mod in_place; // the merge in place

@@ -4,7 +4,7 @@ ghost use Rattle.monomial.specs.Exponents.{order_of};
 ghost use Rattle.monomial.specs.Words.{key_of, from_key, compare_words, answer};
 
 // The orders by their numbers in document 01: 1 = lp, 2 = Dp, 3 = dp.
-#[derive(Drop)]
+#[derive(Clone, Copy)]
 pub enum Order {
     Lex,
     DegLex,
@@ -12,7 +12,7 @@ pub enum Order {
 }
 
 // How a monomial stands to another.
-#[derive(Drop)]
+#[derive(Clone, Copy)]
 pub enum Comparison {
     Smaller,
     Same,

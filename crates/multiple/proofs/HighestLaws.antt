@@ -15,7 +15,7 @@ use Rattle.monomial.specs.Exponents.{each, one, product, quotient}
 use Rattle.monomial.specs.Layout.{bytes, of_bytes, Below, below}
 use Rattle.monomial.specs.Words.{Packed}
 use Rattle.monomial.proofs.Places.{length-each, below_true, true_below, Below-more}
-use Rattle.monomial.proofs.ByteLaws.{length-bytes, bytes_below, of_bytes_bytes, bytes_of, of_bytes-lt, bytes-add, tops, tops-clear, apart, apart-sum, apart_below}
+use Rattle.monomial.proofs.ByteLaws.{length-bytes, bytes_below, of_bytes_bytes, bytes_of, of_bytes-lt, bytes-add, tops, tops-clear, apart, apart-sum}
 use Rattle.multiple.proofs.ProductLaws.{packed-at}
 use Rattle.multiple.specs.Multiplying.{AllPacked, over_one, any_over, highest_of, highest_word, Raised}
 

@@ -1,2 +1,4 @@
 // The multiple of a polynomial by a term, on lent slices.
+#![tactic(auto)]
+
 pub mod multiple; // whether it goes over 127, by the highest exponents, and the multiple

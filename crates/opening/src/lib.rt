@@ -1,4 +1,6 @@
 // The opening checks of runs and of reductions.
+#![tactic(auto)]
+
 pub mod polynomials; // polynomial by polynomial
 pub mod reduction; // all checks of a reduction, in their order
 pub mod run; // all checks of a run, in their order

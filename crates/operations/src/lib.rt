@@ -1,4 +1,6 @@
 // The operations of a run, each with its refusal.
+#![tactic(auto)]
+
 ghost use Rattle.std.specs.Prelude.{◌<◌};
 ghost use Rattle.limits.specs.Limits.{most_operations};
 ghost use Rattle.monomial.specs.Words.{compare_words};

@@ -15,7 +15,7 @@ use Rattle.monomial.proofs.OrderLaws.{words-order}
 use Rattle.monomial.proofs.LayoutLaws.{test-layout}
 use Rattle.monomial.proofs.KeyLaws.{key-compare}
 use Rattle.monomial.proofs.Places.{and_both}
-use Rattle.polynomial.specs.Terms.{Term, term, terms, All, Reduced, Falling, Canonical}
+use Rattle.polynomial.specs.Terms.{Term, term, All, Reduced, Falling, Canonical}
 use Rattle.polynomial.specs.Opening.{first, term_by, term_refusal, terms_refusal, is_larger, fall, order_by, refusal_of}
 use Rattle.polynomial.specs.Checking.{order_next}
 use Rattle.polynomial.proofs.MergeLaws.{under_more}

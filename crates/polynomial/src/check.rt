@@ -15,7 +15,7 @@ use monomial::order::{Order, order_of};
 // What the check carries from one part of a polynomial to the next: the first 4 or 5, or 0; 6 where
 // the terms so far do not fall, or else 0; whether a term has come, since the word 0 is a monomial;
 // and the last word. After a 4 or 5 no term is looked at, and nothing changes.
-#[derive(Drop)]
+#[derive(Clone, Copy)]
 pub struct Checking {
     pub stop: u32,
     pub late: u32,

@@ -1,4 +1,6 @@
 // Polynomials as lists of terms in lent slices: their parts, and their opening checks.
+#![tactic(auto)]
+
 pub mod check;
 pub mod part;
 pub mod setting;

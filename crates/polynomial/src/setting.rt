@@ -3,7 +3,7 @@ ghost use Rattle.std.specs.Prelude.{◌≡◌, length};
 ghost use Rattle.polynomial.specs.Settings.{setting_of};
 
 // The prime, the order by its number in document 01, how many variables, and the weights of x1 to x6.
-#[derive(Drop)]
+#[derive(Clone, Copy)]
 pub struct Setting {
     pub p: u32,
     pub order: u32,

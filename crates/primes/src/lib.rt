@@ -1,4 +1,6 @@
 // The test for primes.
+#![tactic(auto)]
+
 ghost use Rattle.std.specs.Prelude.{◌≡◌};
 ghost use Rattle.residue.specs.Prime.{is_prime};
 

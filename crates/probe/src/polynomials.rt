@@ -35,7 +35,7 @@ const NOT_CHECKED: u32 = 0xffff_ffff;
 
 // Where a merge lies, and the comparisons.
 #[repr(C)]
-#[derive(Drop)]
+#[derive(Clone, Copy)]
 pub struct Places {
     pub head: usize,
     pub len: usize,
@@ -44,7 +44,7 @@ pub struct Places {
 
 // What a check carries from one part to the next.
 #[repr(C)]
-#[derive(Drop)]
+#[derive(Clone, Copy)]
 pub struct CheckNumbers {
     pub stop: u32,
     pub late: u32,

@@ -4,7 +4,6 @@ use mathlib.Core.List.{List, map, ◌++◌}
 use Prim.Native.Nat.{ℕ, ◌+◌, ◌-◌, ◌<◌, ◌≤◌, compare}
 use native.Mathlib.Omega.{arith}
 use lib.ListN.{length, take, drop, length-map}
-use lib.Seq.{sets}
 use Rattle.limits.specs.Limits.{most_terms}
 use Rattle.residue.specs.declared.factor.Factor.{Factor}
 use Rattle.monomial.specs.declared.order.Order.{Order}
@@ -15,7 +14,7 @@ use Rattle.merge_common.specs.Lent.{part}
 use Rattle.multiple.specs.Multiplying.{Multiplicands, Multiplied}
 use Rattle.multiple.proofs.ProductLaws.{multiplied}
 use Rattle.space.specs.Space.{Buckets, Slices, Spaces, spaces}
-use Rattle.space.proofs.SpaceLaws.{part-put, part-to}
+use Rattle.space.proofs.SpaceLaws.{part-put}
 use Rattle.call.specs.declared.state.State.{State}
 use Rattle.call.specs.States.{counted, brought}
 use Rattle.buckets.specs.Adding.{Added, WordAddition, Addition, AddDone, free, most_small}

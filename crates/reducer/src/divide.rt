@@ -93,7 +93,9 @@ fn add_tail(
     s.compare(r).bring(n)
 }
 
-// Merges the tail times factor·q into the last bucket, and gives the comparisons.
+// Merges the tail times factor·q into the last bucket, and gives the comparisons. Its local arrays are large, so
+// that they are to be made only where it is called.
+#[inline(never)]
 fn add_large(
     order: Order,
     p: u32,

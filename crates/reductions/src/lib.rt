@@ -1,5 +1,7 @@
 // The entry for reductions: the normal form of polynomial 0 by the others. `reduce` takes and hands back
 // the counts of its tally by value; `reduce_in_place` sets them in a record that is lent.
+#![tactic(auto)]
+
 ghost use Rattle.std.specs.Prelude.{◌≡◌};
 ghost use Rattle.polynomial.specs.Settings.{setting_of};
 ghost use Rattle.call.specs.Answers.{Outcome, stated};

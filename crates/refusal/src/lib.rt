@@ -1,9 +1,11 @@
 // The refusals by cause, each with its number in document 01 or 02. The numbers have gaps.
+#![tactic(auto)]
+
 ghost use Rattle.std.specs.Prelude.{◌≡◌, true};
 ghost use Rattle.refusal.specs.Table.{number_of, listed};
 
 // The causes, in the order of their numbers.
-#[derive(Drop)]
+#[derive(Clone, Copy)]
 pub enum Refusal {
     NotPrime,
     BadOrder,

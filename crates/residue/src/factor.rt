@@ -6,7 +6,7 @@ ghost use Rattle.residue.specs.Share.{FactorOf, Prepared};
 const WORD: u64 = 4294967296;
 
 // A factor and its modulus. `share` is value * 2^32 / prime, rounded down.
-#[derive(Drop)]
+#[derive(Clone, Copy)]
 pub struct Factor {
     pub value: u32,
     pub share: u32,

@@ -9,7 +9,6 @@ use lib.Dec.{leb, eqb}
 use lib.ListN.{length, get_or}
 use Rattle.limits.specs.Limits.{most_operations}
 use Rattle.monomial.specs.Exponents.{order_of}
-use Rattle.monomial.specs.Words.{compare_words}
 use Rattle.polynomial.proofs.OpeningLaws.{passes}
 use Rattle.monomial.proofs.Places.{and_both}
 use Rattle.polynomial.proofs.StartLaws.{good-within}

@@ -1,5 +1,7 @@
 // The entry for runs: a list of operations on an empty geobucket. `run` takes and hands back the counts
 // of its tally by value; `run_in_place` sets them in a record that is lent.
+#![tactic(auto)]
+
 ghost use Rattle.std.specs.Prelude.{◌≡◌};
 ghost use Rattle.polynomial.specs.Settings.{setting_of};
 ghost use Rattle.call.specs.Answers.{Outcome, stated};

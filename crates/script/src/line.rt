@@ -11,7 +11,7 @@ use monomial::order::Order;
 use text::bytes::{find, is_word, starts_with};
 
 // How many terms, polynomials and operations have been read.
-#[derive(Drop)]
+#[derive(Clone, Copy)]
 pub struct Counts {
     pub terms: usize,
     pub polynomials: usize,
@@ -19,7 +19,7 @@ pub struct Counts {
 }
 
 // The counts behind a line, or that it is not of the form.
-#[derive(Drop)]
+#[derive(Clone, Copy)]
 pub enum Behind {
     Line(Counts),
     Bad,

@@ -11,7 +11,7 @@ use monomial::exponents::weight_word;
 use monomial::order::order_of;
 
 // The prime, the number of the order, the number of variables, the weights as one number, and the counts.
-#[derive(Drop)]
+#[derive(Clone, Copy)]
 pub struct Loaded {
     pub prime: u32,
     pub order: u32,
@@ -20,7 +20,7 @@ pub struct Loaded {
     pub counts: Counts,
 }
 
-#[derive(Drop)]
+#[derive(Clone, Copy)]
 pub enum Found {
     Script(Loaded),
     Bad,

@@ -9,7 +9,7 @@ use residue::arithmetic::add;
 
 // The largest lead so far: its bucket (6 for none), the comparisons made, its monomial, as a key until
 // the search is done, and its coefficient with those of the like leads.
-#[derive(Drop)]
+#[derive(Clone, Copy)]
 pub struct Candidate {
     pub bucket: usize,
     pub count: u64,

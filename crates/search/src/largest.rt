@@ -12,7 +12,7 @@ use space::state::len_of;
 
 // The largest lead so far: its bucket (6 for none) and its key; how many buckets that are not empty were
 // looked at, and how many leads were like the largest one before them.
-#[derive(Drop)]
+#[derive(Clone, Copy)]
 pub struct Largest {
     pub bucket: usize,
     pub key: u64,

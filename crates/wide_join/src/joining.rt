@@ -14,7 +14,7 @@ use wide_monomial::pair::Pair;
 
 // What a turn makes of a term of each list: the two keys and the coefficient to store, how many of the
 // left and of the right list it is made of, and how many it is, none where like terms cancel.
-#[derive(Drop)]
+#[derive(Clone, Copy)]
 pub struct JoinedTwo {
     pub first: u64,
     pub second: u64,

@@ -1,0 +1,13 @@
+-- `block::number::put_3` meets its contract.
+use Rattle.std.proofs.Common.{arith, length-set}
+use Rattle.block.proofs.ByteLaws.{put_3}
+use Rattle.block.proofs.number.put_3.Goals as goal
+
+pub bounds-s-at-2 : goal.bounds-s-at-2
+bounds-s-at-2 c = simp length-set (omega arith)
+
+pub bounds-s-at-3 : goal.bounds-s-at-3
+bounds-s-at-3 c = simp length-set (omega arith)
+
+pub returns : goal.returns
+returns c = put_3 _ _ _

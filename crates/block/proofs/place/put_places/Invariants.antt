@@ -1,0 +1,11 @@
+-- `block::place::put_places` meets its contract.
+use Rattle.std.proofs.Common.{◌-◌, length}
+use Rattle.polynomial.specs.Terms.{terms}
+use Rattle.block.proofs.BlockLaws.{Placed}
+use Rattle.block.proofs.place.put_places.Given as goal
+
+abbrev pub invariant-loop-i : goal.invariant-loop-i
+invariant-loop-i l = Placed (terms l.words l.coefs) l.initial.s l.at l.s l.i
+
+abbrev pub decreases-loop-i : goal.decreases-loop-i
+decreases-loop-i l = length l.words - l.i

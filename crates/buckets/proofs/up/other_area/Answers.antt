@@ -1,0 +1,13 @@
+-- `buckets::up::other_area` meets its contract.
+use native.Mathlib.Omega.{arith}
+use Rattle.buckets.proofs.LevelLaws.{next_fits, next-cap}
+use Rattle.buckets.proofs.up.other_area.Goals as goal
+
+pub overflow_mul-result : goal.overflow_mul-result
+overflow_mul-result c = omega (arith, next-cap _ c.requires.0 (omega (arith, c.requires.1)))
+
+pub overflow_add-result : goal.overflow_add-result
+overflow_add-result c = omega (arith, next-cap _ c.requires.0 (omega (arith, c.requires.1)), next_fits _ c.requires.0 (omega (arith, c.requires.1)))
+
+pub overflow_add-result-2 : goal.overflow_add-result-2
+overflow_add-result-2 c = omega (arith, next-cap _ c.requires.0 (omega (arith, c.requires.1)), next_fits _ c.requires.0 (omega (arith, c.requires.1)))

@@ -1,0 +1,6 @@
+-- `probe::geobuckets::probe_buckets_lead` meets its contract.
+use Rattle.probe.proofs.Counts.{found-count}
+use Rattle.probe.proofs.geobuckets.probe_buckets_lead.Goals as goal
+
+pub returns : goal.returns
+returns c = rw (← c.order_of.ensures) (found-count c.find_lead-c.ensures)

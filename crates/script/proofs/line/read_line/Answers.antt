@@ -1,0 +1,41 @@
+use mathlib.Core.Path.{ap}
+use mathlib.Core.Bool.{not}
+use Rattle.grammar.proofs.Prefix.{so}
+use Rattle.script.proofs.LineLaws.{is-lead, is_sum, is_none, is-add, lead-long, sum-long, add-long, pair-room, few-pairs, add-room}
+use Rattle.merge_common.proofs.Lists.{part-from}
+use Rattle.text.proofs.NumberLaws.{yes, no}
+use native.Mathlib.Omega.{arith}
+use Rattle.script.proofs.line.read_line.Goals as goal
+
+pub put_pair-requires : goal.put_pair-requires
+put_pair-requires c = pair-room _ _ _ c.requires.pairs-fit (omega (arith, lead-long c.args.s.now (so c.is_word.ensures c.if-is_word.true)))
+
+pub plain-requires : goal.plain-requires
+plain-requires c = few-pairs _ _ _ c.requires.pairs-fit (omega (arith, lead-long c.args.s.now (so c.is_word.ensures c.if-is_word.true))) (omega arith)
+
+pub returns-then-is_word : goal.returns-then-is_word
+returns-then-is_word c = is-lead (so c.is_word.ensures c.if-is_word.true) c.put_pair.ensures c.plain.ensures
+
+pub put_pair-requires-then-is_word-2 : goal.put_pair-requires-then-is_word-2
+put_pair-requires-then-is_word-2 c = pair-room _ _ _ c.requires.pairs-fit (omega (arith, sum-long c.args.s.now (so c.is_word-2.ensures c.if-is_word-2.true)))
+
+pub plain-requires-then-is_word-2 : goal.plain-requires-then-is_word-2
+plain-requires-then-is_word-2 c = few-pairs _ _ _ c.requires.pairs-fit (omega (arith, sum-long c.args.s.now (so c.is_word-2.ensures c.if-is_word-2.true))) (omega arith)
+
+pub returns-then-is_word-2 : goal.returns-then-is_word-2
+returns-then-is_word-2 c = is_sum (so c.is_word.ensures c.if-is_word.false) (so c.is_word-2.ensures c.if-is_word-2.true) c.put_pair-then-is_word-2.ensures c.plain-then-is_word-2.ensures
+
+pub returns-then-not-starts_with : goal.returns-then-not-starts_with
+returns-then-not-starts_with c = is_none (so c.is_word.ensures c.if-is_word.false) (so c.is_word-2.ensures c.if-is_word-2.false) (no c.starts_with.ensures (ap not c.if-not-starts_with.true))
+
+pub slice_bounds-terms-count : goal.slice_bounds-terms-count
+slice_bounds-terms-count c = omega (arith, add-long c.args.s.now (yes c.starts_with.ensures (ap not c.if-not-starts_with.false)))
+
+pub slice_bounds-terms-start : goal.slice_bounds-terms-start
+slice_bounds-terms-start c = omega (arith, add-long c.args.s.now (yes c.starts_with.ensures (ap not c.if-not-starts_with.false)))
+
+pub read_add-requires : goal.read_add-requires
+read_add-requires c = add-room c.args.s.now _ (part-from c.args.s.now 3) (add-long c.args.s.now (yes c.starts_with.ensures (ap not c.if-not-starts_with.false))) c.requires
+
+pub returns : goal.returns
+returns c = is-add (so c.is_word.ensures c.if-is_word.false) (so c.is_word-2.ensures c.if-is_word-2.false) (yes c.starts_with.ensures (ap not c.if-not-starts_with.false)) _ (part-from c.args.s.now 3) c.read_add.ensures

@@ -1,0 +1,10 @@
+-- `divide_odd` meets its contract: no number below d divides p but 1 and p, and once d * d is above p no other number does.
+use Prim.Native.Nat.{◌-◌}
+use Rattle.trial_division.proofs.TableLaws.{AllOdd}
+use Rattle.trial_division.proofs.divide_odd.divide_odd.Given as goal
+
+abbrev pub invariant-loop-d : goal.invariant-loop-d
+invariant-loop-d l = AllOdd l.p l.d
+
+abbrev pub decreases-loop-d : goal.decreases-loop-d
+decreases-loop-d l = 65537 - l.d
