@@ -3,8 +3,8 @@
  *
  * Five functions: a run of operations on a geobucket, a reduction (normal form) of one polynomial by
  * others, polynomials written to blocks of bytes and read back, and the listing of a script. They are
- * in the static library libdamselbuckle.a, which `rt staticlib damselbuckle` proves and makes. Its code is
- * for x86-64, where size_t has 64 bits.
+ * in the static library libdamselbuckle.a, which `rt lib` in crates/damselbuckle proves and makes. Its
+ * code is for x86-64, where size_t has 64 bits.
  *
  * Lent memory. Each array is a pointer and, right after it, its length in elements. The functions
  * allocate nothing, keep no pointer and have no state: calls in several threads at once are fine, so

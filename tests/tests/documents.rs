@@ -239,7 +239,7 @@ fn crates_are_in_the_readme() {
         .lines()
         .filter(|l| !l.starts_with('#') && !l.is_empty());
     let mut crates: Vec<&str> = lines
-        .map(|l| l.split(':').next().expect("a name"))
+        .map(|l| l.split([':', ' ']).next().expect("a name"))
         .collect();
     let table = readme.split("| crate |").nth(1).expect("a table of crates");
     let table = table.split("\n\n").next().expect("its rows");

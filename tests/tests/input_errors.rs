@@ -1,10 +1,10 @@
 //! The program `bucketlist` where its input cannot be read or its output cannot be written: it says so on
-//! standard error, and does not take what it has read for a script. (A program of Rattle has no exit status
-//! of its own: it ends with 0.)
+//! standard error, and does not take what it has read for a script. It ends with status 0 all the same.
 use std::path::Path;
 use std::process::{Command, Output};
 
 const SCRIPT: &str = "examples/arm.script";
+const PROGRAM: &str = "crates/bucketlist/out/bucketlist";
 
 /// What a shell does in the folder of the repository.
 fn shell(command: &str) -> Output {
@@ -20,7 +20,7 @@ fn written(redirections: &str) -> (String, String) {
         status,
         stdout,
         stderr,
-    } = shell(&format!("target/bin/bucketlist {redirections}"));
+    } = shell(&format!("{PROGRAM} {redirections}"));
     assert!(status.success(), "{redirections}: {status}");
     let text = |bytes| String::from_utf8(bytes).expect("text");
     (text(stdout), text(stderr))
@@ -52,6 +52,6 @@ fn input_that_ends() {
     let listing = written(&format!("< {SCRIPT}"));
     assert!(listing.0.ends_with("cost 2 of 60\n") && listing.1.is_empty());
     let lines = format!("while read -r l; do echo \"$l\"; sleep 0.01; done < {SCRIPT}");
-    let in_pieces = shell(&format!("{lines} | target/bin/bucketlist"));
+    let in_pieces = shell(&format!("{lines} | {PROGRAM}"));
     assert_eq!(in_pieces.stdout, listing.0.as_bytes());
 }

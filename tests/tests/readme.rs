@@ -10,7 +10,7 @@ use std::process::Command;
 const DOCUMENTS: [&str; 3] = ["README.md", "examples/README.md", "docs/INTEGRATION.md"];
 
 /// What a command that is run begins with; the others are too dear.
-const CHEAP: [&str; 2] = ["target/bin/bucketlist ", "cargo run "];
+const CHEAP: [&str; 2] = ["crates/bucketlist/out/bucketlist ", "cargo run "];
 
 /// The commands of a document, each with the lines below it.
 fn commands(document: &str) -> Vec<(String, String)> {
@@ -39,27 +39,39 @@ fn run(command: &str, output: &str) {
     assert_eq!(printed, output, "{command}");
 }
 
-/// A crate of crates.txt.
-fn is_crate(name: &str) -> bool {
-    let begins = format!("{name}:");
-    text("crates.txt").lines().any(|l| l.starts_with(&begins))
+/// A crate of crates.txt; whether it is a static library.
+fn is_static(name: &str) -> Option<bool> {
+    let list = text("crates.txt");
+    let mut heads = list.lines().filter_map(|l| l.split_once(':')).map(|l| l.0);
+    heads.find_map(|head| match head.strip_prefix(name)? {
+        "" => Some(false),
+        " staticlib" => Some(true),
+        _ => None,
+    })
 }
 
-/// What a command names is there: a crate, or a program of the repository or of a crate.
+/// What a command names is there: a script of the repository, or a crate in whose folder rt is called, with a
+/// program to run, or a static library to make.
 fn names_what_is_there(command: &str) {
     let command = command.split(" #").next().expect("a command").trim();
-    for part in command.split(" && ") {
-        let words: Vec<&str> = part.split_whitespace().collect();
-        let there = match words[..] {
-            ["rt", "check" | "staticlib" | "dev", name] => is_crate(name),
-            [program] => match program.strip_prefix("target/bin/") {
-                Some(name) => root().join(format!("crates/{name}/src/main.rt")).exists(),
-                None => is_program(&root().join(program)),
-            },
-            _ => false,
-        };
-        assert!(there, "what is {part}?");
-    }
+    let within = command.strip_prefix("(cd crates/");
+    let within = within.and_then(|c| c.strip_suffix(')')?.split_once(" && "));
+    let there = match within {
+        None => is_program(&root().join(command)),
+        Some((name, call)) => {
+            let words: Vec<&str> = call.split_whitespace().collect();
+            let folder = root().join("crates").join(name);
+            let runs = folder.join("src/main.rt").exists();
+            is_static(name).is_some_and(|library| match words[..] {
+                ["rt", "lib"] => library,
+                ["rt", "check"] => true,
+                ["rt", "run"] => runs,
+                ["rt", "run", "<", input] => runs && folder.join(input).is_file(),
+                _ => false,
+            })
+        }
+    };
+    assert!(there, "what is {command}?");
 }
 
 /// A script that can be run.
@@ -100,7 +112,7 @@ fn examples_are_shown() {
     for entry in files("examples") {
         let name = named(entry.expect("an entry").path());
         if name != "README.md" {
-            let command = format!("$ target/bin/bucketlist < examples/{name}\n");
+            let command = format!("$ crates/bucketlist/out/bucketlist < examples/{name}\n");
             assert!(page.contains(&command), "{name} is not shown");
             shown += 1;
         }

@@ -1,5 +1,5 @@
 //! The program `bucketlist` and the library's listing against the second program's listing of the same
-//! script. The program is `target/bin/bucketlist`, which `rt check bucketlist` makes.
+//! script. The program is `crates/bucketlist/out/bucketlist`, which `rt run` there makes, and `rt ci`.
 use damselbuckle::raw;
 use second::cases;
 use second::damage::no_prime;
@@ -19,7 +19,7 @@ const CASES_PER_SCRIPT: u64 = 10;
 const CASES_PER_REFUSAL: u64 = 10_000;
 
 fn program() -> PathBuf {
-    PathBuf::from(env!("CARGO_MANIFEST_DIR")).join("../target/bin/bucketlist")
+    PathBuf::from(env!("CARGO_MANIFEST_DIR")).join("../crates/bucketlist/out/bucketlist")
 }
 
 /// What the program writes for a script.
@@ -28,7 +28,7 @@ fn proved(script: &[u8]) -> String {
         .stdin(Stdio::piped())
         .stdout(Stdio::piped())
         .spawn()
-        .expect("target/bin/bucketlist runs: `rt check bucketlist` makes it");
+        .expect("crates/bucketlist/out/bucketlist runs: `rt run` there makes it");
     let mut input = child.stdin.take().expect("its input is a pipe");
     input.write_all(script).expect("it reads its input");
     drop(input);

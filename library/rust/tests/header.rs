@@ -30,7 +30,7 @@ fn printed(source: &str, name: &str) -> String {
             "-Ilibrary",
             source,
         ])
-        .args(["target/staticlib/libdamselbuckle.a", "-o"])
+        .args(["crates/damselbuckle/out/libdamselbuckle.a", "-o"])
         .arg(&program)
         .current_dir(root())
         .output()
@@ -254,16 +254,12 @@ fn the_wrapper_has_the_limits_of_rattle() {
     assert_eq!(rust, rattle);
 }
 
-/// The name that a definition has for a limit of the code: `MOST_STEPS` is `mostSteps`.
+/// The name that a definition has for a limit of the code: `MOST_STEPS` is `most_steps`.
 fn defined_name(name: &str) -> String {
-    if name == "WEIGHTS" {
-        return "weightCount".to_string();
+    match name {
+        "WEIGHTS" => "weight_count".to_string(),
+        _ => name.to_lowercase(),
     }
-    let mut parts = name.split('_').map(str::to_lowercase);
-    let first = parts.next().unwrap_or_default();
-    parts.fold(first, |whole, part| {
-        whole + &part[..1].to_uppercase() + &part[1..]
-    })
 }
 
 /// Each limit of the code is that of the definitions, also one that no code needs.

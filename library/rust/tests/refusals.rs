@@ -70,7 +70,7 @@ fn named(rows: &[Row]) -> BTreeSet<(String, u64)> {
 fn rattle_has_the_rows() {
     let rows = named(&rows());
     let table = text("crates/refusal/specs/Table.antt");
-    let lines = table.lines().filter_map(|l| l.strip_prefix("numberOf "));
+    let lines = table.lines().filter_map(|l| l.strip_prefix("number_of "));
     let pairs = lines.filter_map(|l| l.split_once(" = "));
     let pairs = pairs.map(|(name, n)| (name.to_string(), n.parse().expect("a number")));
     assert_eq!(pairs.collect::<BTreeSet<_>>(), rows);
