@@ -1,7 +1,5 @@
 // The answer of a listing.
-ghost use Rattle.std.specs.Prelude.{◌≡◌};
-ghost use Rattle.listing.specs.Outcome.{listing_stated};
-ghost use Rattle.answers.specs.Lister.{listing_answered};
+ghost use Rattle.answers.specs.Lister.{ListingSaid};
 
 use listing::entry::Listed;
 use refusal::number_of;
@@ -15,19 +13,21 @@ pub struct ListingAnswer {
     pub length: u64,
 }
 
-pub fn of_listing(listed: Listed) -> ListingAnswer
-    ensures { listing_answered result ≡ listing_stated listed }
-{
-    match listed {
-        Listed::Written(length) => ListingAnswer {
-            refusal: 0,
-            finished: 0,
-            length: length as u64,
-        },
-        Listed::Refused { refusal, finished } => ListingAnswer {
-            refusal: number_of(refusal) as u64,
-            finished,
-            length: 0,
-        },
+impl From<Listed> for ListingAnswer {
+    ghost from_gives = { ListingSaid };
+
+    fn from(listed: Listed) -> ListingAnswer {
+        match listed {
+            Ok(length) => ListingAnswer {
+                refusal: 0,
+                finished: 0,
+                length: length as u64,
+            },
+            Err(refused) => ListingAnswer {
+                refusal: number_of(refused.refusal) as u64,
+                finished: refused.finished,
+                length: 0,
+            },
+        }
     }
 }

@@ -1,7 +1,5 @@
 // The answers of the block store.
-ghost use Rattle.std.specs.Prelude.{◌≡◌};
-ghost use Rattle.blocks.specs.Outcome.{write_stated, read_stated};
-ghost use Rattle.answers.specs.Store.{write_answered, read_answered};
+ghost use Rattle.answers.specs.Store.{WriteSaid, ReadSaid};
 
 use blocks::read::Reading;
 use blocks::write::Writing;
@@ -30,50 +28,48 @@ pub struct ReadAnswer {
     pub terms: u64,
 }
 
-pub fn of_writing(answer: Writing) -> WriteAnswer
-    ensures { write_answered result ≡ write_stated answer }
-{
-    match answer {
-        Writing::Done { blocks } => WriteAnswer {
-            refusal: 0,
-            finished: 0,
-            blocks,
-        },
-        Writing::Refused { refusal, finished } => WriteAnswer {
-            refusal: number_of(refusal) as u64,
-            finished,
-            blocks: 0,
-        },
+impl From<Writing> for WriteAnswer {
+    ghost from_gives = { WriteSaid };
+
+    fn from(answer: Writing) -> WriteAnswer {
+        match answer {
+            Ok(written) => WriteAnswer {
+                refusal: 0,
+                finished: 0,
+                blocks: written.blocks,
+            },
+            Err(refused) => WriteAnswer {
+                refusal: number_of(refused.refusal) as u64,
+                finished: refused.finished,
+                blocks: 0,
+            },
+        }
     }
 }
 
-pub fn of_reading(answer: Reading) -> ReadAnswer
-    ensures { read_answered result ≡ read_stated answer }
-{
-    match answer {
-        Reading::Done {
-            p,
-            order,
-            n,
-            weights,
-            terms,
-        } => ReadAnswer {
-            refusal: 0,
-            finished: 0,
-            p: p as u64,
-            order: order as u64,
-            n: n as u64,
-            weights,
-            terms,
-        },
-        Reading::Refused { refusal, finished } => ReadAnswer {
-            refusal: number_of(refusal) as u64,
-            finished,
-            p: 0,
-            order: 0,
-            n: 0,
-            weights: 0,
-            terms: 0,
-        },
+impl From<Reading> for ReadAnswer {
+    ghost from_gives = { ReadSaid };
+
+    fn from(answer: Reading) -> ReadAnswer {
+        match answer {
+            Ok(read) => ReadAnswer {
+                refusal: 0,
+                finished: 0,
+                p: read.p as u64,
+                order: read.order as u64,
+                n: read.n as u64,
+                weights: read.weights,
+                terms: read.terms,
+            },
+            Err(refused) => ReadAnswer {
+                refusal: number_of(refused.refusal) as u64,
+                finished: refused.finished,
+                p: 0,
+                order: 0,
+                n: 0,
+                weights: 0,
+                terms: 0,
+            },
+        }
     }
 }

@@ -1,17 +1,20 @@
 -- A block as its parts are put, one after the other. Assumes nothing.
-use Rattle.std.proofs.Common.{◌≡◌, ℕ, zero, suc, ◌+◌, ◌-◌, ◌*◌, ◌/◌, ◌%◌, ◌^◌, ◌<◌, ◌≤◌, Bool, true, false, ◌&&◌, eqb, ltb, List, [], ◌∷◌, ◌++◌, length, get_or, take, drop, set, replicate, sym, refl, ap, ◌∙◌, ap₂, append_assoc, append-nil, le_of_eq, add_assoc, add-one, arith, length-append, length-set, drop_of_length-le, length-take-le, take_all, drop-cons, take-suc, le-ltb, lt-ltb, eq-eqb, ne_eqb}
+use Rattle.std.proofs.Common.{◌≡◌, ℕ, zero, suc, ◌+◌, ◌-◌, ◌*◌, ◌/◌, ◌%◌, ◌^◌, ◌<◌, ◌≤◌, Bool, ◌&&◌, eqb, ltb, List, [], ◌∷◌, ◌++◌, length, get_or, take, drop, replicate, sym, refl, ap, ◌∙◌, ap₂, append_assoc, append-nil, le_of_eq, add_assoc, add-one, arith, length-append, length-take-le, take_all, drop-drop, take-suc, le-ltb, ne_eqb}
 use native.Mathlib.Nat.{mod-add-mod}
-use lib.ListN.{length-replicate, replicate-append-replicate}
-use lib.Seq.{sets, length-sets}
+use lib.ListN.{length-replicate}
+use lib.Seq.{sets, sets-eq, length-sets}
+use borrow.Rule.Slice.PartMut.{put_mid}
+use Rattle.std.specs.Cmp.Lexicographic.{pointwise}
+use Rattle.std.specs.List.{list_all}
 use Rattle.monomial.specs.Layout.{bytes, of_bytes}
 use Rattle.monomial.proofs.ByteLaws.{length-bytes}
 use Rattle.polynomial.specs.Terms.{Term, term, terms}
 use Rattle.polynomial.proofs.TermLists.{length-terms, term-at}
 use Rattle.merge_common.specs.Lent.{part}
-use Rattle.merge_common.proofs.Lists.{sets-snoc}
+use Rattle.merge_common.proofs.Lists.{length_part}
 use Rattle.polynomial.specs.declared.setting.Setting.{Setting}
 use Rattle.block.specs.Block.{number_at, weight_number, setting_bytes, header_with, header, place, places, unused, sum_words, check_of, body, block_with, block, same, zeros}
-use Rattle.block.proofs.ByteLaws.{part-part, part-put, part-cons, joined}
+use Rattle.block.proofs.ByteLaws.{part-part, part-put, joined}
 
 -- ---- the header
 pub setting-put : (s s1 s2 s3 s4 s5 s6 : List ℕ) (at weights : ℕ) (t : Setting) → weights ≡ weight_number t.weights → s1 ≡ sets s at (bytes 2 t.p) → s2 ≡ sets s1 (at + 2) (bytes 1 t.order) → s3 ≡ sets s2 (at + 3) (bytes 1 t.n) → s4 ≡ sets s3 (at + 4) (bytes 2 (t.p / 65536)) → s5 ≡ sets s4 (at + 6) (bytes 3 weights) → s6 ≡ sets s5 (at + 9) (replicate 1 0) → s6 ≡ sets s at (setting_bytes t)
@@ -37,81 +40,40 @@ unfolding header_with setting_bytes bytes
 length-header number count here t = refl
 
 -- ---- bytes compared
-some : (x : ℕ) → (x ≡ 0 → ⊥) → 1 ≤ x
-some zero h = absurd (h refl)
-some (suc x) h = omega arith
+pub zeros-all : (s : List ℕ) → list_all (λ (b : ℕ). eqb b 0) s ≡ zeros s
+zeros-all [] = refl
+zeros-all (zero ∷ s) = zeros-all s
+zeros-all (suc b ∷ s) =
+    let e : eqb (suc b) 0 ≡ ltb (suc b) 1 = ne_eqb (suc b) 0 (λ h. omega (arith, h)) ∙ sym (le-ltb (suc b) 1 (omega arith)) in
+    ap₂ ◌&&◌ e (zeros-all s)
 
-module _ (s : List ℕ) (at n i : ℕ) (l : i < n) (m : at + n ≤ length s) where
-  next-byte : part (at + i) (n - i) s ≡ get_or s (at + i) 0 ∷ part (at + (i + 1)) (n - (i + 1)) s
-  next-byte =
-      let e : n - i ≡ suc (n - (i + 1)) = omega arith in
-      let f : at + i + 1 ≡ at + (i + 1) = omega arith in
-      ap (λ (k : ℕ). part (at + i) k s) e ∙ (part-cons s (at + i) (n - (i + 1)) (omega arith) ∙ ap (λ (k : ℕ). get_or s (at + i) 0 ∷ part k (n - (i + 1)) s) f)
-
-  zeros-next : zeros (part (at + i) (n - i) s) ≡ (ltb (get_or s (at + i) 0) 1 && zeros (part (at + (i + 1)) (n - (i + 1)) s))
-  zeros-next = ap zeros next-byte
-
-  pub zero-byte : get_or s (at + i) 0 ≡ 0 → zeros (part (at + (i + 1)) (n - (i + 1)) s) ≡ zeros (part (at + i) (n - i) s)
-  zero-byte e = sym (zeros-next ∙ ap (λ (b : Bool). b && zeros (part (at + (i + 1)) (n - (i + 1)) s)) (lt-ltb (get_or s (at + i) 0) 1 (omega arith)))
-
-  pub other_byte : (get_or s (at + i) 0 ≡ 0 → ⊥) → false ≡ zeros (part (at + i) (n - i) s)
-  other_byte e = sym (zeros-next ∙ ap (λ (b : Bool). b && zeros (part (at + (i + 1)) (n - (i + 1)) s)) (le-ltb (get_or s (at + i) 0) 1 (some (get_or s (at + i) 0) e)))
-
-pub zeros-start : (s : List ℕ) (at n : ℕ) → zeros (part (at + 0) (n - 0) s) ≡ zeros (part at n s)
-zeros-start s at n =
-    let e : at + 0 ≡ at = omega arith in
-    let f : n - 0 ≡ n = omega arith in
-    ap₂ (λ (x y : ℕ). zeros (part x y s)) e f
-
-pub zeros-end : (s : List ℕ) (at n i : ℕ) → n ≤ i → true ≡ zeros (part (at + i) (n - i) s)
-zeros-end s at n i h = let e : n - i ≡ 0 = omega arith in sym (ap (λ (k : ℕ). zeros (part (at + i) k s)) e)
-
-module _ (s bs : List ℕ) (at i : ℕ) (l : i < length bs) (m : at + length bs ≤ length s) where
-  same_next : same (part (at + i) (length bs - i) s) (drop i bs) ≡ (eqb (get_or s (at + i) 0) (get_or bs i 0) && same (part (at + (i + 1)) (length bs - (i + 1)) s) (drop (i + 1) bs))
-  unfolding same
-  same_next = ap₂ same (next-byte s at (length bs) i l m) (drop-cons bs i 0 l ∙ ap (λ (n : ℕ). get_or bs i 0 ∷ drop n bs) (sym (add-one i)))
-
-  pub like-byte : get_or s (at + i) 0 ≡ get_or bs i 0 → same (part (at + (i + 1)) (length bs - (i + 1)) s) (drop (i + 1) bs) ≡ same (part (at + i) (length bs - i) s) (drop i bs)
-  like-byte e = sym (same_next ∙ ap (λ (b : Bool). b && same (part (at + (i + 1)) (length bs - (i + 1)) s) (drop (i + 1) bs)) (eq-eqb (get_or s (at + i) 0) (get_or bs i 0) e))
-
-  pub unlike-byte : (get_or s (at + i) 0 ≡ get_or bs i 0 → ⊥) → false ≡ same (part (at + i) (length bs - i) s) (drop i bs)
-  unlike-byte e = sym (same_next ∙ ap (λ (b : Bool). b && same (part (at + (i + 1)) (length bs - (i + 1)) s) (drop (i + 1) bs)) (ne_eqb (get_or s (at + i) 0) (get_or bs i 0) e))
-
-pub same_start : (s bs : List ℕ) (at : ℕ) → same (part (at + 0) (length bs - 0) s) bs ≡ same (part at (length bs) s) bs
-same_start s bs at =
-    let e : at + 0 ≡ at = omega arith in
-    let f : length bs - 0 ≡ length bs = omega arith in
-    ap₂ (λ (x y : ℕ). same (part x y s) bs) e f
-
-pub same_end : (s bs : List ℕ) (at i : ℕ) → length bs ≤ i → true ≡ same (part (at + i) (length bs - i) s) (drop i bs)
+pub same-pointwise : (xs ys : List ℕ) → pointwise eqb xs ys ≡ same xs ys
 unfolding same
-same_end s bs at i h = let e : length bs - i ≡ 0 = omega arith in sym (ap₂ (λ (k : ℕ) (l : List ℕ). same (part (at + i) k s) l) e (drop_of_length-le bs {i = i} h))
+same-pointwise [] [] = refl
+same-pointwise [] (y ∷ ys) = refl
+same-pointwise (x ∷ xs) [] = refl
+same-pointwise (x ∷ xs) (y ∷ ys) = ap (λ (b : Bool). eqb x y && b) (same-pointwise xs ys)
 
--- a header that is put over sixteen bytes
-pub header-over : (s h : List ℕ) (at number count here : ℕ) (t : Setting) (r : Bool) → h ≡ sets (replicate 16 0) 0 (header number count here t) → r ≡ same (part at (length h) s) h → r ≡ same (part at 16 s) (header number count here t)
-header-over s h at number count here t r e f = f ∙ ap₂ (λ (n : ℕ) (l : List ℕ). same (part at n s) l) (ap length e ∙ length-sets (replicate 16 0) 0 (header number count here t)) (e ∙ whole)
+-- bytes that are compared with a header that is put over sixteen bytes
+pub header-over : (s h : List ℕ) (at number count here : ℕ) (t : Setting) (r : Bool) → h ≡ sets (replicate 16 0) 0 (header number count here t) → r ≡ pointwise eqb (part at (at + 16 - at) s) h → r ≡ same (part at 16 s) (header number count here t)
+header-over s h at number count here t r e f =
+    let k : at + 16 - at ≡ 16 = omega arith in
+    f ∙ (same-pointwise (part at (at + 16 - at) s) h ∙ ap₂ (λ (n : ℕ) (l : List ℕ). same (part at n s) l) k (e ∙ whole))
   where
     whole : sets (replicate 16 0) 0 (header number count here t) ≡ header number count here t
     whole = sym (take_all 16 (sets (replicate 16 0) 0 (header number count here t)) (le_of_eq (length-sets (replicate 16 0) 0 (header number count here t)))) ∙ part-put (replicate 16 0) 0 (header number count here t) 16 (length-header number count here t) (omega arith)
 
 -- ---- filler
--- the first i bytes from `at` on are cleared
-pub record Cleared (s₀ : List ℕ) (at n : ℕ) (s : List ℕ) (i : ℕ) : Type 0 where
-  pub low : i ≤ n
-  pub long : length s ≡ length s₀
-  pub is : s ≡ sets s₀ at (replicate i 0)
-
-pub cleared_more : (s₀ : List ℕ) (at n : ℕ) (s : List ℕ) (i : ℕ) → Cleared s₀ at n s i → i < n → Cleared s₀ at n (set s (at + i) 0) (i + 1)
-cleared_more s₀ at n s i c h = record {
-  low = omega arith;
-  long = length-set s (at + i) 0 ∙ c.long;
-  is =
-      ap₂ (λ (l : List ℕ) (k : ℕ). set l (at + k) 0) c.is (sym (length-replicate i 0))
-      ∙ (sym (sets-snoc s₀ at (replicate i 0) 0) ∙ ap (sets s₀ at) (replicate-append-replicate i 1 0));
-}
-
-pub cleared-all : (s₀ : List ℕ) (at n : ℕ) (s : List ℕ) (i : ℕ) → Cleared s₀ at n s i → n ≤ i → s ≡ sets s₀ at (replicate n 0)
-cleared-all s₀ at n s i c h = let e : i ≡ n = omega (arith, c.low) in c.is ∙ ap (λ (k : ℕ). sets s₀ at (replicate k 0)) e
+-- n zeros are put over the n bytes from `at` on
+pub cleared : (s l : List ℕ) (at n : ℕ) → at + n ≤ length s → l ≡ replicate (length (part at (at + n - at) s)) 0 → put_mid at (at + n - at) s l ≡ sets s at (replicate n 0)
+cleared s l at n h e =
+    let k : at + n - at ≡ n = omega arith in
+    let o : length (part at (at + n - at) s) ≡ n = ap (λ (j : ℕ). length (part at j s)) k ∙ length_part at n s h in
+    let z = length-replicate {A = ℕ} n 0 in
+    let m : at + length (replicate n 0) ≤ length s = omega (arith, z) in
+    ap₂ (λ (j : ℕ) (b : List ℕ). put_mid at j s b) k (e ∙ ap (λ (j : ℕ). replicate j 0) o)
+    ∙ (ap (λ (b : List ℕ). take at s ++ (replicate n 0 ++ b)) (drop-drop n at s ∙ ap (λ (j : ℕ). drop (at + j) s) (sym z))
+    ∙ (sym (append_assoc (take at s) (replicate n 0) (drop (at + length (replicate n 0)) s)) ∙ sym (sets-eq (replicate n 0) s at m)))
 
 -- ---- places
 pub places-append : (ts us : List (Term ℕ)) → places (ts ++ us) ≡ places ts ++ places us

@@ -1,5 +1,6 @@
 -- Bytes in a list: numbers put and got, and parts that are put one after the other. Assumes nothing.
-use Rattle.std.proofs.Common.{◌≡◌, ℕ, zero, suc, ◌+◌, ◌*◌, ◌/◌, ◌%◌, ◌^◌, ◌<◌, ◌≤◌, List, [], ◌∷◌, ◌++◌, length, get_or, take, drop, set, sym, refl, ap, ◌∙◌, ap₂, append_assoc, add-zero, mul-zero, add-one, arith, length-drop, length-take-le, drop-cons, take-take, drop-drop, take_at, take-add, drop_at}
+use Rattle.std.proofs.Common.{◌≡◌, ℕ, zero, suc, ◌+◌, ◌-◌, pow-suc, lit<, ◌*◌, ◌/◌, ◌%◌, ◌^◌, ◌<◌, ◌≤◌, List, [], ◌∷◌, ◌++◌, length, get_or, take, drop, set, sym, refl, ap, ◌∙◌, ap₂, append_assoc, add-zero, mul-zero, add-one, arith, length-take-le, length-drop, drop-cons, take-take, drop-drop, take_at, take-add, drop_at}
+use Rattle.std.proofs.Math.Nat.{pow-le-pow_right}
 use lib.Seq.{sets, sets-eq}
 use Rattle.monomial.specs.Layout.{bytes, of_bytes}
 use Rattle.monomial.proofs.ByteLaws.{length-bytes, bytes_below, of_bytes_bytes, bytes_of}
@@ -42,50 +43,46 @@ bytes_cut k x =
     let e : x % 256 ^ k ≡ of_bytes (bytes k x) + 256 ^ k * 0 = sym (of_bytes_bytes k x) ∙ (sym (add-zero (of_bytes (bytes k x))) ∙ ap (λ (n : ℕ). of_bytes (bytes k x) + n) (sym (mul-zero (256 ^ k)))) in
     ap (bytes k) e ∙ bytes_of k (bytes k x) 0 (length-bytes k x) (bytes_below k x)
 
-pub bytes_8 : (x : ℕ) → bytes 8 x ≡ bytes 4 x ++ bytes 4 (x / 4294967296)
-unfolding bytes
-bytes_8 x =
-    let e : x / 256 / 256 / 256 / 256 ≡ x / 4294967296 = omega arith in
-    ap (λ (y : ℕ). bytes 4 x ++ bytes 4 y) e
-
 -- ---- numbers put
-module _ (s : List ℕ) (at x : ℕ) where
-  pub put_1 : set s at (x % 256) ≡ sets s at (bytes 1 x)
-  unfolding bytes
-  put_1 = refl
+-- what is left to put at a byte, n of them, and after it
+pub put_byte : (s : List ℕ) (at i n x : ℕ) → i < n → sets (set s (at + i) (x % 256)) (at + (i + 1)) (bytes (n - (i + 1)) (x / 256)) ≡ sets s (at + i) (bytes (n - i) x)
+unfolding bytes
+put_byte s at i n x l =
+    let e : n - i ≡ suc (n - (i + 1)) = omega arith in
+    let f : at + (i + 1) ≡ suc (at + i) = omega arith in
+    rw (e, f)
 
-  pub put_2 : set (set s at (x % 256)) (at + 1) (x / 256 % 256) ≡ sets s at (bytes 2 x)
-  unfolding bytes
-  put_2 = rw (add-one at)
-
-  pub put_3 : set (set (set s at (x % 256)) (at + 1) (x / 256 % 256)) (at + 2) (x / 256 / 256 % 256) ≡ sets s at (bytes 3 x)
-  unfolding bytes
-  put_3 =
-      let e1 : at + 1 ≡ suc at = omega arith in
-      let e2 : at + 2 ≡ suc (suc at) = omega arith in
-      rw (e1, e2)
-
-  pub put_4 : set (set (set (set s at (x % 256)) (at + 1) (x / 256 % 256)) (at + 2) (x / 256 / 256 % 256)) (at + 3) (x / 256 / 256 / 256 % 256) ≡ sets s at (bytes 4 x)
-  unfolding bytes
-  put_4 =
-      let e1 : at + 1 ≡ suc at = omega arith in
-      let e2 : at + 2 ≡ suc (suc at) = omega arith in
-      let e3 : at + 3 ≡ suc (suc (suc at)) = omega arith in
-      rw (e1, e2, e3)
-
-  pub put-8 : (s1 s2 : List ℕ) → s1 ≡ sets s at (bytes 4 (x % 4294967296)) → s2 ≡ sets s1 (at + 4) (bytes 4 (x / 4294967296 % 4294967296)) → s2 ≡ sets s at (bytes 8 x)
-  put-8 s1 s2 e f =
-      f
-      ∙ ap (λ (l : List ℕ). sets l (at + 4) (bytes 4 (x / 4294967296 % 4294967296))) e
-      ∙ ap₂ (λ (u v : List ℕ). sets (sets s at u) (at + 4) v) (bytes_cut 4 x) (bytes_cut 4 (x / 4294967296))
-      ∙ (ap (λ (n : ℕ). sets (sets s at (bytes 4 x)) (at + n) (bytes 4 (x / 4294967296))) (sym (length-bytes 4 x))
-      ∙ (sym (sets-append s at (bytes 4 x) (bytes 4 (x / 4294967296))) ∙ ap (sets s at) (sym (bytes_8 x))))
+-- a number that is another is put as that
+pub put_as : (s s1 : List ℕ) (at k x y : ℕ) → s1 ≡ sets s at (bytes k x) → x ≡ y → s1 ≡ sets s at (bytes k y)
+put_as s s1 at k x y e f = e ∙ ap (λ (n : ℕ). sets s at (bytes k n)) f
 
 -- ---- one put after the other
 pub joined : (s s1 s2 : List ℕ) (at : ℕ) (us vs : List ℕ) (k : ℕ) → at + length us ≡ k → s1 ≡ sets s at us → s2 ≡ sets s1 k vs → s2 ≡ sets s at (us ++ vs)
 joined s s1 s2 at us vs k e f g = g ∙ (ap₂ (λ (l : List ℕ) (n : ℕ). sets l n vs) f (sym e) ∙ sym (sets-append s at us vs))
 
 -- ---- numbers got
+-- the number of the bytes from the one before i on, by that of those from i on
+module _ (s : List ℕ) (at n i x b : ℕ) (l : 0 < i) (m : i ≤ n) (r : at + n ≤ length s) (e : b ≡ get_or s (at + (i - 1)) 0) where
+  pub number_more : x ≡ number_at (n - i) (at + i) s → 256 * x + b ≡ number_at (n - (i - 1)) (at + (i - 1)) s
+  number_more h =
+      let f : n - (i - 1) ≡ suc (n - i) = omega arith in
+      let o : at + (i - 1) + 1 ≡ at + i = omega arith in
+      let k = ap (λ (j : ℕ). number_at j (at + (i - 1)) s) f ∙ ap of_bytes (part-cons s (at + (i - 1)) (n - i) (omega arith)) in
+      let q = ap (λ (j : ℕ). number_at (n - i) j s) o in
+      omega (arith, k, q, h, e)
+
+  pub number_below : b < 256 → x < 256 ^ (n - i) → 256 * x + b < 256 ^ (n - (i - 1))
+  number_below u h =
+      let f : n - (i - 1) ≡ suc (n - i) = omega arith in
+      omega (arith, h, u, ap (λ (j : ℕ). 256 ^ j) f, pow-suc 256 (n - i))
+
+-- of at most 8 bytes, with a byte more
+pub number_room : (n i x : ℕ) → 0 < i → i ≤ n → n ≤ 8 → x < 256 ^ (n - i) → 256 * x + 255 < 2 ^ 64
+number_room n i x l m v h =
+    let j : n - i ≤ 7 = omega arith in
+    omega (arith, h, pow-le-pow_right {n = 256} (lit< tt) j)
+
+-- ---- bytes by place
 module _ (s : List ℕ) (at : ℕ) where
   pub part-1 : at + 1 ≤ length s → part at 1 s ≡ get_or s at 0 ∷ []
   part-1 h = part-cons s at 0 (omega arith)
@@ -100,26 +97,8 @@ module _ (s : List ℕ) (at : ℕ) where
       ∙ ap (λ (l : List ℕ). get_or s at 0 ∷ l) (part-cons s (at + 1) 1 (omega arith)
       ∙ ap (λ (l : List ℕ). get_or s (at + 1) 0 ∷ l) (ap (λ (n : ℕ). part n 1 s) e ∙ part-cons s (at + 2) 0 (omega arith)))
 
-  pub part-4 : at + 4 ≤ length s → part at 4 s ≡ get_or s at 0 ∷ (get_or s (at + 1) 0 ∷ (get_or s (at + 2) 0 ∷ (get_or s (at + 3) 0 ∷ [])))
-  part-4 h =
-      part-append at 3 1 s
-      ∙ ap₂ ◌++◌ (part-3 (omega arith)) (part-cons s (at + 3) 0 (omega arith))
-
-  pub number-1 : at + 1 ≤ length s → number_at 1 at s ≡ get_or s at 0
-  number-1 h = ap of_bytes (part-1 h) ∙ (let e : get_or s at 0 + 256 * 0 ≡ get_or s at 0 = omega arith in e)
-
   pub number-2 : at + 2 ≤ length s → number_at 2 at s ≡ get_or s at 0 + 256 * get_or s (at + 1) 0
   number-2 h = ap of_bytes (part-2 h) ∙ (let e : get_or s at 0 + 256 * (get_or s (at + 1) 0 + 256 * 0) ≡ get_or s at 0 + 256 * get_or s (at + 1) 0 = omega arith in e)
-
-  pub number-3 : at + 3 ≤ length s → number_at 3 at s ≡ get_or s at 0 + 256 * (get_or s (at + 1) 0 + 256 * get_or s (at + 2) 0)
-  number-3 h =
-      ap of_bytes (part-3 h)
-      ∙ (let e : get_or s at 0 + 256 * (get_or s (at + 1) 0 + 256 * (get_or s (at + 2) 0 + 256 * 0)) ≡ get_or s at 0 + 256 * (get_or s (at + 1) 0 + 256 * get_or s (at + 2) 0) = omega arith in e)
-
-  pub number-4 : at + 4 ≤ length s → number_at 4 at s ≡ get_or s at 0 + 256 * (get_or s (at + 1) 0 + 256 * (get_or s (at + 2) 0 + 256 * get_or s (at + 3) 0))
-  number-4 h =
-      ap of_bytes (part-4 h)
-      ∙ (let e : get_or s at 0 + 256 * (get_or s (at + 1) 0 + 256 * (get_or s (at + 2) 0 + 256 * (get_or s (at + 3) 0 + 256 * 0))) ≡ get_or s at 0 + 256 * (get_or s (at + 1) 0 + 256 * (get_or s (at + 2) 0 + 256 * get_or s (at + 3) 0)) = omega arith in e)
 
   pub number-8 : at + 8 ≤ length s → number_at 8 at s ≡ number_at 4 at s + 4294967296 * number_at 4 (at + 4) s
   number-8 h =

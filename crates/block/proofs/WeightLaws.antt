@@ -1,5 +1,7 @@
 -- The weights of a header: half bytes of one number, and back. Assumes nothing.
-use Rattle.std.proofs.Common.{◌≡◌, ℕ, zero, suc, ◌+◌, ◌-◌, ◌*◌, ◌/◌, ◌%◌, ◌^◌, ◌<◌, List, [], ◌∷◌, length, get_or, replicate, sym, refl, ap, ◌∙◌, subst, ap₂, pow-suc, arith, lit<}
+use Rattle.std.proofs.Common.{◌≡◌, ℕ, zero, suc, ◌+◌, ◌-◌, ◌*◌, ◌/◌, ◌%◌, ◌^◌, ◌<◌, ◌≤◌, List, [], ◌∷◌, ◌++◌, length, get_or, take, drop, set, take_all, drop-cons, length-drop, length-set, append_assoc, append-nil, replicate, sym, refl, ap, ◌∙◌, subst, ap₂, pow-suc, arith, lit<}
+use Rattle.std.proofs.Math.Nat.{pow-le-pow_right}
+use Rattle.std.proofs.lemmas.List.{take_more_set}
 use Rattle.monomial.specs.Exponents.{Positive}
 use Rattle.monomial.specs.Layout.{bytes, Below}
 use Rattle.monomial.proofs.CodeLaws.{six-list}
@@ -14,14 +16,22 @@ number-below k vs e = subst (λ (m : ℕ). weight_number vs < 16 ^ m) e (go vs)
     go [] = lit< tt
     go (v ∷ vs) = omega (arith, go vs, pow-suc 16 (length vs))
 
--- six weights, as the code adds up their half bytes
-pub number-six : (vs : List ℕ) → length vs ≡ 6 → (a b c d e f : ℕ) → a ≡ (get_or vs 0 0 + 15) % 16 → b ≡ (get_or vs 1 0 + 15) % 16 → c ≡ (get_or vs 2 0 + 15) % 16 → d ≡ (get_or vs 3 0 + 15) % 16 → e ≡ (get_or vs 4 0 + 15) % 16 → f ≡ (get_or vs 5 0 + 15) % 16
-    → a + 16 * (b + 16 * (c + 16 * (d + 16 * (e + 16 * f)))) ≡ weight_number vs
-unfolding weight_number
-number-six vs h a b c d e f ea eb ec ed ee ef =
-    let six = weight_number (get_or vs 0 0 ∷ get_or vs 1 0 ∷ get_or vs 2 0 ∷ get_or vs 3 0 ∷ get_or vs 4 0 ∷ get_or vs 5 0 ∷ []) in
-    let q : a + 16 * (b + 16 * (c + 16 * (d + 16 * (e + 16 * f)))) ≡ six = omega (arith, ea, eb, ec, ed, ee, ef) in
-    q ∙ sym (ap weight_number (six-list vs h))
+-- the number of the weights from the one before i on, by that of those from i on
+module _ (vs : List ℕ) (i number h : ℕ) (l : 0 < i) (m : i ≤ 6) (six : length vs ≡ 6) (e : number ≡ weight_number (drop i vs)) where
+  pub number-next : h ≡ (get_or vs (i - 1) 0 + 15) % 16 → 16 * number + h ≡ weight_number (drop (i - 1) vs)
+  unfolding weight_number
+  number-next q =
+      let f : suc (i - 1) ≡ i = omega arith in
+      let k = ap weight_number (drop-cons vs (i - 1) 0 (omega arith)) in
+      let o = ap (λ (j : ℕ). weight_number (drop j vs)) f in
+      omega (arith, q, e, k, o)
+
+  -- and room for it
+  pub number-room : number < 16 ^ 5
+  number-room =
+      let b = number-below (6 - i) (drop i vs) (length-drop i vs ∙ ap (λ (n : ℕ). n - i) six) in
+      let j : 6 - i ≤ 5 = omega arith in
+      omega (arith, e, b, pow-le-pow_right {n = 16} (lit< tt) j)
 
 -- weights of 1 are the number 0
 pub number-ones : (k : ℕ) → weight_number (replicate k 1) ≡ 0
@@ -45,6 +55,29 @@ pub weights-positive : (k number : ℕ) → Positive (weights_of k number)
 unfolding weights_of
 weights-positive zero number = tt
 weights-positive (suc k) number = (let h : 0 < number % 16 + 1 = omega arith in h, weights-positive k (number / 16))
+
+-- i weights are taken from the number, and the rest lie in what is left of it
+pub record Taken (number : ℕ) (ws : List ℕ) (left i : ℕ) : Type 0 where
+  pub six-long : length ws ≡ 6
+  pub is : take i ws ++ weights_of (6 - i) left ≡ weights_of 6 number
+
+pub taken-more : (number : ℕ) (ws : List ℕ) (left i : ℕ) → Taken number ws left i → i < 6 → Taken number (set ws i (left % 16 + 1)) (left / 16) (i + 1)
+unfolding weights_of
+taken-more number ws left i t l =
+    let v = left % 16 + 1 in
+    let e : suc (6 - (i + 1)) ≡ 6 - i = omega arith in
+    record {
+      six-long = length-set ws i v ∙ t.six-long;
+      is =
+          ap (λ (l : List ℕ). l ++ weights_of (6 - (i + 1)) (left / 16)) (take_more_set ws i v (omega (arith, t.six-long)))
+          ∙ (append_assoc (take i ws) (v ∷ []) (weights_of (6 - (i + 1)) (left / 16)) ∙ (ap (λ (k : ℕ). take i ws ++ weights_of k left) e ∙ t.is));
+    }
+
+pub taken-all : (number : ℕ) (ws : List ℕ) (left i : ℕ) → Taken number ws left i → 6 ≤ i → ws ≡ weights_of 6 number
+unfolding weights_of
+taken-all number ws left i t l =
+    let e : 6 - i ≡ 0 = omega arith in
+    sym (ap₂ ◌++◌ (take_all i ws (omega (arith, t.six-long))) (ap (λ (k : ℕ). weights_of k left) e) ∙ append-nil ws) ∙ t.is
 
 -- ---- there and back
 pub number-back : (k number : ℕ) → number < 16 ^ k → weight_number (weights_of k number) ≡ number

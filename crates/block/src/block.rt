@@ -6,9 +6,9 @@ ghost use Rattle.block.specs.Block.{block};
 
 use crate::check::check_of;
 use crate::filler::clear;
-use crate::header::put_header;
-use crate::number::put_4;
-use crate::place::put_places;
+use crate::header::Header;
+use crate::number::put_number;
+use crate::places::put_places;
 use polynomial::setting::Setting;
 
 // Puts block `number` of `count`, which holds these terms, from place `at` on.
@@ -25,9 +25,15 @@ pub fn put_block(
     ensures { s.new ≡ sets s.old at (block number count setting (terms words.now coefs.now)) }
 {
     let here = words.len();
-    put_header(s, at, number, count, here as u32, setting);
+    let header = Header {
+        number,
+        count,
+        here: here as u32,
+        setting,
+    };
+    header.put(s, at);
     put_places(words, coefs, s, at + 16);
     clear(s, at + 16 + 12 * here, 12 * (41 - here));
     let check = check_of(s, at);
-    put_4(s, at + 508, check);
+    put_number::<4>(s, at + 508, u64::from(check));
 }

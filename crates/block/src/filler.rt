@@ -9,11 +9,7 @@ pub fn clear(s: &mut [u8], at: usize, n: usize)
     requires { at + n ≤ length s.old }
     ensures { s.new ≡ sets s.old at (replicate n 0) }
 {
-    let mut i = 0;
-    while i < n {
-        s[at + i] = 0;
-        i += 1;
-    }
+    s[at..at + n].fill(0);
 }
 
 // Whether the n bytes from place `at` on are 0.
@@ -21,12 +17,5 @@ pub fn is_clear(s: &[u8], at: usize, n: usize) -> bool
     requires { at + n ≤ length s.now }
     ensures { result ≡ zeros (part at n s.now) }
 {
-    let mut i = 0;
-    while i < n {
-        if s[at + i] != 0 {
-            return false;
-        }
-        i += 1;
-    }
-    true
+    s[at..at + n].iter().all(|b| *b == 0)
 }

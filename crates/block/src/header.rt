@@ -5,9 +5,41 @@ ghost use Rattle.merge_common.specs.Lent.{part};
 ghost use Rattle.block.specs.Block.{header, setting_bytes, same, setting_at};
 
 use crate::filler::clear;
-use crate::number::{get_1, get_2, get_3, put_1, put_2, put_3};
+use crate::number::{get_number, put_number};
 use crate::weights::{weight_number, weights_of};
 use polynomial::setting::Setting;
+
+// What a header says: block `number` of `count`, with so many terms here, and the setting.
+#[derive(Clone, Copy)]
+pub struct Header {
+    pub number: u32,
+    pub count: u32,
+    pub here: u32,
+    pub setting: Setting,
+}
+
+impl Header {
+    // Puts the header from place `at` on.
+    pub fn put(self, s: &mut [u8], at: usize)
+        requires { at + 16 ≤ length s.old }
+        ensures { s.new ≡ sets s.old at (header self.number self.count self.here self.setting) }
+    {
+        put_number::<2>(s, at, u64::from(self.number));
+        put_number::<2>(s, at + 2, u64::from(self.count));
+        put_number::<2>(s, at + 4, u64::from(self.here));
+        put_setting(s, at + 6, self.setting);
+    }
+
+    // Whether the header stands from place `at` on.
+    pub fn stands(self, s: &[u8], at: usize) -> bool
+        requires { at + 16 ≤ length s.now }
+        ensures { result ≡ same (part at 16 s.now) (header self.number self.count self.here self.setting) }
+    {
+        let mut bytes = [0u8; 16];
+        self.put(&mut bytes, 0);
+        s[at..at + 16] == bytes[..]
+    }
+}
 
 // Puts the setting's ten bytes from place `at` on.
 pub fn put_setting(s: &mut [u8], at: usize, setting: Setting)
@@ -15,11 +47,11 @@ pub fn put_setting(s: &mut [u8], at: usize, setting: Setting)
     ensures { s.new ≡ sets s.old at (setting_bytes setting) }
 {
     let weights = setting.weights;
-    put_2(s, at, setting.p);
-    put_1(s, at + 2, setting.order);
-    put_1(s, at + 3, setting.n);
-    put_2(s, at + 4, setting.p / 65536);
-    put_3(s, at + 6, weight_number(&weights));
+    put_number::<2>(s, at, u64::from(setting.p));
+    put_number::<1>(s, at + 2, u64::from(setting.order));
+    put_number::<1>(s, at + 3, u64::from(setting.n));
+    put_number::<2>(s, at + 4, u64::from(setting.p / 65536));
+    put_number::<3>(s, at + 6, u64::from(weight_number(&weights)));
     clear(s, at + 9, 1);
 }
 
@@ -28,56 +60,13 @@ pub fn get_setting(s: &[u8], at: usize) -> Setting
     requires { at + 16 ≤ length s.now }
     ensures { result ≡ setting_at at s.now }
 {
-    let low = get_2(s, at + 6);
-    let upper = get_2(s, at + 10);
+    let low = get_number::<2>(s, at + 6);
+    let upper = get_number::<2>(s, at + 10);
     let p = low + 65536 * upper;
     Setting {
-        p,
-        order: get_1(s, at + 8),
-        n: get_1(s, at + 9),
-        weights: weights_of(get_3(s, at + 12)),
+        p: p as u32,
+        order: get_number::<1>(s, at + 8) as u32,
+        n: get_number::<1>(s, at + 9) as u32,
+        weights: weights_of(get_number::<3>(s, at + 12) as u32),
     }
-}
-
-// Puts a header from place `at` on.
-pub fn put_header(s: &mut [u8], at: usize, number: u32, count: u32, here: u32, setting: Setting)
-    requires { at + 16 ≤ length s.old }
-    ensures { s.new ≡ sets s.old at (header number count here setting) }
-{
-    put_2(s, at, number);
-    put_2(s, at + 2, count);
-    put_2(s, at + 4, here);
-    put_setting(s, at + 6, setting);
-}
-
-// Whether this header stands from place `at` on.
-pub fn header_stands(
-    s: &[u8],
-    at: usize,
-    number: u32,
-    count: u32,
-    here: u32,
-    setting: Setting,
-) -> bool
-    requires { at + 16 ≤ length s.now }
-    ensures { result ≡ same (part at 16 s.now) (header number count here setting) }
-{
-    let mut h = [0u8; 16];
-    put_header(&mut h, 0, number, count, here, setting);
-    stands(s, at, &h)
-}
-
-// Whether the bytes stand from place `at` on.
-fn stands(s: &[u8], at: usize, bytes: &[u8]) -> bool
-    requires { at + length bytes.now ≤ length s.now }
-    ensures { result ≡ same (part at (length bytes.now) s.now) bytes.now }
-{
-    let mut i = 0;
-    while i < bytes.len() {
-        if s[at + i] != bytes[i] {
-            return false;
-        }
-        i += 1;
-    }
-    true
 }

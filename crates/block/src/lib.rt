@@ -6,5 +6,5 @@ pub mod check; // its last four bytes
 pub mod filler; // runs of 0
 pub mod header; // its first sixteen bytes
 pub mod number; // little-endian numbers
-pub mod place; // its 41 places for terms
+pub mod places; // its 41 places for terms
 pub mod weights; // the weights as one number

@@ -7,8 +7,11 @@ pub fn weight_number(weights: &[u32]) -> u32
     requires { length weights.now ≡ 6 }
     ensures { result ≡ weight_number weights.now }
 {
-    let upper = half(weights[3]) + 16 * (half(weights[4]) + 16 * half(weights[5]));
-    half(weights[0]) + 16 * (half(weights[1]) + 16 * (half(weights[2]) + 16 * upper))
+    let mut number = 0;
+    for i in (0..6).rev() {
+        number = 16 * number + half(weights[i]);
+    }
+    number
 }
 
 // Four bits: the weight minus 1, of weights from 1 to 16.
@@ -22,12 +25,11 @@ fn half(weight: u32) -> u32
 pub fn weights_of(number: u32) -> [u32; 6]
     ensures { result ≡ weights_of 6 number }
 {
-    [
-        number % 16 + 1,
-        number / 16 % 16 + 1,
-        number / 16 / 16 % 16 + 1,
-        number / 16 / 16 / 16 % 16 + 1,
-        number / 16 / 16 / 16 / 16 % 16 + 1,
-        number / 16 / 16 / 16 / 16 / 16 % 16 + 1,
-    ]
+    let mut weights = [1; 6];
+    let mut left = number;
+    for weight in &mut weights {
+        *weight = left % 16 + 1;
+        left /= 16;
+    }
+    weights
 }

@@ -5,9 +5,9 @@
 mod show; // bytes and terms as text
 mod store; // the file
 
-use blocks::read::{Reading, read_blocks};
-use blocks::write::{Writing, write_blocks};
-use refusal::number_of;
+use blocks::read::read_blocks;
+use blocks::write::write_blocks;
+use refusal::{Refused, number_of};
 use std::io;
 use std::rt::Files;
 
@@ -36,22 +36,22 @@ const WEIGHTED: [u64; 5] = [
 ];
 
 fn main(rt: HostRuntime) -> io::Result<()> {
-    show::put(&rt, b"five terms, p = 7, dp, two variables\n")?;
+    println!(&rt; "five terms, p = 7, dp, two variables")?;
     kept(&rt, &ONES, &WORDS, &COEFS)?;
-    show::put(&rt, b"zero\n")?;
+    println!(&rt; "zero")?;
     kept(&rt, &ONES, &[], &[])?;
-    show::put(&rt, b"five terms, weight 2 for x1\n")?;
+    println!(&rt; "five terms, weight 2 for x1")?;
     kept(&rt, &DOUBLE, &WEIGHTED, &COEFS)?;
-    show::put(&rt, b"weight 2 for x6, beyond n\n")?;
+    println!(&rt; "weight 2 for x6, beyond n")?;
     kept(&rt, &[1, 1, 1, 1, 1, 2], &WORDS, &COEFS)?;
-    show::put(&rt, b"terms that rise\n")?;
+    println!(&rt; "terms that rise")?;
     kept(
         &rt,
         &ONES,
         &[0x0001_0000_0000_0001, 0x0002_0000_0000_0002],
         &[1, 1],
     )?;
-    show::put(&rt, b"a file with a byte changed\n")?;
+    println!(&rt; "a file with a byte changed")?;
     damaged(&rt)
 }
 
@@ -63,19 +63,20 @@ fn kept(
     coefs: &[u32],
 ) -> io::Result<()> {
     let mut bytes = [0u8; 512];
-    let written = write_blocks(7, 3, 2, weights, words, coefs, &mut bytes);
-    match written {
-        Writing::Done { blocks } => {
-            show::number(rt, b"blocks ", blocks)?;
+    match write_blocks(7, 3, 2, weights, words, coefs, &mut bytes) {
+        Ok(written) => {
+            println!(rt; "blocks {}", written.blocks)?;
             store::save(rt, &bytes)?;
             show::block(rt, &bytes)?;
             recalled(rt)
         }
-        Writing::Refused {
-            refusal,
-            finished: _,
-        } => show::number(rt, b"refused ", number_of(refusal) as u64),
+        Err(refused) => turned_away(rt, refused),
     }
+}
+
+// The number of a refusal.
+fn turned_away(rt: &impl Print, refused: Refused) -> io::Result<()> {
+    println!(rt; "refused {}", number_of(refused.refusal))
 }
 
 // What the file holds, read back.
@@ -89,26 +90,16 @@ fn recalled(rt: &(impl Files + Print + Eprint + AllocGlobal)) -> io::Result<()> 
 fn given(rt: &impl Print, bytes: &[u8]) -> io::Result<()> {
     let mut words = [0u64; 41];
     let mut coefs = [0u32; 41];
-    let read = read_blocks(bytes, &mut words, &mut coefs);
-    match read {
-        Reading::Done {
-            p,
-            order,
-            n,
-            weights,
-            terms,
-        } => {
-            show::number(rt, b"p ", p as u64)?;
-            show::number(rt, b"order ", order as u64)?;
-            show::number(rt, b"n ", n as u64)?;
-            show::weights(rt, weights)?;
-            show::number(rt, b"terms ", terms)?;
-            show::terms(rt, &words, &coefs, terms)
+    match read_blocks(bytes, &mut words, &mut coefs) {
+        Ok(read) => {
+            println!(rt; "p {}", read.p)?;
+            println!(rt; "order {}", read.order)?;
+            println!(rt; "n {}", read.n)?;
+            show::weights(rt, read.weights)?;
+            println!(rt; "terms {}", read.terms)?;
+            show::terms(rt, &words, &coefs, read.terms)
         }
-        Reading::Refused {
-            refusal,
-            finished: _,
-        } => show::number(rt, b"refused ", number_of(refusal) as u64),
+        Err(refused) => turned_away(rt, refused),
     }
 }
 
@@ -116,12 +107,6 @@ fn given(rt: &impl Print, bytes: &[u8]) -> io::Result<()> {
 fn damaged(rt: &(impl Files + Print + Eprint + AllocGlobal)) -> io::Result<()> {
     let mut bytes = [0u8; 512];
     store::load(rt, &mut bytes)?;
-    change_first(&mut bytes);
+    bytes[0] = 1;
     given(rt, &bytes)
-}
-
-fn change_first(bytes: &mut [u8]) {
-    if 0 < bytes.len() {
-        bytes[0] = 1;
-    }
 }

@@ -1,16 +1,19 @@
 // What is written to standard output.
-ghost use Rattle.std.specs.Prelude.{◌≡◌, ◌<◌, length};
+ghost use Rattle.std.specs.Prelude.{◌≡◌, length};
 
-use std::io;
+use std::{fmt, io};
 
-pub fn put(rt: &impl Print, text: &[u8]) -> io::Result<()> {
-    rt.write_all(text)
-}
+// Bytes as text: two hexadecimal digits each, a space before each.
+#[derive(Clone, Copy)]
+struct Bytes<'a>(&'a [u8]);
 
-// A name and a number.
-pub fn number(rt: &impl Print, name: &[u8], n: u64) -> io::Result<()> {
-    put(rt, name)?;
-    println!(rt; "{n}")
+impl fmt::Display for Bytes<'_> {
+    fn fmt<W: fmt::Write>(&self, f: &mut fmt::Formatter<W>) -> fmt::Result {
+        for byte in self.0 {
+            write!(f, " {byte:02x}")?;
+        }
+        Ok(())
+    }
 }
 
 // The weights of x1 to x6, by their number in a header, where they are not all 1.
@@ -18,70 +21,30 @@ pub fn weights(rt: &impl Print, number: u64) -> io::Result<()> {
     if number == 0 {
         return Ok(());
     }
-    put(rt, b"weights")?;
+    print!(rt; "weights")?;
     let mut left = number;
-    let mut i: usize = 0;
-    while i < 6 {
-        let weight = left % 16 + 1;
-        print!(rt; " {weight}")?;
+    for _ in 0..6 {
+        print!(rt; " {}", left % 16 + 1)?;
         left /= 16;
-        i += 1;
     }
-    put(rt, b"\n")
+    println!(rt)
 }
 
 // A block: its header, its first five places and its check, byte by byte.
 pub fn block(rt: &impl Print, bytes: &[u8]) -> io::Result<()>
     requires { 512 ≡ length bytes.now }
 {
-    put(rt, b"header")?;
-    row(rt, &bytes[0..16])?;
-    for i in 0..5 {
-        place(rt, bytes, i)?;
+    println!(rt; "header{}", Bytes(&bytes[..16]))?;
+    for place in bytes[16..76].chunks_exact(12) {
+        println!(rt; "place {}", Bytes(place))?;
     }
-    put(rt, b"check ")?;
-    row(rt, &bytes[508..512])
-}
-
-// Place i of a block.
-fn place(rt: &impl Print, bytes: &[u8], i: usize) -> io::Result<()>
-    requires { (512 ≡ length bytes.now) × (i < 41) }
-{
-    let from = 16 + 12 * i;
-    let to = from + 12;
-    put(rt, b"place ")?;
-    row(rt, &bytes[from..to])
-}
-
-// Bytes in two hexadecimal digits each.
-fn row(rt: &impl Print, bytes: &[u8]) -> io::Result<()> {
-    let mut i = 0;
-    while i < bytes.len() {
-        byte(rt, bytes[i])?;
-        i += 1;
-    }
-    put(rt, b"\n")
-}
-
-fn byte(rt: &impl Print, b: u8) -> io::Result<()> {
-    print!(rt; " {b:02x}")
+    println!(rt; "check {}", Bytes(&bytes[508..]))
 }
 
 // The first terms, a coefficient and a word to a line.
 pub fn terms(rt: &impl Print, words: &[u64], coefs: &[u32], len: u64) -> io::Result<()> {
-    let mut i: usize = 0;
-    while i < words.len() {
-        if i as u64 >= len {
-            return Ok(());
-        }
-        if i < coefs.len() {
-            term(rt, words[i], coefs[i])?;
-        }
-        i += 1;
+    for (word, coef) in words.iter().zip(coefs).take(len as usize) {
+        println!(rt; "term {coef} {word:016x}")?;
     }
     Ok(())
-}
-
-fn term(rt: &impl Print, word: u64, coef: u32) -> io::Result<()> {
-    println!(rt; "term {coef} {word:016x}")
 }

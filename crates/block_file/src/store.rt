@@ -31,6 +31,7 @@ pub fn load(rt: &(impl Files + Eprint + AllocGlobal), bytes: &mut [u8]) -> io::R
 }
 
 // Reads until bytes is full or the file ends, and answers how many bytes it put at the start of bytes.
+// Kept: no plainer: `read_exact` fails on a file that ends before, and `read_to_end` needs a heap.
 fn read_full(file: &mut impl Read, bytes: &mut [u8]) -> io::Result<usize>
     ensures { ReadsAtMost result bytes.new }
 {
@@ -45,6 +46,7 @@ fn read_full(file: &mut impl Read, bytes: &mut [u8]) -> io::Result<usize>
     Ok(done)
 }
 
+// Kept: no plainer: `bucketlist` has the same, and a crate for one function of two programs would be more.
 // Says on standard error why the file cannot be opened, in the system's words without their number.
 fn fail(rt: &(impl Eprint + AllocGlobal), error: Error) -> io::Result<()> {
     let text = format!(in rt.alloc(); "{error}")?;

@@ -3,7 +3,7 @@ ghost use Rattle.std.specs.Prelude.{◌≡◌, ◌*◌, ◌≤◌, length};
 ghost use Rattle.block.specs.Block.{block_count};
 ghost use Rattle.block_form.specs.Form.{here_of, whole_blocks, total_in};
 
-use block::number::get_2;
+use block::number::get_number;
 
 // How many blocks so many terms make.
 pub fn block_count(terms: usize) -> usize
@@ -43,5 +43,5 @@ pub fn total_in(s: &[u8]) -> usize
     ensures { result ≡ total_in s.now }
 {
     let last = s.len() / 512 - 1;
-    41 * last + get_2(s, 512 * last + 4) as usize
+    41 * last + get_number::<2>(s, 512 * last + 4) as usize
 }

@@ -1,41 +1,44 @@
 // Whether bytes have the form of blocks.
 ghost use Rattle.std.specs.Prelude.{◌≡◌, ◌≤◌, ◌<◌, length};
+ghost use Rattle.refusal.specs.Table.{refusal_in};
 ghost use Rattle.block_form.specs.Form.{form_refusal, checks_stand, block_stands, blocks_stand, all_below, count_in, Counted};
 
 use crate::count::{block_count, here_of, total_in, whole_blocks};
 use block::check::check_stands;
 use block::filler::is_clear;
-use block::header::{get_setting, header_stands};
+use block::header::{Header, get_setting};
 use limits::MOST_TERMS;
+use refusal::Refusal;
 
-// The refusal for the form of the bytes, 0 for none: 8, 14, 15 for all blocks, 16. The last two are the
-// lengths of the lent words and coefficients.
-pub fn form_refusal(s: &[u8], ow: usize, oc: usize) -> u32
-    ensures { result ≡ form_refusal s.now ow oc }
+// The refusal for the form of the bytes: 8, 14, 15 for all blocks, 16. The last two are the lengths of
+// the lent words and coefficients.
+pub fn form_refusal(s: &[u8], ow: usize, oc: usize) -> Result<(), Refusal>
+    ensures { refusal_in result ≡ form_refusal s.now ow oc }
 {
     if ow != oc {
-        return 8;
+        return Err(Refusal::BadShape);
     }
     if !whole_blocks(s.len()) {
-        return 14;
+        return Err(Refusal::NotBlocks);
     }
     if !checks_stand(s) {
-        return 15;
+        return Err(Refusal::BadCheck);
     }
-    if blocks_stand(s) { 0 } else { 16 }
+    if blocks_stand(s) {
+        Ok(())
+    } else {
+        Err(Refusal::BadBlock)
+    }
 }
 
 // Whether every block ends with its check.
 fn checks_stand(s: &[u8]) -> bool
     ensures { result ≡ checks_stand s.now }
 {
-    let count = s.len() / 512;
-    let mut k = 0;
-    while k < count {
+    for k in 0..s.len() / 512 {
         if !check_stands(s, 512 * k) {
             return false;
         }
-        k += 1;
     }
     true
 }
@@ -63,12 +66,10 @@ fn each_stands(s: &[u8], count: usize, total: usize) -> bool
     requires { Counted s.now count total }
     ensures { result ≡ all_below (count_in s.now) (block_stands s.now) }
 {
-    let mut k = 0;
-    while k < count {
+    for k in 0..count {
         if !block_stands(s, k, count, total) {
             return false;
         }
-        k += 1;
     }
     true
 }
@@ -80,9 +81,11 @@ fn block_stands(s: &[u8], k: usize, count: usize, total: usize) -> bool
 {
     let at = 512 * k;
     let here = here_of(total, k);
-    let setting = get_setting(s, 0);
-    if !header_stands(s, at, k as u32, count as u32, here as u32, setting) {
-        return false;
-    }
-    is_clear(s, at + 16 + 12 * here, 12 * (41 - here))
+    let header = Header {
+        number: k as u32,
+        count: count as u32,
+        here: here as u32,
+        setting: get_setting(s, 0),
+    };
+    header.stands(s, at) && is_clear(s, at + 16 + 12 * here, 12 * (41 - here))
 }

@@ -14,9 +14,7 @@ use Rattle.polynomial.proofs.TermLists.{terms-of}
 use Rattle.block.specs.Block.{number_at, weight_number, weights_of, block_count, blocks_of, setting_in}
 use Rattle.block.proofs.WeightLaws.{length-weights, weights-below, weights-positive, weights-back}
 use Rattle.blocks.specs.Reading.{terms_in, read_refusal}
-use Rattle.blocks.specs.declared.read.Reading.TheVariants as R
-use Rattle.blocks.specs.declared.write.Writing.TheVariants as W
-use Rattle.blocks.specs.Outcome.{write_refusal, WriteOutcome, write_stated, written_by, write_outcome, ReadOutcome, read_stated, read_by, read_outcome}
+use Rattle.blocks.specs.Outcome.{answer_read, answer_written, write_refusal, WriteOutcome, write_stated, written_by, write_outcome, ReadOutcome, read_stated, read_by, read_outcome}
 use Rattle.blocks.specs.Judgement.{write_conditions, read_conditions}
 use Rattle.blocks.proofs.WriteLaws.{write-refused}
 use Rattle.blocks.proofs.ReadLaws.{read-refused}
@@ -60,7 +58,7 @@ module _ (t : Setting) (ws cs bytes : List ℕ) where
     pub none-refused : write_refusal t ws cs (length bytes) ≡ 0
     none-refused = number_is ∙ done
 
-    pub demand-2-written : ◌≡◌ {A = WriteOutcome} wrote (record { answer = write_stated (W.Done (block_count (length (terms ws cs)))); bytes = blocks_of t (terms ws cs) ++ drop (length (blocks_of t (terms ws cs))) bytes })
+    pub demand-2-written : ◌≡◌ {A = WriteOutcome} wrote (record { answer = write_stated (answer_written (block_count (length (terms ws cs)))); bytes = blocks_of t (terms ws cs) ++ drop (length (blocks_of t (terms ws cs))) bytes })
     demand-2-written = ap (λ (r : ℕ). written_by r t (terms ws cs) bytes) none-refused
 
     -- the bytes that the answer counts are the blocks
@@ -72,7 +70,7 @@ module _ (t : Setting) (ws cs bytes : List ℕ) where
 
     -- Demand 2: "Stored blocks read back as the polynomial written". The blocks that were written are read as the same p, order, n and weights and the same terms; the rest of what is lent is not changed.
     pub demand-2-read-back : (ow oc : List ℕ) → length ow ≡ length oc → length ws ≤ length ow
-        → ◌≡◌ {A = ReadOutcome} (read_outcome (take (512 * wrote.answer.blocks) wrote.bytes) ow oc) (record { answer = read_stated (R.Done t.p t.order t.n (weight_number t.weights) (length ws)); ws = ws ++ drop (length ws) ow; cs = cs ++ drop (length ws) oc })
+        → ◌≡◌ {A = ReadOutcome} (read_outcome (take (512 * wrote.answer.blocks) wrote.bytes) ow oc) (record { answer = read_stated (answer_read t.p t.order t.n (weight_number t.weights) (length ws)); ws = ws ++ drop (length ws) ow; cs = cs ++ drop (length ws) oc })
     demand-2-read-back ow oc lent enough = ap (λ (l : List ℕ). read_outcome l ow oc) written-bytes ∙ written_read t ws cs ow oc (length bytes) none-refused lent enough
 
 -- ---- reading

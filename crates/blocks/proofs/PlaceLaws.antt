@@ -14,8 +14,8 @@ use Rattle.monomial.specs.declared.order.Order.{Order}
 use Rattle.monomial.specs.Words.{compare_words}
 use Rattle.polynomial.specs.Terms.{Term, term, words, coefs}
 use Rattle.polynomial.specs.Opening.{term_refusal, refusal_of}
-use Rattle.polynomial.specs.Checking.{Carried, unseen, verdict, late_after}
-use Rattle.polynomial.proofs.CheckingLaws.{Looked, look-start, look_stop, look-next, look-ends, stop-first, carry-whole}
+use Rattle.polynomial.specs.Checking.{Carried, unseen, verdict, carry_on, late_after}
+use Rattle.polynomial.proofs.CheckingLaws.{Looked, look-start, look_stop, look-next, look-ends, stop-first, carry-whole, late-six}
 use Rattle.merge_common.proofs.Lists.{sets-snoc}
 use Rattle.block.specs.Block.{number_at}
 use Rattle.block_form.specs.Form.{Lying}
@@ -105,6 +105,12 @@ module _ (o : Order) (n : ℕ) (vs : List ℕ) (p : ℕ) (s : List ℕ) (total :
   going-ends late seen last at i g h =
       ap (λ (c : Carried ℕ). verdict c) (look-ends (term_refusal o n vs p) (compare_words o) (unseen 0) (first_terms s total) i late seen last g.looked (omega (arith, length-first s total)))
       ∙ carry-whole (term_refusal o n vs p) (compare_words o) 0 (first_terms s total)
+
+  -- 6 is all that can be left then
+  pub going-six : (late : ℕ) (seen : Bool) (last at i : ℕ) → Going late seen last at i → total ≤ i → (late ≡ 0 → ⊥) → 6 ≡ refusal_of (term_refusal o n vs p) (compare_words o) (first_terms s total)
+  going-six late seen last at i g h f =
+      let e : late ≡ (carry_on (term_refusal o n vs p) (compare_words o) (unseen 0) (first_terms s total)).late = ap (λ (c : Carried ℕ). c.late) (look-ends (term_refusal o n vs p) (compare_words o) (unseen 0) (first_terms s total) i late seen last g.looked (omega (arith, length-first s total))) in
+      sym (e ∙ late-six (term_refusal o n vs p) (compare_words o) (unseen 0) (first_terms s total) refl (λ z. f (e ∙ z))) ∙ going-ends late seen last at i g h
 
 -- ---- the terms copied
 -- the first i terms are put

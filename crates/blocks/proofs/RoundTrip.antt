@@ -28,10 +28,9 @@ use Rattle.block.proofs.ByteLaws.{part-part}
 use Rattle.block.proofs.BlockLaws.{length-header, length-body}
 use Rattle.block.proofs.FieldLaws.{same_self, got-back, here_in, low-in, upper_in, order-in, n-in, weights-in}
 use Rattle.block.proofs.WeightLaws.{number-below, weights-back}
-use Rattle.blocks.specs.declared.read.Reading.TheVariants as R
 use Rattle.block_form.specs.Form.{all_below, whole_blocks, count_in, total_in, here_of, check_stands, checks_stand, stands_with, block_stands, blocks_stand, form_refusal_with, form_refusal}
 use Rattle.blocks.specs.Reading.{place_at, term_at, first_terms, terms_in, content_with, content_refusal, read_refusal}
-use Rattle.blocks.specs.Outcome.{write_refusal, ReadOutcome, read_stated, read_by, read_outcome}
+use Rattle.blocks.specs.Outcome.{answer_read, write_refusal, ReadOutcome, read_stated, read_by, read_outcome}
 use Rattle.block_form.proofs.FormLaws.{all_of, whole_is}
 use Rattle.blocks.proofs.PlaceLaws.{length-first, first-at}
 use Rattle.blocks.proofs.WriteLaws.{Writable, write-passes, length-blocks, terms_of-few, length-terms_of}
@@ -208,12 +207,12 @@ module _ (t : Setting) (ws cs : List ℕ) (room : ℕ) (w : Writable t ws cs roo
 
 -- What writing makes is read as the p, order, n and weights and the terms that were written; the rest of what is lent is not changed.
 pub written_read : (t : Setting) (ws cs ow oc : List ℕ) (room : ℕ) → write_refusal t ws cs room ≡ 0 → length ow ≡ length oc → length ws ≤ length ow
-    → ◌≡◌ {A = ReadOutcome} (read_outcome (blocks_of t (terms ws cs)) ow oc) (record { answer = read_stated (R.Done t.p t.order t.n (weight_number t.weights) (length ws)); ws = ws ++ drop (length ws) ow; cs = cs ++ drop (length ws) oc })
+    → ◌≡◌ {A = ReadOutcome} (read_outcome (blocks_of t (terms ws cs)) ow oc) (record { answer = read_stated (answer_read t.p t.order t.n (weight_number t.weights) (length ws)); ws = ws ++ drop (length ws) ow; cs = cs ++ drop (length ws) oc })
 written_read t ws cs ow oc room h lent enough =
     let w = write-passes t ws cs room h in
     let s = blocks_of t (terms ws cs) in
     let l = length-terms ws cs (sym w.lent) in
     ap (λ (r : ℕ). read_by r (setting_in s) (terms_in s) ow oc) (accepted t ws cs room w (length ow) (length oc) lent enough)
     ∙ (ap₂ (λ (u : Setting) (vs : List (Term ℕ)). read_by 0 u vs ow oc) (setting-is t ws cs room w) (terms-are t ws cs room w)
-    ∙ ap₂ (λ (n : ℕ) (x : List ℕ). record { answer = read_stated (R.Done t.p t.order t.n (weight_number t.weights) n); ws = x ++ drop n ow; cs = coefs (terms ws cs) ++ drop n oc }) l (words-terms ws cs (sym w.lent))
-    ∙ ap (λ (y : List ℕ). record { answer = read_stated (R.Done t.p t.order t.n (weight_number t.weights) (length ws)); ws = ws ++ drop (length ws) ow; cs = y ++ drop (length ws) oc }) (coefs-terms ws cs (sym w.lent)))
+    ∙ ap₂ (λ (n : ℕ) (x : List ℕ). record { answer = read_stated (answer_read t.p t.order t.n (weight_number t.weights) n); ws = x ++ drop n ow; cs = coefs (terms ws cs) ++ drop n oc }) l (words-terms ws cs (sym w.lent))
+    ∙ ap (λ (y : List ℕ). record { answer = read_stated (answer_read t.p t.order t.n (weight_number t.weights) (length ws)); ws = ws ++ drop (length ws) ow; cs = y ++ drop (length ws) oc }) (coefs-terms ws cs (sym w.lent)))

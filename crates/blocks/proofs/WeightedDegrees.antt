@@ -25,9 +25,8 @@ use Rattle.block.proofs.WeightLaws.{halves, half-bytes, length-weights}
 use Rattle.block_form.specs.Form.{form_refusal}
 use Rattle.block_form.specs.FirstKind.{first_kind_form}
 use Rattle.block_form.proofs.FirstKindLaws.{weighted-sixteen}
-use Rattle.blocks.specs.declared.read.Reading.TheVariants as R
 use Rattle.blocks.specs.Reading.{terms_in, content_with, content_refusal}
-use Rattle.blocks.specs.Outcome.{WriteOutcome, ReadOutcome, read_stated, read_by, read_outcome}
+use Rattle.blocks.specs.Outcome.{answer_refused, WriteOutcome, ReadOutcome, read_stated, read_by, read_outcome}
 use Rattle.blocks.specs.FirstKind.{first_kind_read, turned_away}
 use Rattle.blocks.proofs.WriteLaws.{write-passes}
 use Rattle.blocks.proofs.InsideLaws.{part_left}
@@ -94,7 +93,7 @@ module _ (bytes ow oc : List ℕ) (formed : form_refusal bytes (length ow) (leng
       go true e = absurd (other ((weights-good (setting_in bytes).n (setting_in bytes).weights e).beyond-one i (omega (arith, h, length-weights 6 (number_at 3 12 bytes))) beyond))
       go false e = e
 
-  pub beyond-twenty-four : (i : ℕ) → i < 6 → (setting_in bytes).n ≤ i → (get_or (setting_in bytes).weights i 0 ≡ 1 → ⊥) → ◌≡◌ {A = ReadOutcome} (read_outcome bytes ow oc) (record { answer = read_stated (R.Refused BadWeight 0); ws = ow; cs = oc })
+  pub beyond-twenty-four : (i : ℕ) → i < 6 → (setting_in bytes).n ≤ i → (get_or (setting_in bytes).weights i 0 ≡ 1 → ⊥) → ◌≡◌ {A = ReadOutcome} (read_outcome bytes ow oc) (record { answer = read_stated (answer_refused BadWeight 0); ws = ow; cs = oc })
   unfolding content_with
   beyond-twenty-four i h beyond other =
       let e : 24 ≡ setting (setting_in bytes) = no-weights (setting_in bytes) p.1 (prime-true (setting_in bytes).p p.0) (good-between 1 3 (setting_in bytes).order order) (good-between 1 most_variables (setting_in bytes).n n) (not_good i h beyond other) in

@@ -7,8 +7,7 @@ use Rattle.polynomial.specs.declared.setting.Setting.{Setting}
 use Rattle.opening.specs.Run.{unless}
 use Rattle.block_form.specs.FirstKind.{first_kind_bytes, first_kind_setting, first_kind_form}
 use Rattle.blocks.specs.Reading.{terms_in, content_with}
-use Rattle.blocks.specs.declared.read.Reading.TheVariants as R
-use Rattle.blocks.specs.Outcome.{write_refusal, WriteOutcome, written_with, ReadOutcome, read_stated, read_by}
+use Rattle.blocks.specs.Outcome.{answer_refused, write_refusal, WriteOutcome, written_with, ReadOutcome, read_stated, read_by}
 
 -- "p is a prime, 2 to 65,521.": over that limit 1, and else what is refused today
 abbrev pub limited : Setting → ℕ → ℕ
@@ -25,4 +24,4 @@ first_kind_read bytes ws cs = read_by (first_kind_refusal bytes (length ws) (len
 
 -- turned away with 16, and nothing is changed
 abbrev pub turned_away : (ws cs : List ℕ) → ReadOutcome
-turned_away ws cs = record { answer = read_stated (R.Refused BadBlock 0); ws = ws; cs = cs }
+turned_away ws cs = record { answer = read_stated (answer_refused BadBlock 0); ws = ws; cs = cs }

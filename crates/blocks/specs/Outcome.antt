@@ -1,17 +1,21 @@
 -- The outcomes of writing and of reading blocks (document 01, "Blocks" and "Refusals by cause"; document 02, "Weighted degrees."): the answer, and each lent slice that can change, from what came in. "Both change nothing on refusal, and no byte past their result." Assumes nothing.
-use Rattle.std.specs.Prelude.{ℕ, zero, suc, ◌*◌, Bool, ◌&&◌, List, ◌++◌, leb, eqb, length, drop}
+use Rattle.std.specs.Prelude.{ℕ, zero, suc, ◌*◌, Bool, ◌&&◌, List, ◌++◌, leb, eqb, length, drop, Result, Ok, Err}
 use Rattle.limits.specs.Limits.{most_terms, weight_count}
 use Rattle.refusal.specs.Table.{number_of}
+use Rattle.refusal.specs.declared.Refusal.{Refusal}
+use Rattle.refusal.specs.declared.Refused.{Refused}
 use Rattle.polynomial.specs.Terms.{Term, terms, words, coefs}
 use Rattle.polynomial.specs.Opening.{first, polynomial_refusal}
 use Rattle.opening.specs.Run.{unless, setting}
 use Rattle.polynomial.specs.declared.setting.Setting.{Setting}
 use Rattle.block.specs.Block.{block_count, weight_number, setting_bytes, blocks_with, setting_in}
 use Rattle.blocks.specs.Reading.{terms_in, read_refusal}
-use Rattle.blocks.specs.declared.write.Writing.{Writing}
-use Rattle.blocks.specs.declared.write.Writing.TheVariants as W
-use Rattle.blocks.specs.declared.read.Reading.{Reading}
-use Rattle.blocks.specs.declared.read.Reading.TheVariants as R
+use Rattle.blocks.specs.declared.write.Written.{Written}
+use Rattle.blocks.specs.declared.read.Read.{Read}
+
+-- an answer that is a refusal, with so many operations finished
+abbrev pub answer_refused : {A : Type 0} → Refusal → (finished : ℕ) → Result A Refused
+answer_refused refusal finished = Err (record { refusal = refusal; finished = finished })
 
 -- ---- writing
 
@@ -34,9 +38,12 @@ pub record WriteStated : Type 0 where
   pub finished : ℕ
   pub blocks : ℕ
 
-abbrev pub write_stated : Writing → WriteStated
-write_stated (W.Done blocks) = record { number = 0; finished = 0; blocks = blocks }
-write_stated (W.Refused refusal finished) = record { number = number_of refusal; finished = finished; blocks = 0 }
+abbrev pub answer_written : (blocks : ℕ) → Result Written Refused
+answer_written blocks = Ok (record { blocks = blocks })
+
+abbrev pub write_stated : Result Written Refused → WriteStated
+write_stated (Ok w) = record { number = 0; finished = 0; blocks = w.blocks }
+write_stated (Err r) = record { number = number_of r.refusal; finished = r.finished; blocks = 0 }
 
 pub record WriteOutcome : Type 0 where
   pub answer : WriteStated
@@ -65,9 +72,12 @@ pub record ReadStated : Type 0 where
   pub weights : ℕ
   pub terms : ℕ
 
-abbrev pub read_stated : Reading → ReadStated
-read_stated (R.Done p order n weights terms) = record { number = 0; finished = 0; p = p; order = order; n = n; weights = weights; terms = terms }
-read_stated (R.Refused refusal finished) = record { number = number_of refusal; finished = finished; p = 0; order = 0; n = 0; weights = 0; terms = 0 }
+abbrev pub answer_read : (p order n weights terms : ℕ) → Result Read Refused
+answer_read p order n weights terms = Ok (record { p = p; order = order; n = n; weights = weights; terms = terms })
+
+abbrev pub read_stated : Result Read Refused → ReadStated
+read_stated (Ok t) = record { number = 0; finished = 0; p = t.p; order = t.order; n = t.n; weights = t.weights; terms = t.terms }
+read_stated (Err r) = record { number = number_of r.refusal; finished = r.finished; p = 0; order = 0; n = 0; weights = 0; terms = 0 }
 
 pub record ReadOutcome : Type 0 where
   pub answer : ReadStated

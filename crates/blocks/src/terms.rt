@@ -1,18 +1,20 @@
 // The terms in blocks: where they lie, their opening check, and their copies.
 ghost use Rattle.std.specs.Prelude.{◌≡◌, ◌+◌, ◌≤◌, ◌<◌, length};
 ghost use Rattle.std.proofs.lemmas.List.Edits.{sets};
+ghost use Rattle.refusal.specs.Table.{refusal_in};
 ghost use Rattle.polynomial.specs.Settings.{Testable};
 ghost use Rattle.polynomial.specs.Terms.{words, coefs};
 ghost use Rattle.polynomial.specs.Opening.{polynomial_refusal};
 ghost use Rattle.block_form.specs.Form.{Lying};
 ghost use Rattle.blocks.specs.Reading.{next_place, first_terms};
 
-use block::number::{get_4, get_8};
+use block::number::{get_number, get_word};
 use monomial::exponents::weight_word;
 use monomial::layout::beyond_bits;
 use monomial::order::order_of;
 use polynomial::check::{check_fall, check_term};
 use polynomial::setting::Setting;
+use refusal::Refusal;
 
 // The place after the one at `at`.
 fn next_place(at: usize) -> usize
@@ -26,11 +28,12 @@ fn next_place(at: usize) -> usize
     }
 }
 
-// The refusal of the terms as a polynomial in a setting: the first place with 4 or 5, and else 6 where
-// they do not fall. One pass over the places.
-pub fn check_terms(t: Setting, s: &[u8], total: usize) -> u32
+// Checks the terms as a polynomial in a setting: the first place with 4 or 5, and else 6 where they do
+// not fall. One pass over the places.
+// Kept: what may not change: `check_fall` takes and gives the number in `late`, 0 or 6.
+pub fn check_terms(t: Setting, s: &[u8], total: usize) -> Result<(), Refusal>
     requires { Testable t × Lying s.now total }
-    ensures { result ≡ polynomial_refusal t (first_terms s.now total) }
+    ensures { refusal_in result ≡ polynomial_refusal t (first_terms s.now total) }
 {
     let order = order_of(t.order);
     let n = t.n;
@@ -38,24 +41,24 @@ pub fn check_terms(t: Setting, s: &[u8], total: usize) -> u32
     let six = t.weights;
     let beyond = beyond_bits(order, n);
     let weights = weight_word(order, &six);
-    let mut late: u32 = 0;
+    let mut late = 0;
     let mut seen = false;
-    let mut last: u64 = 0;
+    let mut last = 0;
     let mut at = 16;
-    let mut i = 0;
-    while i < total {
-        let word = get_8(s, at);
+    for i in 0..total {
+        let word = get_word(s, at);
         late = check_fall(order, seen, last, word, late);
         seen = true;
         last = word;
-        let stop = check_term(beyond, weights, p, word, get_4(s, at + 8));
-        if stop != 0 {
-            return stop;
-        }
+        let coef = get_number::<4>(s, at + 8) as u32;
+        check_term(beyond, weights, p, word, coef)?;
         at = next_place(at);
-        i += 1;
     }
-    late
+    if late == 0 {
+        Ok(())
+    } else {
+        Err(Refusal::NotFalling)
+    }
 }
 
 // Puts the terms into the lent words and coefficients.
@@ -64,11 +67,9 @@ pub fn get_terms(s: &[u8], total: usize, ow: &mut [u64], oc: &mut [u32])
     ensures { (ow.new ≡ sets ow.old 0 (words (first_terms s.now total))) × (oc.new ≡ sets oc.old 0 (coefs (first_terms s.now total))) }
 {
     let mut at = 16;
-    let mut i = 0;
-    while i < total {
-        ow[i] = get_8(s, at);
-        oc[i] = get_4(s, at + 8);
+    for i in 0..total {
+        ow[i] = get_word(s, at);
+        oc[i] = get_number::<4>(s, at + 8) as u32;
         at = next_place(at);
-        i += 1;
     }
 }

@@ -2,6 +2,7 @@
 ghost use Rattle.std.specs.Prelude.{◌≡◌, ◌*◌, ◌≤◌, length};
 ghost use Rattle.std.proofs.lemmas.List.Edits.{sets};
 ghost use Rattle.limits.specs.Limits.{most_terms};
+ghost use Rattle.refusal.specs.Table.{refusal_in};
 ghost use Rattle.polynomial.specs.Settings.{setting_of};
 ghost use Rattle.polynomial.specs.Terms.{terms};
 ghost use Rattle.block.specs.Block.{block_count, first_blocks};
@@ -13,14 +14,16 @@ use limits::{MOST_TERMS, WEIGHTS};
 use opening::setting::setting;
 use polynomial::check::check;
 use polynomial::setting::{Setting, setting_of};
-use refusal::{Refusal, refusal_of};
+use refusal::{Refusal, Refused};
 
-// The blocks are written, so many; or the polynomial is refused, with nothing changed.
-#[derive(Clone, Copy)]
-pub enum Writing {
-    Done { blocks: u64 },
-    Refused { refusal: Refusal, finished: u64 },
+// How many blocks were written.
+#[derive(Clone, Copy, Debug, PartialEq, Eq)]
+pub struct Written {
+    pub blocks: u64,
 }
+
+// The blocks are written; or the polynomial is refused, with nothing changed.
+pub type Writing = Result<Written, Refused>;
 
 // Writes the blocks of a polynomial to the first bytes of the slice.
 pub fn write_blocks(
@@ -36,23 +39,17 @@ pub fn write_blocks(
         (record { answer = write_stated result; bytes = s.new })
         (write_outcome (setting_of p order n weights.now) words.now coefs.now s.old) }
 {
-    let number = write_refusal(p, order, n, weights, words, coefs, s.len());
-    if number != 0 {
-        return Writing::Refused {
-            refusal: refusal_of(number),
-            finished: 0,
-        };
-    }
+    write_refusal(p, order, n, weights, words, coefs, s.len())?;
     let count = block_count(words.len());
     let t = setting_of(p, order, n, weights);
     put_blocks(t, words, coefs, count, s);
-    Writing::Done {
+    Ok(Written {
         blocks: count as u64,
-    }
+    })
 }
 
-// The refusal of a polynomial with room for so many bytes, 0 for none: 1 to 3, 24, 8, 4 to 6,
-// 11, 10.
+// Checks a polynomial with room for so many bytes: 1 to 3, 24, 8, 4 to 6, 11, 10.
+// Kept: no plainer: a `Setting` has six weights, and here their number is still to be tested.
 fn write_refusal(
     p: u32,
     order: u32,
@@ -61,32 +58,25 @@ fn write_refusal(
     words: &[u64],
     coefs: &[u32],
     room: usize,
-) -> u32
-    ensures { result ≡ write_refusal (setting_of p order n weights.now) words.now coefs.now room }
+) -> Result<(), Refusal>
+    ensures { refusal_in result ≡ write_refusal (setting_of p order n weights.now) words.now coefs.now room }
 {
-    let number = setting(p, order, n, weights);
-    if number != 0 {
-        return number;
-    }
+    setting(p, order, n, weights)?;
     if weights.len() != WEIGHTS {
-        return 8;
+        return Err(Refusal::BadShape);
     }
     if words.len() != coefs.len() {
-        return 8;
+        return Err(Refusal::BadShape);
     }
     let t = setting_of(p, order, n, weights);
-    let number = check(t, words, coefs);
-    if number != 0 {
-        return number;
-    }
+    check(t, words, coefs)?;
     if MOST_TERMS < words.len() {
-        return 11;
+        return Err(Refusal::TooManyTerms);
     }
     if room < 512 * block_count(words.len()) {
-        10
-    } else {
-        0
+        return Err(Refusal::NoOutput);
     }
+    Ok(())
 }
 
 // Puts all blocks of the polynomial from place 0 on.
@@ -94,8 +84,7 @@ fn put_blocks(t: Setting, words: &[u64], coefs: &[u32], count: usize, s: &mut [u
     requires { (length coefs.now ≡ length words.now) × (length words.now ≤ most_terms) × (count ≡ block_count (length words.now)) × (512 * count ≤ length s.old) }
     ensures { s.new ≡ sets s.old 0 (first_blocks count t (terms words.now coefs.now) count) }
 {
-    let mut k = 0;
-    while k < count {
+    for k in 0..count {
         let from = 41 * k;
         let to = from + here_of(words.len(), k);
         put_block(
@@ -107,6 +96,5 @@ fn put_blocks(t: Setting, words: &[u64], coefs: &[u32], count: usize, s: &mut [u
             s,
             512 * k,
         );
-        k += 1;
     }
 }

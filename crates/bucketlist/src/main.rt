@@ -6,7 +6,7 @@ ghost use Rattle.std.specs.Io.KnownBytes.{Consumes, IsAtEnd};
 ghost use Rattle.std.specs.Prelude.{◌≡◌, ◌<◌, ◌≤◌, IfOk, length, take};
 
 use limits::LISTING_BYTES;
-use listing::entry::{Listed, listing};
+use listing::entry::listing;
 use std::io;
 use std::io::{Error, Read};
 
@@ -18,8 +18,7 @@ fn main(rt: HostRuntime) -> io::Result<()> {
         Err(error) => return fail(&rt, "standard input", error),
     };
     let mut out = [0u8; LISTING_BYTES];
-    let listed = listing(&script[..bytes], &mut out);
-    let Listed::Written(length) = listed else {
+    let Ok(length) = listing(&script[..bytes], &mut out) else {
         return Ok(());
     };
     write_listing(&rt, &out, length)
@@ -36,6 +35,8 @@ fn read_input<R: Read>(input: &mut R, bytes: &mut [u8]) -> io::Result<usize>
     ensures end { IfOk result (λ n. n < 16385 → IsAtEnd (R.remaining input.new)) }
 {
     let mut done: usize = 0;
+    // Kept: the loop counts the bytes, since `read_exact` takes no shorter input, and the other methods of
+    // `Read` fill no lent slice.
     while done < bytes.len() {
         let more = input.read(&mut bytes[done..])?;
         if more == 0 {

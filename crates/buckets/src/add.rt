@@ -44,6 +44,7 @@ pub fn add_polynomial(
 
 // The same where polynomials are mostly small, as in runs. A large one is handed on, so that the array for
 // its keys is not in this function's frame, of which each page is touched at each call.
+// Kept: no twin of add_polynomial, since where the large array stands is all that it is for.
 pub fn add_mostly_small(
     order: Order,
     p: u32,
@@ -79,7 +80,7 @@ fn put_and_add(
     requires { WordAddition order p (spaces b.old ww.old wc.old sw.old sc.old) fw.now fc.now × Slices ww.old wc.old sw.old sc.old × (length fw.now ≤ most_small) }
     ensures { Added order p (spaces b.old ww.old wc.old sw.old sc.old) (terms fw.now fc.now) (spaces b.new ww.new wc.new sw.new sc.new) result }
 {
-    put_terms(order, fw, fc, ww, wc, FREE);
+    put_terms::<u64>(order, fw, fc, ww, wc, FREE);
     add_small(p, b, fw.len(), sw, sc, ww, wc)
 }
 
@@ -97,7 +98,7 @@ fn add_large(
     ensures { LastMerged p b.old (terms (map (key_of order) fw.now) fc.now) (last_at b.old sw.old sc.old) sw.new sc.new b.new result × (map (from_key order) (map (key_of order) fw.now) ≡ fw.now) }
 {
     let mut keys = [0u64; MOST_TERMS];
-    put_keys(order, fw, &mut keys, 0);
+    put_keys::<u64>(order, fw, &mut keys, 0);
     let n = fw.len();
     merge_last(p, b, &keys[0..n], fc, sw, sc)
 }

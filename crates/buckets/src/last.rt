@@ -21,7 +21,7 @@ pub fn merge_last(
 {
     let n = len_of(b, 5);
     let h = make_room(head_of(b, 5) - WORK_PLACES, n, fw.len(), sw, sc);
-    let m = merge_into(p, fw, fc, sw, sc, h, h + n);
+    let m = merge_into::<u64>(p, fw, fc, sw, sc, h, h + n);
     place(b, 5, WORK_PLACES + m.head, m.len);
     m.comparisons
 }
@@ -35,5 +35,5 @@ fn make_room(h: usize, n: usize, more: usize, sw: &mut [u64], sc: &mut [u32]) ->
     if h >= LAST_START + more {
         return h;
     }
-    close_gap(sw, sc, h, h + n, BUCKET_PLACES)
+    close_gap::<u64>(sw, sc, h, h + n, BUCKET_PLACES)
 }

@@ -50,23 +50,21 @@ fn sum_areas(p: u32, b: &[usize], ww: &mut [u64], wc: &mut [u32]) -> Summed
     let mut from = 0;
     let mut len = 0;
     let mut n: u64 = 0;
-    let mut i = 0;
-    while i < 5 {
+    for i in 0..5 {
         let h = head_of(b, i);
         let held = len_of(b, i);
         if held == 0 {
-            i += 1;
-        } else if len == 0 {
+            continue;
+        }
+        if len == 0 {
             from = h;
             len = held;
-            i += 1;
-        } else {
-            let m = merge_areas(p, ww, wc, from, len, h, held, side_of(b, i));
-            from = m.head;
-            len = m.len;
-            n += m.comparisons;
-            i += 1;
+            continue;
         }
+        let m = merge_areas::<u64>(p, ww, wc, from, len, h, held, side_of(b, i));
+        from = m.head;
+        len = m.len;
+        n += m.comparisons;
     }
     Summed {
         from,

@@ -30,14 +30,14 @@ pub fn merge_up(
     let n = len_of(b, l.bucket);
     let to = side_of(b, l.bucket);
     if n == 0 {
-        move_terms(ww, wc, from, to, len);
+        move_terms::<u64>(ww, wc, from, to, len);
         return Placed {
             head: to,
             len,
             comparisons: 0,
         };
     }
-    merge_areas(p, ww, wc, from, len, head_of(b, l.bucket), n, to)
+    merge_areas::<u64>(p, ww, wc, from, len, head_of(b, l.bucket), n, to)
 }
 
 // The other one of the two areas of bucket l.

@@ -1,5 +1,5 @@
 -- What a call answers and leaves. Assumes nothing.
-use Rattle.std.specs.Prelude.{ℕ, zero, suc, List, ◌++◌, map, length, drop, replicate}
+use Rattle.std.specs.Prelude.{ℕ, zero, suc, Result, Ok, Err, List, ◌++◌, map, length, drop, replicate}
 use Rattle.limits.specs.Limits.{work_places}
 use Rattle.refusal.specs.Table.{number_of}
 use Rattle.polynomial.specs.Terms.{Term}
@@ -7,8 +7,8 @@ use Rattle.polynomial.specs.Terms as T
 use Rattle.space.specs.Space.{Buckets, held_in, laid_out}
 use Rattle.call.specs.declared.state.State.{State}
 use Rattle.call.specs.declared.answer.Tally.{Tally}
-use Rattle.call.specs.declared.answer.Answer.{Answer}
-use Rattle.call.specs.declared.answer.Answer.TheVariants.{Done, Refused}
+use Rattle.call.specs.declared.answer.Done.{Done}
+use Rattle.call.specs.declared.answer.Stopped.{Stopped}
 use Rattle.call.specs.States.{stop_of}
 
 -- "When an answer is an enum, a definition states this paper's number and values for each of its cases": the refusal's number, 0 for none, "how many operations (or leads) were finished", and the output places written
@@ -17,9 +17,9 @@ pub record Stated : Type 0 where
   pub finished : ℕ
   pub places : ℕ
 
-abbrev pub stated : Answer → Stated
-stated (Done finished places) = record { number = 0; finished = finished; places = places }
-stated (Refused refusal finished places) = record { number = number_of refusal; finished = finished; places = places }
+abbrev pub stated : Result Done Stopped → Stated
+stated (Ok d) = record { number = 0; finished = d.finished; places = d.places }
+stated (Err s) = record { number = number_of s.refusal; finished = s.finished; places = s.places }
 
 -- an opening refusal
 abbrev pub opening_refused : (number : ℕ) → Stated

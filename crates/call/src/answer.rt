@@ -1,11 +1,11 @@
 // What a call answers, with its counts.
-ghost use Rattle.std.specs.Prelude.{◌≡◌, true};
-ghost use Rattle.refusal.specs.Table.{listed};
+ghost use Rattle.std.specs.Prelude.{◌≡◌};
+ghost use Rattle.refusal.specs.Table.{number_of};
 ghost use Rattle.space.specs.Space.{Laid};
 ghost use Rattle.call.specs.Answers.{stated, stated_of, opening_refused, tally_in};
 
 use crate::state::{Course, State};
-use refusal::{Refusal, refusal_of};
+use refusal::Refusal;
 use space::state::held;
 
 // The four counts of a call.
@@ -18,20 +18,22 @@ pub struct Tally {
     pub held: u64,
 }
 
-// A call is done; or it is refused, at its opening or on its way. Both give the operations (or leads)
-// finished and the output places written.
+// A call that is done: the operations (or leads) finished, and the output places written.
 #[derive(Clone, Copy)]
-pub enum Answer {
-    Done {
-        finished: u64,
-        places: u64,
-    },
-    Refused {
-        refusal: Refusal,
-        finished: u64,
-        places: u64,
-    },
+pub struct Done {
+    pub finished: u64,
+    pub places: u64,
 }
+
+// A call that a refusal stopped, at its opening or on its way, with what it had done by then.
+#[derive(Clone, Copy)]
+pub struct Stopped {
+    pub refusal: Refusal,
+    pub finished: u64,
+    pub places: u64,
+}
+
+pub type Answer = Result<Done, Stopped>;
 
 #[derive(Clone, Copy)]
 pub struct Returned {
@@ -40,15 +42,14 @@ pub struct Returned {
 }
 
 // What an opening refusal gives: nothing is finished or written, and the old counts come back.
-pub fn refused(number: u32, tally: Tally) -> Returned
-    requires { listed number ≡ true }
-    ensures { (stated result.answer ≡ opening_refused number) × (result.tally ≡ tally) }
+pub fn refused(refusal: Refusal, tally: Tally) -> Returned
+    ensures { (stated result.answer ≡ opening_refused (number_of refusal)) × (result.tally ≡ tally) }
 {
-    let answer = Answer::Refused {
-        refusal: refusal_of(number),
+    let answer = Err(Stopped {
+        refusal,
         finished: 0,
         places: 0,
-    };
+    });
     Returned { answer, tally }
 }
 
@@ -73,14 +74,12 @@ fn answered(s: State) -> Answer
 {
     let finished = s.finished;
     let places = s.places as u64;
-    let course = s.course;
-    match course {
-        Course::Going => Answer::Done { finished, places },
-        Course::Finished => Answer::Done { finished, places },
-        Course::Refused(refusal) => Answer::Refused {
+    match s.course {
+        Course::Going | Course::Finished => Ok(Done { finished, places }),
+        Course::Refused(refusal) => Err(Stopped {
             refusal,
             finished,
             places,
-        },
+        }),
     }
 }

@@ -94,25 +94,13 @@ impl State {
     fn turn(self, course: Course) -> Self
         ensures { result ≡ turned self course }
     {
-        State {
-            comparisons: self.comparisons,
-            brought: self.brought,
-            given: self.given,
-            places: self.places,
-            finished: self.finished,
-            course,
-        }
+        State { course, ..self }
     }
 
     // Whether the call goes on.
     pub fn goes_on(self) -> bool
         ensures { result ≡ goes_on self.course }
     {
-        let course = self.course;
-        match course {
-            Course::Going => true,
-            Course::Finished => false,
-            Course::Refused(_) => false,
-        }
+        matches!(self.course, Course::Going)
     }
 }

@@ -1,52 +1,18 @@
--- The divisors: what the loop over them keeps, and what divisors that pass are. Assumes nothing.
-use mathlib.Core.Path.{◌≡◌, refl, sym, ap, ◌∙◌}
-use mathlib.Core.Bool.{Bool, true, false, ◌&&◌}
+-- The divisors: what divisors that pass are, and their test by the order of the starts. Assumes nothing.
+use mathlib.Core.Path.{◌≡◌, refl, sym, ap}
+use mathlib.Core.Bool.{Bool, true, false}
 use mathlib.Core.List.{List, [], ◌∷◌}
 use Prim.Native.Nat.{ℕ, zero, suc, ◌+◌, ◌-◌, ◌<◌, ◌≤◌}
 use native.Mathlib.Numerals.{add-one}
 use native.Mathlib.Omega.{arith}
-use borrow.Author.Tests.{le-leb, lt-leb, leb-true, lt-ltb}
+use borrow.Author.Tests.{leb-true, lt-ltb, ltb-true}
 use lib.Dec.{ltb}
-use lib.ListN.{length, get_or, drop, length-drop}
-use lib.Seq.{drop-cons}
+use lib.ListN.{length, get_or, take, drop, length-drop}
+use lib.Seq.{take_all}
+use Rattle.std.specs.List.{IsAllAdjacentAnswer}
 use Rattle.monomial.proofs.Places.{and_both}
 use Rattle.conditions.specs.Divisors.{none_zero, divisors_good}
-use Rattle.conditions.proofs.Tests.{both}
-
--- the polynomials from 1 up to k are not zero: the others decide
-pub record Looked (ss : List ℕ) (k : ℕ) : Type 0 where
-  pub few : k ≤ length ss + 1
-  pub rest : none_zero (drop k ss) ≡ divisors_good ss
-
-pub looked-start : (ss : List ℕ) → Looked ss 1
-looked-start ss = record { few = omega arith; rest = refl }
-
-module _ (ss : List ℕ) (k : ℕ) (r : Looked ss k) where
-  module _ (inside : k + 1 < length ss) where
-    at-k : (ltb (get_or ss k 0) (get_or ss (k + 1) 0) && none_zero (drop (k + 1) ss)) ≡ divisors_good ss
-    unfolding none_zero
-    at-k =
-        let a = drop-cons ss k 0 (omega arith) in
-        let b : drop (suc k) ss ≡ get_or ss (k + 1) 0 ∷ drop (suc (k + 1)) ss = ap (λ (n : ℕ). drop n ss) (sym (add-one k)) ∙ drop-cons ss (k + 1) 0 inside in
-        sym (ap none_zero (a ∙ ap (λ (x : List ℕ). get_or ss k 0 ∷ x) b) ∙ ap (λ (x : List ℕ). ltb (get_or ss k 0) (get_or ss (k + 1) 0) && none_zero x) (sym (drop-cons ss (k + 1) 0 inside))) ∙ r.rest
-
-    pub looked-zero : get_or ss (k + 1) 0 ≤ get_or ss k 0 → false ≡ divisors_good ss
-    looked-zero h = sym (ap (λ (b : Bool). b && none_zero (drop (k + 1) ss)) (lt-leb (suc (get_or ss k 0)) (get_or ss (k + 1) 0) (omega arith))) ∙ at-k
-
-    pub looked-next : get_or ss k 0 < get_or ss (k + 1) 0 → Looked ss (k + 1)
-    looked-next h = record { few = omega arith; rest = sym (ap (λ (b : Bool). b && none_zero (drop (k + 1) ss)) (le-leb (suc (get_or ss k 0)) (get_or ss (k + 1) 0) h)) ∙ at-k }
-
-  pub looked-all : length ss ≤ k + 1 → true ≡ divisors_good ss
-  unfolding none_zero
-  looked-all h = sym (short (drop k ss) (omega (arith, lib-drop))) ∙ r.rest
-    where
-      lib-drop : length (drop k ss) ≡ length ss - k
-      lib-drop = length-drop k ss
-
-      short : (l : List ℕ) → length l ≤ 1 → none_zero l ≡ true
-      short [] q = refl
-      short (a ∷ []) q = refl
-      short (a ∷ (b ∷ l)) q = absurd (let z : ⊥ = omega arith in z)
+use Rattle.conditions.proofs.Tests.{both, clash}
 
 -- ---- what passes
 rising : (ss : List ℕ) → none_zero ss ≡ true → (k : ℕ) → k + 1 < length ss → get_or ss k 0 < get_or ss (suc k) 0
@@ -73,3 +39,23 @@ unfolding none_zero
 rise-good [] h = refl
 rise-good (s ∷ []) h = refl
 rise-good (s ∷ (t ∷ ss)) h = rise-none t ss (λ k l. let q = h (suc k) (omega arith) (omega (arith, l)) in let e : get_or (s ∷ (t ∷ ss)) (suc k + 1) 0 ≡ get_or ss k 0 = ap (λ (j : ℕ). get_or (s ∷ (t ∷ ss)) j 0) (add-one (suc k)) in omega (arith, q, e))
+
+-- ---- the test by the order of the starts
+pub no-starts : (ss : List ℕ) → length ss ≡ 0 → true ≡ divisors_good ss
+unfolding none_zero
+no-starts [] h = refl
+no-starts (s ∷ ss) h = absurd (let z : ⊥ = omega arith in z)
+
+pub sorted-zero : (ss : List ℕ) (r : Bool) → IsAllAdjacentAnswer (λ x y b. b ≡ ltb x y) ss r → r ≡ none_zero ss
+unfolding none_zero
+sorted-zero [] true h = refl
+sorted-zero (s ∷ ss) true h = sym (rise-none s ss (λ k l. let e : get_or (s ∷ ss) (k + 1) 0 ≡ get_or ss k 0 = ap (λ (j : ℕ). get_or (s ∷ ss) j 0) (add-one k) in omega (arith, ltb-true (get_or (s ∷ ss) k 0) (get_or (s ∷ ss) (k + 1) 0) (sym (h k 0 l)), e)))
+sorted-zero ss false h = by (none_zero ss) refl
+  where
+    by : (b : Bool) → none_zero ss ≡ b → false ≡ b
+    by false e = refl
+    by true e = absurd (clash (sym (h.2 0)) (lt-ltb (get_or ss h.0 0) (get_or ss (h.0 + 1) 0) (rw (add-one h.0) (rising ss e h.0 h.1))))
+
+-- the starts behind the first, as a part up to the end
+pub behind-first : (ss : List ℕ) → none_zero (take (length ss - 1) (drop 1 ss)) ≡ divisors_good ss
+behind-first ss = ap none_zero (take_all (length ss - 1) (drop 1 ss) (omega (arith, length-drop 1 ss)))

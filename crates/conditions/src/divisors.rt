@@ -6,12 +6,5 @@ ghost use Rattle.conditions.specs.Divisors.{divisors_good};
 pub fn divisors_good(starts: &[usize]) -> bool
     ensures { result ≡ divisors_good starts.now }
 {
-    let mut k = 1;
-    while k + 1 < starts.len() {
-        if starts[k + 1] <= starts[k] {
-            return false;
-        }
-        k += 1;
-    }
-    true
+    starts.is_empty() || starts[1..].is_sorted_by(|from, to| from < to)
 }

@@ -6,28 +6,21 @@ ghost use Rattle.conditions.specs.Operations.{operation_good, operations_good};
 pub fn operations_good(ops: &[usize], polynomials: usize) -> bool
     ensures { result ≡ operations_good ops.now polynomials }
 {
-    let mut i = 0;
-    while 1 < ops.len() - i {
-        if !operation_good(ops[i], ops[i + 1], polynomials) {
-            return false;
-        }
-        i += 2;
-    }
-    i == ops.len()
+    let (pairs, left) = ops.as_chunks::<2>();
+    left.is_empty()
+        && pairs
+            .iter()
+            .all(|pair| operation_good(pair[0], pair[1], polynomials))
 }
 
 // Whether the pair is (1, k) with polynomial k there, (2, 0) or (3, 0).
+#[tactic(auto, unfolding(crate::specs::Operations::operation_good))]
 fn operation_good(code: usize, k: usize, polynomials: usize) -> bool
     ensures { result ≡ operation_good code k polynomials }
 {
-    if code == 1 {
-        return k < polynomials;
+    match code {
+        1 => k < polynomials,
+        2 | 3 => k == 0,
+        _ => false,
     }
-    if k != 0 {
-        return false;
-    }
-    if code == 2 {
-        return true;
-    }
-    code == 3
 }

@@ -3,7 +3,7 @@ ghost use Rattle.std.specs.Prelude.{◌≡◌};
 ghost use Rattle.listing.specs.Outcome.{ListingOutcome, listing_outcome};
 ghost use Rattle.answers.specs.Lister.{listing_answered};
 
-use answers::lister::{ListingAnswer, of_listing};
+use answers::lister::ListingAnswer;
 use listing::entry::listing;
 
 // The entry `listing::listing`.
@@ -14,5 +14,5 @@ pub extern "C" fn damselbuckle_listing(script: &[u8], out: &mut [u8]) -> Listing
         (listing_outcome script.now out.old) }
 {
     let listed = listing(script, out);
-    of_listing(listed)
+    ListingAnswer::from(listed)
 }

@@ -5,7 +5,7 @@ ghost use Rattle.call.specs.Answers.{Outcome};
 ghost use Rattle.answers.specs.Course.{reduction_stated};
 ghost use Rattle.reduction_outcome.specs.Outcome.{reduction_outcome};
 
-use answers::course::{ReductionAnswer, ReductionNumbers, of_reduction};
+use answers::course::ReductionAnswer;
 use call::answer::Tally;
 use reductions::reduce;
 
@@ -33,37 +33,9 @@ pub extern "C" fn damselbuckle_reduce<'t, 'a>(
         (record { answer = reduction_stated result; tally = tally.new; bw = bw.new; bc = bc.new; ww = ww.new; wc = wc.new; ow = ow.new; oc = oc.new })
         (reduction_outcome tally.old (setting_of p order n weights.now) words.now coefs.now starts.now limit bw.old bc.old ww.old wc.old ow.old oc.old) }
 {
-    let reduced = reduction_numbers(
+    let reduced = reduce(
         *tally, p, order, n, weights, words, coefs, starts, limit, bw, bc, ww, wc, ow, oc,
     );
     *tally = reduced.tally;
-    reduced.answer
-}
-
-// The same, with the counts by value.
-pub fn reduction_numbers<'a>(
-    tally: Tally,
-    p: u32,
-    order: u32,
-    n: u32,
-    weights: &[u32],
-    words: &'a [u64],
-    coefs: &'a [u32],
-    starts: &[usize],
-    limit: u64,
-    bw: &mut [u64],
-    bc: &mut [u32],
-    ww: &mut [u64],
-    wc: &mut [u32],
-    ow: &mut [u64],
-    oc: &mut [u32],
-) -> ReductionNumbers
-    ensures { ◌≡◌ {A = Outcome}
-        (record { answer = reduction_stated result.answer; tally = result.tally; bw = bw.new; bc = bc.new; ww = ww.new; wc = wc.new; ow = ow.new; oc = oc.new })
-        (reduction_outcome tally (setting_of p order n weights.now) words.now coefs.now starts.now limit bw.old bc.old ww.old wc.old ow.old oc.old) }
-{
-    let reduced = reduce(
-        tally, p, order, n, weights, words, coefs, starts, limit, bw, bc, ww, wc, ow, oc,
-    );
-    of_reduction(reduced)
+    ReductionAnswer::from(reduced.answer)
 }

@@ -5,7 +5,7 @@ ghost use Rattle.call.specs.Answers.{Outcome};
 ghost use Rattle.answers.specs.Course.{run_stated};
 ghost use Rattle.run_outcome.specs.Outcome.{run_outcome};
 
-use answers::course::{RunAnswer, RunNumbers, of_run};
+use answers::course::RunAnswer;
 use call::answer::Tally;
 use runs::run;
 
@@ -33,37 +33,9 @@ pub extern "C" fn damselbuckle_run<'t, 'a>(
         (record { answer = run_stated result; tally = tally.new; bw = bw.new; bc = bc.new; ww = ww.new; wc = wc.new; ow = ow.new; oc = oc.new })
         (run_outcome tally.old (setting_of p order n weights.now) words.now coefs.now starts.now ops.now bw.old bc.old ww.old wc.old ow.old oc.old) }
 {
-    let ran = run_numbers(
+    let ran = run(
         *tally, p, order, n, weights, words, coefs, starts, ops, bw, bc, ww, wc, ow, oc,
     );
     *tally = ran.tally;
-    ran.answer
-}
-
-// The same, with the counts by value.
-pub fn run_numbers<'a>(
-    tally: Tally,
-    p: u32,
-    order: u32,
-    n: u32,
-    weights: &[u32],
-    words: &'a [u64],
-    coefs: &'a [u32],
-    starts: &[usize],
-    ops: &[usize],
-    bw: &mut [u64],
-    bc: &mut [u32],
-    ww: &mut [u64],
-    wc: &mut [u32],
-    ow: &mut [u64],
-    oc: &mut [u32],
-) -> RunNumbers
-    ensures { ◌≡◌ {A = Outcome}
-        (record { answer = run_stated result.answer; tally = result.tally; bw = bw.new; bc = bc.new; ww = ww.new; wc = wc.new; ow = ow.new; oc = oc.new })
-        (run_outcome tally (setting_of p order n weights.now) words.now coefs.now starts.now ops.now bw.old bc.old ww.old wc.old ow.old oc.old) }
-{
-    let ran = run(
-        tally, p, order, n, weights, words, coefs, starts, ops, bw, bc, ww, wc, ow, oc,
-    );
-    of_run(ran)
+    RunAnswer::from(ran.answer)
 }

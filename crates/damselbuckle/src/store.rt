@@ -4,7 +4,7 @@ ghost use Rattle.polynomial.specs.Settings.{setting_of};
 ghost use Rattle.blocks.specs.Outcome.{WriteOutcome, write_outcome, ReadOutcome, read_outcome};
 ghost use Rattle.answers.specs.Store.{write_answered, read_answered};
 
-use answers::store::{ReadAnswer, WriteAnswer, of_reading, of_writing};
+use answers::store::{ReadAnswer, WriteAnswer};
 use blocks::read::read_blocks;
 use blocks::write::write_blocks;
 
@@ -24,7 +24,7 @@ pub extern "C" fn damselbuckle_write_blocks(
         (write_outcome (setting_of p order n weights.now) words.now coefs.now bytes.old) }
 {
     let answer = write_blocks(p, order, n, weights, words, coefs, bytes);
-    of_writing(answer)
+    WriteAnswer::from(answer)
 }
 
 // The entry `blocks::read_blocks`.
@@ -39,5 +39,5 @@ pub extern "C" fn damselbuckle_read_blocks(
         (read_outcome bytes.now words.old coefs.old) }
 {
     let answer = read_blocks(bytes, words, coefs);
-    of_reading(answer)
+    ReadAnswer::from(answer)
 }

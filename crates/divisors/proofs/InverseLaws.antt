@@ -1,34 +1,18 @@
 -- The inverses of the divisors' lead coefficients, each in one number with its share, and the factors that they make. Assumes nothing.
 use mathlib.Core.Path.{◌≡◌, refl, sym, ap, ◌∙◌, subst}
-use mathlib.Core.List.{List}
 use Prim.Native.Nat.{ℕ, ◌+◌, ◌-◌, ◌*◌, ◌/◌, ◌%◌, ◌<◌, ◌≤◌}
-use native.Mathlib.Nat.{add-mul, mul_comm, mul_right_comm, mul-le-mul_right, mul-le-mul_left, mul-one, add-mul-div_right, div-add-mod', mod-lt}
+use native.Mathlib.Nat.{add-mul, mul_comm, mul_right_comm, add-mul-div_right, div-add-mod', mod-lt}
 use native.Mathlib.Decide.{dec_le}
 use native.Mathlib.Omega.{arith}
 use borrow.Author.Tests.{le-leb, lt-leb}
 use lib.Arith.{digits_mod, digits_div}
 use lib.Dec.{lit<}
-use Rattle.residue.specs.Modular.{Modulus, product, inverse_of}
-use Rattle.residue.specs.declared.factor.Factor.{Factor}
-use Rattle.residue.specs.Share.{share_of, FactorOf, Prepared}
-use Rattle.residue.proofs.Inverses.{inverse-below}
+use Rattle.residue.specs.Modular.{Modulus, product}
+use Rattle.residue.specs.Share.{share_of, FactorOf}
 use Rattle.residue.proofs.Shoup.{estimate, share-below}
-use Rattle.divisors.specs.Divisors.{lead_coef, low_part, in_one, inverse_in, Inverting, Multiplying}
+use Rattle.divisors.specs.Divisors.{low_part, in_one, inverse_in, Multiplying}
 
--- ---- a quotient from its estimate
-module _ (n e p : ℕ) (low : e * p ≤ n) where
-  pub right : n - e * p < p → e ≡ n / p
-  right h = sym (ap (λ (x : ℕ). x / p) (let z : n ≡ e * p + (n - e * p) = omega arith in z) ∙ digits_div e h)
-
-  pub one_more : n < e * p + p + p → p ≤ n - e * p → e + 1 ≡ n / p
-  one_more high h =
-      let l : n - (e + 1) * p < p = omega (arith, add-mul e 1 p) in
-      sym (ap (λ (x : ℕ). x / p) (let z : n ≡ (e + 1) * p + (n - (e + 1) * p) = omega (arith, add-mul e 1 p) in z) ∙ digits_div (e + 1) l)
-
-  pub more-fits : 0 < p → p ≤ n - e * p → e + 1 ≤ n
-  more-fits h l = omega (arith, mul-le-mul_left e h, mul-one e)
-
--- ---- a number below p in one number
+-- ---- a number in one with its share
 pub low-16 : (p : ℕ) → p ≤ 65536 → low_part p ≡ 65536
 low-16 p s = rw (le-leb p 65536 s)
 
@@ -37,9 +21,6 @@ low-32 p s = rw (lt-leb p 65536 s)
 
 pub one-16 : (p v : ℕ) → p ≤ 65536 → v * 281474976710656 / p * 65536 + v ≡ in_one p v
 one-16 p v s = ap (λ (b : ℕ). v * (18446744073709551616 / b) / p * b + v) (sym (low-16 p s))
-
-pub one-32 : (p v : ℕ) → 65536 < p → v * 4294967296 / p * 4294967296 + v ≡ in_one p v
-one-32 p v s = ap (λ (b : ℕ). v * (18446744073709551616 / b) / p * b + v) (sym (low-32 p s))
 
 pub multiplying : {p v x y : ℕ} → Modulus p → v < p → x < p → y ≡ in_one p v → Multiplying p x y × (inverse_in p y ≡ v)
 multiplying {p} {v} {x} {y} m l h e = (record { modulus = m; small = h; below = omega (arith, back); kept-is = e ∙ ap (in_one p) (sym back) }, back) where
@@ -58,19 +39,10 @@ module _ {p x y : ℕ} (a : Multiplying p x y) (s : p ≤ 65536) where
   same-16 : inverse_in p y ≡ y % 65536
   same-16 = ap (λ (b : ℕ). y % b) (low-16 p s)
 
-  below-16 : y % 65536 < p
-  below-16 = omega (arith, a.below, same-16)
-
   kept-16 : y / 65536 ≡ y % 65536 * 281474976710656 / p
   kept-16 =
       ap (λ (z : ℕ). z / 65536) (a.kept-is ∙ (ap (in_one p) same-16 ∙ sym (one-16 p (y % 65536) s)))
       ∙ digits_div (y % 65536 * 281474976710656 / p) (mod-lt y (lit< tt))
-
-  pub whole-fits : x * (y % 65536) < 4294967296
-  whole-fits = omega (arith, mul-le-mul_right (y % 65536) (let z : x ≤ 65535 = omega (arith, a.small, s) in z), below-16, s)
-
-  pub wide_fits : y / 65536 * x < 18446744073709551616
-  wide_fits = omega (arith, mul-le-mul_right x (let z : y / 65536 ≤ 281474976710656 = omega (arith, kept-16, share-below (y % 65536) p 281474976710656 below-16 (lit< tt)) in z), a.small, s)
 
   estimated : (y / 65536 * x / 65536 * p ≤ y % 65536 * 4294967296 * x) × (y % 65536 * 4294967296 * x < y / 65536 * x / 65536 * p + p + p)
   estimated =
@@ -110,41 +82,7 @@ module _ {p x y : ℕ} (a : Multiplying p x y) (s : p ≤ 65536) where
     value-is : whole - q / 4294967296 * p ≡ whole % p
     value-is = omega (arith, ap (λ (z : ℕ). z * p) quotient_is, div-add-mod' whole p)
 
-    pub value-small : whole - q / 4294967296 * p < 65536
-    value-small = omega (arith, value-is, mod-lt whole pos, s)
-
     pub factor-is : FactorOf p (product p x (inverse_in p y)) (record { value = whole - q / 4294967296 * p; share = q % 4294967296; prime = p })
     factor-is = record { value-is = value-is ∙ same; share-is = share-is ∙ ap (share_of p) same; prime-is = refl } where
       same : whole % p ≡ product p x (inverse_in p y)
       same = ap (λ (z : ℕ). x * z % p) (sym same-16)
-
--- ---- and for a larger p
-module _ {p x y : ℕ} (a : Multiplying p x y) (l : 65536 < p) where
-  same-32 : inverse_in p y ≡ y % 4294967296
-  same-32 = ap (λ (b : ℕ). y % b) (low-32 p l)
-
-  below-32 : y % 4294967296 < p
-  below-32 = omega (arith, a.below, same-32)
-
-  kept-32 : y / 4294967296 ≡ share_of p (y % 4294967296)
-  kept-32 =
-      ap (λ (z : ℕ). z / 4294967296) (a.kept-is ∙ (ap (in_one p) same-32 ∙ sym (one-32 p (y % 4294967296) l)))
-      ∙ digits_div (y % 4294967296 * 4294967296 / p) (mod-lt y (lit< tt))
-
-  pub inverse-factor : Prepared (record { value = y % 4294967296; share = y / 4294967296; prime = p })
-  inverse-factor = record { modulus = a.modulus; below = below-32; share = kept-32 }
-
-  -- the factor that its product with x makes
-  pub made : {v : ℕ} {f : Factor} → v ≡ product p (y % 4294967296) x → FactorOf p v f → FactorOf p (product p x (inverse_in p y)) f
-  made {v} {f} e = subst (λ (n : ℕ). FactorOf p n f) (e ∙ (ap (λ (z : ℕ). z % p) (mul_comm (y % 4294967296) x) ∙ ap (λ (z : ℕ). x * z % p) (sym same-32)))
-
--- ---- the inverse that is asked for
-module _ {p : ℕ} {coefs starts : List ℕ} {k : ℕ} {kept : List ℕ} (v : Inverting p coefs starts k kept) where
-  pub inverse-small : inverse_of p (lead_coef coefs starts k) < p
-  inverse-small = inverse-below p (lead_coef coefs starts k) v.prime v.pos v.small
-
-  pub one-asks : {x : ℕ} → x ≡ inverse_of p (lead_coef coefs starts k) → Modulus p × (x < p)
-  one-asks e = (v.modulus, omega (arith, e, inverse-small))
-
-  pub one-is : {x : ℕ} → x ≡ inverse_of p (lead_coef coefs starts k) → {y : ℕ} → y ≡ in_one p x → y ≡ in_one p (inverse_of p (lead_coef coefs starts k))
-  one-is e h = h ∙ ap (in_one p) e

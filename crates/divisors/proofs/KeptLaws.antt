@@ -11,10 +11,6 @@ use Rattle.multiple.specs.Multiplying.{highest_word}
 use Rattle.divisors.specs.Divisors.{lead_coef, tail_of, in_one, KeptAt, KeptNumbers, Keepable, PutOrNot}
 use Rattle.divisors.proofs.DivisorLaws.{same_or_not}
 
--- ---- one number, as it is asked for
-pub known_is : {k at x : ℕ} {kept : List ℕ} → Keepable k at x kept → k ≤ 1024 → (get_or kept at 0 ≡ 0 → ⊥) → get_or kept at 0 ≡ x
-known_is v few ne = ⊎_elim (λ e. absurd (ne e)) (λ e. e) (v.here few)
-
 -- ---- all of them
 pub none_kept : (p : ℕ) (words coefs starts : List ℕ) → KeptNumbers p words coefs starts (replicate 2048 0)
 none_kept p words coefs starts = record {

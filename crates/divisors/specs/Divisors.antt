@@ -93,6 +93,10 @@ pub record Keepable (k at x : ℕ) (kept : List ℕ) : Type 0 where
 abbrev pub PutOrNot : (k at x : ℕ) (kept kept' : List ℕ) → Type 0
 PutOrNot k at x kept kept' = (kept' ≡ kept) ⊎ ((k ≤ 1024) × (kept' ≡ set kept at x))
 
+-- x is what is kept of one of the first 1,024 divisors, or was made
+abbrev pub KnownOr : (k at : ℕ) (kept : List ℕ) (Made : ℕ → Type 0) → ℕ → Type 0
+KnownOr k at kept Made x = ((k ≤ 1024) × (x ≡ get_or kept at 0) × (x ≡ 0 → ⊥)) ⊎ Made x
+
 pub record Inverting (p : ℕ) (coefs starts : List ℕ) (k : ℕ) (kept : List ℕ) : Type 0 where
   pub modulus : Modulus p
   pub prime : Prime p

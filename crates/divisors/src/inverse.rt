@@ -3,9 +3,11 @@
 // factor with no division, and else in 32, which makes one with one division.
 ghost use Rattle.std.specs.Prelude.{◌≡◌, ◌+◌, ◌-◌, ◌*◌, ◌/◌, ◌<◌, ◌≤◌};
 ghost use Rattle.residue.specs.Modular.{Modulus, product, inverse_of};
+ghost use Rattle.residue.specs.Prime.{Prime};
 ghost use Rattle.residue.specs.Share.{FactorOf};
 ghost use Rattle.divisors.specs.Divisors.{lead_coef, in_one, inverse_in, PutOrNot, Inverting, Multiplying};
 
+use crate::kept::kept_or;
 use residue::factor::Factor;
 use residue::inverse::invert;
 
@@ -13,23 +15,21 @@ const HALF: u64 = 65536;
 
 const WORD: u64 = 4294967296;
 
-// The inverse of the lead coefficient of divisor k, in one number. Those of the first 1,024 divisors
-// are kept, and 0 stands for one that was not asked for yet.
+// The inverse of the lead coefficient of divisor k, in one number, which is kept.
 pub fn lead_inverse(p: u32, coefs: &[u32], starts: &[usize], k: usize, kept: &mut [u64]) -> u64
     requires { Inverting p coefs.now starts.now k kept.old }
     ensures { (result ≡ in_one p (inverse_of p (lead_coef coefs.now starts.now k))) × PutOrNot k (k - 1) result kept.old kept.new }
 {
     let c = coefs[starts[k]];
-    if k > 1024 {
-        return in_one(invert(c, p), p);
-    }
-    let known = kept[k - 1];
-    if known != 0 {
-        return known;
-    }
-    let inverse = in_one(invert(c, p), p);
-    kept[k - 1] = inverse;
-    inverse
+    kept_or(kept, 0, k, || inverse_in_one(c, p))
+}
+
+// The inverse of c in one number.
+fn inverse_in_one(c: u32, p: u32) -> u64
+    requires { Modulus p × Prime p × (0 < c) × (c < p) }
+    ensures { result ≡ in_one p (inverse_of p c) }
+{
+    in_one(invert(c, p), p)
 }
 
 // The factor x times the inverse that is kept.
@@ -44,6 +44,7 @@ pub fn factor_by(p: u32, x: u32, kept: u64) -> Factor
     }
 }
 
+// Kept: factor_of_16 and factor_of_32 have only the contract in common, so one for both is no plainer.
 // The same for a p of at most 2^16. With the inverse's share in parts of 2^48 one product gives the
 // quotient and the factor's share at once.
 fn factor_of_16(p: u32, x: u32, kept: u64) -> Factor

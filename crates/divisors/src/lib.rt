@@ -4,3 +4,4 @@
 pub mod divisor; // the divisor that a lead is divided by
 pub mod inverse; // the inverses of their lead coefficients
 pub mod highest; // the highest exponents of their tails
+mod kept; // what is kept of these two

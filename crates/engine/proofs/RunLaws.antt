@@ -129,17 +129,6 @@ module _ {o : Order} {p : ℕ} {words coefs starts ops : List ℕ} (l : Loaded o
       pub second : i + 1 < length ops
       second = omega (arith, in_pairs, g.at, l.whole)
 
-      pub operable : Operable o p words coefs starts (get_or ops i 0) (get_or ops (i + 1) 0) s x ow oc
-      operable = record {
-        counting = g.counting;
-        output = g.output;
-        more = omega (arith, in_pairs, g.few, l.most);
-        long = l.long;
-        there = λ one.
-            let k : get_or ops (i + 1) 0 + 1 < length starts = subst (λ (n : ℕ). get_or ops (n + 1) 0 + 1 < length starts) (sym g.at) (l.there g.pair in_pairs (ap (λ (n : ℕ). get_or ops n 0) (sym g.at) ∙ one)) in
-            (l.parts (get_or ops (i + 1) 0) k, l.canonical (get_or ops (i + 1) 0) k);
-      }
-
       next-ops : operations_of words coefs starts (drop i ops) ≡ operation_of words coefs starts (get_or ops i 0) (get_or ops (i + 1) 0) ∷ operations_of words coefs starts (drop (i + 2) ops)
       unfolding operations_of
       next-ops =

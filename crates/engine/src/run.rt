@@ -8,9 +8,10 @@ ghost use Rattle.engine.specs.States.{Operable, Loaded, RanAll};
 use call::state::State;
 use monomial::order::Order;
 use operations::{add_operation, lead_operation, sum_operation};
-use polynomial::part::{coefs_of, words_of};
+use polynomial::part::part_of;
 
 // One operation of a list that passed the opening checks.
+// Kept: the code as a number: the C interface gives the list so.
 pub fn operate<'a>(
     order: Order,
     p: u32,
@@ -32,8 +33,8 @@ pub fn operate<'a>(
     ensures { Operated order p (operation_of words.now coefs.now starts.now code k) s (spaces b.old ww.old wc.old bw.old bc.old) ow.old oc.old result (spaces b.new ww.new wc.new bw.new bc.new) ow.new oc.new }
 {
     if code == 1 {
-        let fw = words_of(words, starts, k);
-        let fc = coefs_of(coefs, starts, k);
+        let fw = part_of(words, starts, k);
+        let fc = part_of(coefs, starts, k);
         return add_operation(order, p, s, b, fw, fc, bw, bc, ww, wc);
     }
     if code == 2 {
@@ -62,14 +63,15 @@ pub fn operate_all<'a>(
     ensures { RanAll order p words.now coefs.now starts.now ops.now ow.old oc.old result (spaces b.new ww.new wc.new bw.new bc.new) ow.new oc.new }
 {
     let mut s = State::new();
-    let mut i = 0;
-    while i < ops.len() && s.goes_on() {
-        let code = ops[i];
-        let k = ops[i + 1];
+    for j in 0..ops.len() / 2 {
+        if !s.goes_on() {
+            return s;
+        }
+        let code = ops[2 * j];
+        let k = ops[2 * j + 1];
         s = operate(
             order, p, words, coefs, starts, code, k, s, b, bw, bc, ww, wc, ow, oc,
         );
-        i += 2;
     }
     s
 }

@@ -1,5 +1,6 @@
 -- A term as the code reads it, return by return. Assumes nothing.
-use Prim.Native.Nat.{ℕ, zero, suc, ◌+◌, ◌≤◌, min}
+use Rattle.std.specs.Prelude.{Some, None}
+use Prim.Native.Nat.{ℕ, zero, suc, ◌+◌, ◌≤◌, ◌<◌, min}
 use native.Mathlib.Numerals.{add-one}
 use native.Mathlib.Omega.{arith}
 use mathlib.Core.Path.{◌≡◌, refl, sym, ap, ◌∙◌}
@@ -15,8 +16,6 @@ use Rattle.monomial.specs.Layout.{word_of}
 use Rattle.text.specs.Bytes.{index_of, parts}
 use Rattle.text.specs.Numbers.{and_then, only_if, number_of}
 use Rattle.merge_common.proofs.Lists.{sets-append}
-use Rattle.grammar.specs.declared.entry.Parsed.TheVariants.{Term}
-use Rattle.grammar.specs.declared.entry.Parsed.TheVariants.{Bad as Parsed-as-Bad}
 use Rattle.grammar.specs.Reading.{numbers_of, exponents_of, entry_at, entry_by, entry_of}
 use Rattle.grammar.specs.Parts.{capped, parsed}
 use Rattle.grammar.proofs.Written.{entry-at}
@@ -50,15 +49,15 @@ first-six exps exps' es h e =
 
 -- ---- the term, return by return
 module _ (o : Order) (vs : List ℕ) (n : ℕ) (s : List ℕ) (k : ℕ) (is : k ≡ 0 + index_of 58 s) where
-  pub no-colon : k ≡ length s → Parsed-as-Bad ≡ parsed o vs (entry_of n s)
+  pub no-colon : k ≡ length s → None ≡ parsed o vs (entry_of n s)
   unfolding entry_of
   no-colon e = sym (ap (λ (b : Bool). parsed o vs (entry_by b n (index_of 58 s) s)) (le-ltb (index_of 58 s) (length s) (omega arith)))
 
-  module _ (l : k ≤ length s) (ne : k ≡ length s → ⊥) where
+  module _ (l : k < length s) where
     colon : entry_of n s ≡ entry_at n k s
     colon = entry-at n k s (omega arith) (omega arith)
 
-    pub no-coef : number_of (take k s) ≡ none → Parsed-as-Bad ≡ parsed o vs (entry_of n s)
+    pub no-coef : number_of (take k s) ≡ none → None ≡ parsed o vs (entry_of n s)
     unfolding and_then
     no-coef e = sym (ap (parsed o vs) (colon ∙ ap (λ (y : Option ℕ). and_then y (λ v. and_then (exponents_of n (drop (suc k) s)) (λ es. some (record { coef = v; exps = es })))) e))
 
@@ -69,17 +68,17 @@ module _ (o : Order) (vs : List ℕ) (n : ℕ) (s : List ℕ) (k : ℕ) (is : k 
           let z : drop (suc k) s ≡ r = ap (λ (i : ℕ). drop i s) (sym (add-one k)) ∙ sym d in
           colon ∙ (ap (λ (y : Option ℕ). and_then y (λ v. and_then (exponents_of n (drop (suc k) s)) (λ es. some (record { coef = v; exps = es })))) e ∙ (ap (λ (y : List ℕ). and_then (exponents_of n y) (λ es. some (record { coef = c; exps = es }))) z ∙ ap (λ (y : Option (List ℕ)). and_then y (λ es. some (record { coef = c; exps = es }))) q))
 
-      pub no-exps : numbers_of (parts 46 r) ≡ none → Parsed-as-Bad ≡ parsed o vs (entry_of n s)
+      pub no-exps : numbers_of (parts 46 r) ≡ none → None ≡ parsed o vs (entry_of n s)
       unfolding and_then
       no-exps q = sym (ap (parsed o vs) (exps-at none (rw q)))
 
-      pub other-number : {exps exps' : List ℕ} {m : ℕ} → Stored (numbers_of (parts 46 r)) exps exps' m → (m ≡ n → ⊥) → Parsed-as-Bad ≡ parsed o vs (entry_of n s)
+      pub other-number : {exps exps' : List ℕ} {m : ℕ} → Stored (numbers_of (parts 46 r)) exps exps' m → (m ≡ n → ⊥) → None ≡ parsed o vs (entry_of n s)
       unfolding and_then
       other-number {exps} {exps'} {m} t q = sym (ap (parsed o vs) (exps-at none (ap (λ (y : Option (List ℕ)). and_then y (λ es. only_if (eqb (length es) n) es)) t.is ∙ ap (λ (b : Bool). only_if b t.es) (ne_eqb (length t.es) n (λ x. q (sym t.long ∙ x))))))
 
-      pub is-term : {exps exps' : List ℕ} {m : ℕ} → Stored (numbers_of (parts 46 r)) exps exps' m → length exps ≡ 6 → m ≡ n → (most : ℕ) → most ≡ min m 6 → (w : ℕ) → w ≡ word_of o vs (take most exps') → Term w c ≡ parsed o vs (entry_of n s)
+      pub is-term : {exps exps' : List ℕ} {m : ℕ} → Stored (numbers_of (parts 46 r)) exps exps' m → length exps ≡ 6 → m ≡ n → (most : ℕ) → most ≡ min m 6 → (w : ℕ) → w ≡ word_of o vs (take most exps') → Some (w, c) ≡ parsed o vs (entry_of n s)
       unfolding and_then
       is-term {exps} {exps'} {m} t six q most x w y =
           let z : entry_of n s ≡ some (record { coef = c; exps = t.es }) = exps-at (some t.es) (ap (λ (u : Option (List ℕ)). and_then u (λ es. only_if (eqb (length es) n) es)) t.is ∙ ap (λ (b : Bool). only_if b t.es) (eq-eqb (length t.es) n (t.long ∙ q))) in
           let f : take most exps' ≡ map capped (take 6 t.es) = ap (λ (i : ℕ). take i exps') (x ∙ ap (λ (i : ℕ). min i 6) (sym t.long)) ∙ first-six exps exps' t.es six t.stored in
-          ap (λ (v : ℕ). Term v c) (y ∙ ap (word_of o vs) f) ∙ ap (parsed o vs) (sym z)
+          ap (λ (v : ℕ). Some (v, c)) (y ∙ ap (word_of o vs) f) ∙ ap (parsed o vs) (sym z)

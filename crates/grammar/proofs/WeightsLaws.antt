@@ -1,5 +1,6 @@
 -- The weights of a script as the code reads them, return by return. Assumes nothing.
-use Prim.Native.Nat.{ℕ, zero, suc, ◌+◌, ◌-◌, ◌*◌}
+use Rattle.std.specs.Prelude.{Some, None, Option as Answered}
+use Prim.Native.Nat.{ℕ, zero, suc, ◌-◌}
 use native.Mathlib.Omega.{arith}
 use mathlib.Core.Path.{◌≡◌, refl, sym, ap, ◌∙◌}
 use mathlib.Core.Bool.{Bool}
@@ -17,36 +18,28 @@ use Rattle.monomial.proofs.Places.{Below-more}
 use Rattle.text.specs.Bytes.{parts}
 use Rattle.text.specs.Numbers.{and_then, only_if}
 use Rattle.text.proofs.ByteLaws.{parts-some}
-use Rattle.grammar.specs.declared.numbers.Counted.{Counted}
-use Rattle.grammar.specs.declared.numbers.Counted.TheVariants.{All}
-use Rattle.grammar.specs.declared.numbers.Counted.TheVariants.{Bad as Counted-as-Bad}
-use Rattle.grammar.specs.declared.weights.Weights.TheVariants.{Are, Bad as Weights-as-Bad}
 use Rattle.grammar.specs.Reading.{numbers_of, spaced_of, weights_of}
 use Rattle.grammar.specs.Parts.{capped, capped_weight, six_weights, packed_weights, ReadNumbers, ReadSpaced, packed}
 use Rattle.grammar.proofs.Prefix.{sets-out}
 use Rattle.grammar.proofs.NumbersLaws.{none-counted, all-counted, Stored}
 
 -- ---- numbers, each behind a space
-pub spaced-none : (s bytes : List ℕ) → length s ≡ 0 → ReadSpaced s bytes bytes (All 0)
+pub spaced-none : (s bytes : List ℕ) → length s ≡ 0 → ReadSpaced s bytes bytes (Some 0)
 unfolding parts numbers_of
 spaced-none [] bytes e = record { is = (refl, refl) }
 spaced-none (x ∷ s) bytes e = absurd (let z : ⊥ = omega arith in z)
 
-pub spaced-bad : (s bytes : List ℕ) → (length s ≡ 0 → ⊥) → (get_or s 0 0 ≡ 32 → ⊥) → ReadSpaced s bytes bytes Counted-as-Bad
+pub spaced-bad : (s bytes : List ℕ) → (length s ≡ 0 → ⊥) → (get_or s 0 0 ≡ 32 → ⊥) → ReadSpaced s bytes bytes None
 unfolding parts
 spaced-bad [] bytes l e = absurd (l refl)
 spaced-bad (x ∷ s) bytes l e = let m = parts-some 32 s in record { is = rw (ne_eqb x 32 e, parts, m.2) refl }
 
-pub spaced-good : (s bytes bytes' : List ℕ) (r : Counted) → (length s ≡ 0 → ⊥) → get_or s 0 0 ≡ 32 → (rest : List ℕ) → rest ≡ drop 1 s → ReadNumbers 32 rest bytes bytes' r → ReadSpaced s bytes bytes' r
+pub spaced-good : (s bytes bytes' : List ℕ) (r : Answered ℕ) → (length s ≡ 0 → ⊥) → get_or s 0 0 ≡ 32 → (rest : List ℕ) → rest ≡ drop 1 s → ReadNumbers 32 rest bytes bytes' r → ReadSpaced s bytes bytes' r
 unfolding parts
 spaced-good [] bytes bytes' r l e rest q d = absurd (l refl)
 spaced-good (x ∷ s) bytes bytes' r l e rest q d = record { is = rw (eq-eqb x 32 e, parts, ← q) d.is }
 
 -- ---- the weights as one number
-pub packs : (b : List ℕ) → length b ≡ 6 → {u v w x y z : ℕ} → u ≡ capped_weight (get_or b 0 0) → v ≡ capped_weight (get_or b 1 0) → w ≡ capped_weight (get_or b 2 0) → x ≡ capped_weight (get_or b 3 0) → y ≡ capped_weight (get_or b 4 0) → z ≡ capped_weight (get_or b 5 0)
-    → u + 256 * (v + 256 * (w + 256 * (x + 256 * (y + 256 * z)))) ≡ of_bytes (map capped_weight b)
-packs b l eu ev ew ex ey ez = omega (arith, eu, ev, ew, ex, ey, ez, ap (λ (m : List ℕ). of_bytes (map capped_weight m)) (six-list b l))
-
 six-same : {a b c d e f a' b' c' d' e' f' : ℕ} → a ≡ a' → b ≡ b' → c ≡ c' → d ≡ d' → e ≡ e' → f ≡ f' → ◌≡◌ {A = List ℕ} (a ∷ b ∷ c ∷ d ∷ e ∷ f ∷ []) (a' ∷ b' ∷ c' ∷ d' ∷ e' ∷ f' ∷ [])
 six-same p q r s t u = cc
 
@@ -101,25 +94,25 @@ pub packed-fields : (x : Option (List ℕ)) → fields DegRevLex (packed_weights
 packed-fields x = fields_lying DegRevLex (six_weights x) (six-fit x)
 
 -- ---- return by return
-module _ (n : ℕ) (s : List ℕ) {bytes bytes' : List ℕ} {r : Counted} (d : ReadSpaced s bytes bytes' r) where
-  pub no-numbers : r ≡ Counted-as-Bad → Weights-as-Bad ≡ packed (weights_of n s)
+module _ (n : ℕ) (s : List ℕ) {bytes bytes' : List ℕ} {r : Answered ℕ} (d : ReadSpaced s bytes bytes' r) where
+  pub no-numbers : r ≡ None → None ≡ packed (weights_of n s)
   unfolding and_then
   no-numbers e = rw (none-counted (spaced_of (parts 32 s)) bytes bytes' r d.is e) refl
 
-  module _ (m : ℕ) (e : r ≡ All m) where
+  module _ (m : ℕ) (e : r ≡ Some m) where
     pub stored-as : Stored (spaced_of (parts 32 s)) bytes bytes' m
     stored-as = all-counted (spaced_of (parts 32 s)) bytes bytes' r m d.is e
 
-    pub other-count : (m ≡ n → ⊥) → Weights-as-Bad ≡ packed (weights_of n s)
+    pub other-count : (m ≡ n → ⊥) → None ≡ packed (weights_of n s)
     unfolding and_then
     other-count q =
         let t = stored-as in
         sym (ap (λ (x : Option (List ℕ)). packed (and_then x (λ vs. only_if (eqb (length vs) n) vs))) t.is ∙ ap (λ (b : Bool). packed (only_if b t.es)) (ne_eqb (length t.es) n (λ x. q (sym t.long ∙ x))))
 
-    pub weights-are : m ≡ n → bytes ≡ replicate 6 1 → (w : ℕ) → w ≡ of_bytes (map capped_weight bytes') → Are w ≡ packed (weights_of n s)
+    pub weights-are : m ≡ n → bytes ≡ replicate 6 1 → (w : ℕ) → w ≡ of_bytes (map capped_weight bytes') → Some w ≡ packed (weights_of n s)
     unfolding and_then
     weights-are q ones w x =
         let t = stored-as in
         let is : packed (weights_of n s) ≡ packed (some t.es) = ap (λ (y : Option (List ℕ)). packed (and_then y (λ vs. only_if (eqb (length vs) n) vs))) t.is ∙ ap (λ (b : Bool). packed (only_if b t.es)) (eq-eqb (length t.es) n (t.long ∙ q)) in
         let six : map capped_weight bytes' ≡ six_weights (some t.es) = ap (map capped_weight) (t.stored ∙ ap (λ (l : List ℕ). sets l 0 (map capped t.es)) ones) ∙ six-stored t.es in
-        ap Are (x ∙ ap of_bytes six) ∙ sym is
+        ap Some (x ∙ ap of_bytes six) ∙ sym is

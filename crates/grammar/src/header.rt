@@ -4,12 +4,13 @@ ghost use Rattle.text.specs.Numbers.{found};
 ghost use Rattle.grammar.specs.Reading.{after_word, order_read};
 ghost use Rattle.grammar.specs.Parts.{order_code, ReadHeader, ReadVars, ReadRest};
 
-use crate::weights::{Weights, read_weights};
-use text::bytes::{find, is_word, starts_with};
-use text::number::{Number, read_number};
+use crate::weights::read_weights;
+use text::bytes::{find, is_word, part_end, starts_with};
+use text::number::read_number;
 
 // The prime, the number of the order, the number of variables, the weights as one number, and where the
 // other lines begin.
+// Kept: the order as its number, as the C interface gives it to the run that takes it from here.
 #[derive(Clone, Copy)]
 pub struct Header {
     pub prime: u32,
@@ -19,114 +20,75 @@ pub struct Header {
     pub from: usize,
 }
 
-#[derive(Clone, Copy)]
-pub enum Head {
-    Is(Header),
-    Bad,
-}
-
 // The number behind a word.
-fn number_behind(s: &[u8], word: &[u8]) -> Number
+fn number_behind(s: &[u8], word: &[u8]) -> Option<u32>
     ensures { result ≡ found (after_word word.now s.now) }
 {
-    if !starts_with(s, word) {
-        return Number::Bad;
-    }
-    let from = word.len();
-    let rest = &s[from..];
-    read_number(rest)
+    read_number(s.strip_prefix(word)?)
 }
 
-// The number of the order that a line names, 0 for none.
-fn read_order(s: &[u8]) -> u32
+// The number of the order that a line names.
+fn read_order(s: &[u8]) -> Option<u32>
     ensures { result ≡ order_code (order_read s.now) }
 {
     if is_word(s, b"order lp") {
-        return 1;
+        return Some(1);
     }
     if is_word(s, b"order Dp") {
-        return 2;
+        return Some(2);
     }
     if is_word(s, b"order dp") {
-        return 3;
+        return Some(3);
     }
-    0
+    None
 }
 
 // Reads the first lines.
-pub fn read_header(s: &[u8]) -> Head
+pub fn read_header(s: &[u8]) -> Option<Header>
     ensures { ReadHeader s.now result }
 {
-    let a = find(s, 0, 10);
-    if a == s.len() {
-        return Head::Bad;
-    }
-    let first = &s[0..a];
-    let p = number_behind(first, b"prime ");
-    let Number::Value(prime) = p else {
-        return Head::Bad;
-    };
+    let a = find(s, 0, b'\n')?;
+    let prime = number_behind(&s[0..a], b"prime ")?;
     let i = a + 1;
-    let b = find(s, i, 10);
-    if b == s.len() {
-        return Head::Bad;
-    }
-    let second = &s[i..b];
-    let order = read_order(second);
-    if order == 0 {
-        return Head::Bad;
-    }
+    let b = find(s, i, b'\n')?;
+    let order = read_order(&s[i..b])?;
     read_vars(s, prime, order, b + 1)
 }
 
 // Reads the third line, from place j on, and one of weights behind it.
-fn read_vars(s: &[u8], prime: u32, order: u32, j: usize) -> Head
+fn read_vars(s: &[u8], prime: u32, order: u32, j: usize) -> Option<Header>
     requires { j ≤ length s.now }
     ensures { ReadVars s.now prime order j result }
 {
-    let c = find(s, j, 10);
-    if c == s.len() {
-        return Head::Bad;
-    }
-    let third = &s[j..c];
-    let n = number_behind(third, b"vars ");
-    let Number::Value(vars) = n else {
-        return Head::Bad;
-    };
+    let c = find(s, j, b'\n')?;
+    let vars = number_behind(&s[j..c], b"vars ")?;
     read_rest(s, prime, order, vars, c + 1)
 }
 
 // Reads a line of weights, where one stands at place j. Without it all weights are 1.
-fn read_rest(s: &[u8], prime: u32, order: u32, vars: u32, j: usize) -> Head
+fn read_rest(s: &[u8], prime: u32, order: u32, vars: u32, j: usize) -> Option<Header>
     requires { j ≤ length s.now }
     ensures { ReadRest s.now prime order vars j result }
 {
-    let e = find(s, j, 10);
+    let e = part_end(s, j, b'\n');
     let line = &s[j..e];
-    if !starts_with(line, b"weights") {
-        let plain = Header {
-            prime,
-            order,
-            vars,
-            weights: 0x0101_0101_0101,
-            from: j,
-        };
-        return Head::Is(plain);
-    }
-    if e == s.len() {
-        return Head::Bad;
-    }
-    let numbers = &line[7..];
-    let found = read_weights(numbers, vars);
-    let Weights::Are(weights) = found else {
-        return Head::Bad;
-    };
-    let weighted = Header {
+    let plain = Header {
         prime,
         order,
         vars,
+        weights: 0x0101_0101_0101,
+        from: j,
+    };
+    if !starts_with(line, b"weights") {
+        return Some(plain);
+    }
+    if e == s.len() {
+        return None;
+    }
+    let weights = read_weights(&line[7..], vars)?;
+    Some(Header {
         weights,
         from: e + 1,
-    };
-    Head::Is(weighted)
+        ..plain
+    })
 }

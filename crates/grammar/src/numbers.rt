@@ -2,15 +2,7 @@
 ghost use Rattle.std.specs.Prelude.{◌≡◌, set};
 ghost use Rattle.grammar.specs.Parts.{capped, ReadNumbers};
 
-use text::bytes::find;
-use text::number::{Number, byte_of, read_number};
-
-// How many there are, or that they are not of the form.
-#[derive(Clone, Copy)]
-pub enum Counted {
-    All(usize),
-    Bad,
-}
+use text::number::{byte_of, read_number};
 
 // Stores the number at a place, if there is one.
 fn store(bytes: &mut [u8], at: usize, v: u32)
@@ -21,22 +13,15 @@ fn store(bytes: &mut [u8], at: usize, v: u32)
     }
 }
 
-// Reads the numbers, parted by the byte b, and stores those that bytes has places for.
-pub fn read_numbers(s: &[u8], b: u8, bytes: &mut [u8]) -> Counted
+// Reads the numbers, parted by the byte b, and stores those that bytes has places for. Answers how many
+// there are, or that they are not of the form.
+pub fn read_numbers(s: &[u8], b: u8, bytes: &mut [u8]) -> Option<usize>
     ensures { ReadNumbers b s.now bytes.old bytes.new result }
 {
     let mut count = 0;
-    let mut at = 0;
-    while at <= s.len() {
-        let e = find(s, at, b);
-        let part = &s[at..e];
-        let number = read_number(part);
-        let Number::Value(v) = number else {
-            return Counted::Bad;
-        };
-        store(bytes, count, v);
+    for part in s.split(|x| *x == b) {
+        store(bytes, count, read_number(part)?);
         count += 1;
-        at = e + 1;
     }
-    Counted::All(count)
+    Some(count)
 }

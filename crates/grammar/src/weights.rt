@@ -5,23 +5,15 @@ ghost use Rattle.monomial.specs.Layout.{of_bytes, fields};
 ghost use Rattle.grammar.specs.Reading.{weights_of};
 ghost use Rattle.grammar.specs.Parts.{capped_weight, ReadSpaced, packed};
 
-use crate::numbers::{Counted, read_numbers};
+use crate::numbers::read_numbers;
 use monomial::exponents::exponent;
 use monomial::order::Order;
-
-// The weights of six variables as one number, a byte for each, x1's the lowest; or that they are not of
-// the form.
-#[derive(Clone, Copy)]
-pub enum Weights {
-    Are(u64),
-    Bad,
-}
 
 // The weight that is handed on: a larger one is refused later, and makes no word too large before.
 fn capped_weight(b: u8) -> u64
     ensures { (result ≡ capped_weight b) × (result ≤ 17) }
 {
-    if b < 17 { b as u64 } else { 17 }
+    b.min(17) as u64
 }
 
 // The six weights as one number.
@@ -56,30 +48,27 @@ pub fn weights_of(packed: u64) -> [u32; 6]
 }
 
 // Reads numbers, each behind a space, and stores those that bytes has places for.
-fn read_spaced(s: &[u8], bytes: &mut [u8]) -> Counted
+fn read_spaced(s: &[u8], bytes: &mut [u8]) -> Option<usize>
     ensures { ReadSpaced s.now bytes.old bytes.new result }
 {
     if s.len() == 0 {
-        return Counted::All(0);
+        return Some(0);
     }
-    if s[0] != 32 {
-        return Counted::Bad;
+    if s[0] != b' ' {
+        return None;
     }
-    let numbers = &s[1..];
-    read_numbers(numbers, 32, bytes)
+    read_numbers(&s[1..], b' ', bytes)
 }
 
-// Reads the n weights, by what stands behind the word. A variable without one has weight 1.
-pub fn read_weights(s: &[u8], n: u32) -> Weights
+// Reads the n weights, by what stands behind the word, as one number: a byte for each of six variables,
+// x1's the lowest. A variable without one has weight 1.
+pub fn read_weights(s: &[u8], n: u32) -> Option<u64>
     ensures { result ≡ packed (weights_of n s.now) }
 {
     let mut bytes = [1u8; 6];
-    let counted = read_spaced(s, &mut bytes);
-    let Counted::All(m) = counted else {
-        return Weights::Bad;
-    };
+    let m = read_spaced(s, &mut bytes)?;
     if m != n as usize {
-        return Weights::Bad;
+        return None;
     }
-    Weights::Are(pack(&bytes))
+    Some(pack(&bytes))
 }

@@ -1,4 +1,5 @@
 -- A script's text is long enough for its terms and lines, so that what is read has room. Assumes nothing.
+use Rattle.std.specs.Prelude.{Some, None, Option as Answered}
 use Prim.Native.Nat.{ℕ, ◌+◌, ◌*◌, ◌≤◌}
 use native.Mathlib.Omega.{arith}
 use mathlib.Core.Path.{◌≡◌, refl, sym, ap, ◌∙◌}
@@ -11,8 +12,6 @@ use Rattle.monomial.specs.declared.order.Order.{Order}
 use Rattle.monomial.specs.declared.order.Order.TheVariants.{DegRevLex}
 use Rattle.monomial.specs.Layout.{fields}
 use Rattle.script.specs.declared.reader.Loaded.{Loaded}
-use Rattle.script.specs.declared.reader.Found.{Found}
-use Rattle.script.specs.declared.reader.Found.TheVariants.{Script as Found-as-Script, Bad as Found-as-Bad}
 use Rattle.grammar.specs.Grammar.{Line, add_line, lead_line, sum_line, Script, order-word, vars-word, order_name, entries_text, lines_text, spaced_text, rest_text, script_text, GoodLines}
 use Rattle.grammar.specs.Reading.{script_of}
 use Rattle.grammar.specs.Parts.{entry_word, entry_coef, six_weights}
@@ -95,22 +94,22 @@ pub record Read (s : List ℕ) (l : Loaded) (words coefs starts ops : List ℕ) 
   pub starts-long : length starts ≡ script_starts
   pub ops-long : length ops ≡ script_numbers
 
-module _ {s words₀ coefs₀ starts₀ ops₀ words coefs starts ops : List ℕ} {r : Found} (d : ReadScript s words₀ coefs₀ starts₀ ops₀ words coefs starts ops r) where
-  pub bad-listing : r ≡ Found-as-Bad → {out out' : List ℕ} {k : ℕ} → Put (refused_text 17 0) 0 out out' k → Put (listing_of s) 0 out out' k
+module _ {s words₀ coefs₀ starts₀ ops₀ words coefs starts ops : List ℕ} {r : Answered Loaded} (d : ReadScript s words₀ coefs₀ starts₀ ops₀ words coefs starts ops r) where
+  pub bad-listing : r ≡ None → {out out' : List ℕ} {k : ℕ} → Put (refused_text 17 0) 0 out out' k → Put (listing_of s) 0 out out' k
   unfolding listing_of
   bad-listing e p = put_same (sym (ap listing_by (go (script_of s) d.is))) p
     where
       go : (x : Option Script) → ScriptAs x words₀ coefs₀ starts₀ ops₀ words coefs starts ops r → x ≡ none
       go none q = refl
-      go (some t) q = absurd (let y : r ≡ Found-as-Script (loaded_of t) = q.0 in let z : ◌≡◌ {A = ℕ} 0 1 = cc in let w : ⊥ = omega arith in w)
+      go (some t) q = absurd (let y : r ≡ Some (loaded_of t) = q.0 in let z : ◌≡◌ {A = ℕ} 0 1 = cc in let w : ⊥ = omega arith in w)
 
-  pub good-read : length words₀ ≡ script_terms → length coefs₀ ≡ script_terms → length starts₀ ≡ script_starts → length ops₀ ≡ script_numbers → (l : Loaded) → r ≡ Found-as-Script l → Read s l words coefs starts ops
+  pub good-read : length words₀ ≡ script_terms → length coefs₀ ≡ script_terms → length starts₀ ≡ script_starts → length ops₀ ≡ script_numbers → (l : Loaded) → r ≡ Some l → Read s l words coefs starts ops
   good-read lw lc lt lo l e = go (script_of s) refl d.is
     where
       go : (x : Option Script) → script_of s ≡ x → ScriptAs x words₀ coefs₀ starts₀ ops₀ words coefs starts ops r → Read s l words coefs starts ops
-      go none y q = absurd (let u : r ≡ Found-as-Bad = q in let z : ◌≡◌ {A = ℕ} 0 1 = cc in let w : ⊥ = omega arith in w)
+      go none y q = absurd (let u : r ≡ None = q in let z : ◌≡◌ {A = ℕ} 0 1 = cc in let w : ⊥ = omega arith in w)
       go (some t) y q =
-          let u : r ≡ Found-as-Script (loaded_of t) = q.0 in
+          let u : r ≡ Some (loaded_of t) = q.0 in
           let k : loaded_of t ≡ l = cc in
           let z = sizes s t y in
           rw (← k) (record {

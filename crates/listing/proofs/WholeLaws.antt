@@ -12,12 +12,12 @@ use Rattle.monomial.specs.declared.order.Order.{Order}
 use Rattle.polynomial.specs.Terms.{terms}
 use Rattle.polynomial.specs.Terms as T
 use Rattle.polynomial.specs.Opening.{part_of}
-use Rattle.refusal.specs.declared.Refusal.{Refusal}
 use Rattle.refusal.specs.Table.{number_of}
 use Rattle.refusal.proofs.TableLaws.{number-some}
 use Rattle.call.specs.declared.answer.Tally.{Tally}
-use Rattle.call.specs.declared.answer.Answer.{Answer}
-use Rattle.call.specs.declared.answer.Answer.TheVariants.{Done, Refused}
+use Rattle.call.specs.declared.answer.Done.{Done}
+use Rattle.call.specs.declared.answer.Stopped.{Stopped}
+use Rattle.std.specs.Prelude.{Result, Ok, Err}
 use Rattle.call.specs.Answers.{Stated, stated, Outcome, decided_by}
 use Rattle.call.specs.Lending.{polynomial}
 use Rattle.run_outcome.specs.Runs.{Operation, adds, leads, sums, Running, operate_all, operation_by, operation_of, operations_of, begun}
@@ -33,21 +33,21 @@ use Rattle.listing_lines.specs.Listing.{answers_text, cost_text, refused_text}
 use Rattle.listing.specs.Whole.{ran_by, ran_text, RanRoom, no_tally, loaded_text}
 use Rattle.listing_lines.proofs.PutLaws.{put_both, put_same}
 
-pub places-done : {tally : Tally} {answer : Answer} {ow oc k m : ℕ} → RanRoom tally (stated answer) ow oc → answer ≡ Done k m → m ≤ ow
+pub places-done : {tally : Tally} {answer : Result Done Stopped} {ow oc : ℕ} {d : Done} → RanRoom tally (stated answer) ow oc → answer ≡ Ok d → d.places ≤ ow
 places-done r e = rw e at r.places-in
 
 pub ran-some : (number finished : ℕ) (done : List ℕ) → (number ≡ 0 → ⊥) → ran_by number finished done ≡ refused_text number finished
 ran-some zero finished done some = absurd (some refl)
 ran-some (suc k) finished done some = refl
 
-module _ (o : Order) (n : ℕ) (ops ow oc : List ℕ) (tally : Tally) (answer : Answer) {out : List ℕ} where
-  pub ran-done : {k m : ℕ} → answer ≡ Done k m → {out' out'' : List ℕ} {a e : ℕ} → Put (answers_text o n ops (terms (take m ow) (take m oc))) 0 out out' a → Put (cost_text tally.comparisons tally.brought) a out' out'' e → Put (ran_text o n ops ow oc tally (stated answer)) 0 out out'' e
+module _ (o : Order) (n : ℕ) (ops ow oc : List ℕ) (tally : Tally) (answer : Result Done Stopped) {out : List ℕ} where
+  pub ran-done : {d : Done} → answer ≡ Ok d → {out' out'' : List ℕ} {a e : ℕ} → Put (answers_text o n ops (terms (take d.places ow) (take d.places oc))) 0 out out' a → Put (cost_text tally.comparisons tally.brought) a out' out'' e → Put (ran_text o n ops ow oc tally (stated answer)) 0 out out'' e
   unfolding ran_text
   ran-done q p c = rw q (put_both p c)
 
-  pub ran-refused : {x : Refusal} {k m : ℕ} → answer ≡ Refused x k m → (number : ℕ) → number ≡ number_of x → {out' : List ℕ} {e : ℕ} → Put (refused_text number k) 0 out out' e → Put (ran_text o n ops ow oc tally (stated answer)) 0 out out' e
+  pub ran-refused : {x : Stopped} → answer ≡ Err x → (number : ℕ) → number ≡ number_of x.refusal → {out' : List ℕ} {e : ℕ} → Put (refused_text number x.finished) 0 out out' e → Put (ran_text o n ops ow oc tally (stated answer)) 0 out out' e
   unfolding ran_text
-  ran-refused {x} {k} q number s p = rw q (put_same (ap (λ (j : ℕ). refused_text j k) s ∙ sym (ran-some (number_of x) k _ (number-some x))) p)
+  ran-refused {x} q number s p = rw q (put_same (ap (λ (j : ℕ). refused_text j x.finished) s ∙ sym (ran-some (number_of x.refusal) x.finished _ (number-some x.refusal))) p)
 
 -- ---- the output of a run has the places that it counts
 pub decided-places : (r : ℕ) (tally : Tally) (t : Running) (bw bc ww wc ow oc : List ℕ) → (decided_by r tally (ended t ow oc) bw bc ww wc ow oc).answer.places ≤ length (decided_by r tally (ended t ow oc) bw bc ww wc ow oc).ow

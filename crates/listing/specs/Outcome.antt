@@ -1,10 +1,9 @@
 -- What the listing's entry answers and leaves, from what came in. Assumes nothing.
-use Rattle.std.specs.Prelude.{ℕ, min, Bool, true, false, List, ltb, length}
+use Rattle.std.specs.Prelude.{ℕ, min, Bool, true, false, List, ltb, length, Result, Ok, Err}
 use Rattle.std.proofs.lemmas.List.Edits.{sets}
 use Rattle.limits.specs.Limits.{listing_bytes}
 use Rattle.refusal.specs.Table.{number_of}
-use Rattle.listing.specs.declared.entry.Listed.{Listed}
-use Rattle.listing.specs.declared.entry.Listed.TheVariants.{Written, Refused}
+use Rattle.refusal.specs.declared.Refused.{Refused}
 use Rattle.listing.specs.Whole.{listing_of}
 
 -- "When an answer is an enum, a definition states this paper's number and values for each of its cases": the refusal's number, 0 for none, the operations finished, and the bytes written
@@ -13,9 +12,9 @@ pub record ListingStated : Type 0 where
   pub finished : ℕ
   pub bytes : ℕ
 
-abbrev pub listing_stated : Listed → ListingStated
-listing_stated (Written bytes) = record { number = 0; finished = 0; bytes = bytes }
-listing_stated (Refused refusal finished) = record { number = number_of refusal; finished = finished; bytes = 0 }
+abbrev pub listing_stated : Result ℕ Refused → ListingStated
+listing_stated (Ok bytes) = record { number = 0; finished = 0; bytes = bytes }
+listing_stated (Err r) = record { number = number_of r.refusal; finished = r.finished; bytes = 0 }
 
 pub record ListingOutcome : Type 0 where
   pub answer : ListingStated

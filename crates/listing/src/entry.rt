@@ -4,14 +4,10 @@ ghost use Rattle.listing.specs.Outcome.{listing_stated, ListingOutcome, listing_
 
 use crate::whole::put_listing;
 use limits::LISTING_BYTES;
-use refusal::Refusal;
+use refusal::{Refusal, Refused};
 
 // The listing is written, so many bytes long; or refused, with 0 operations finished.
-#[derive(Clone, Copy)]
-pub enum Listed {
-    Written(usize),
-    Refused { refusal: Refusal, finished: u64 },
-}
+pub type Listed = Result<usize, Refused>;
 
 // Writes the listing of a script, any bytes of any length, to the start of out. With fewer than 65,536
 // bytes lent it gives refusal 10 and writes nothing.
@@ -19,11 +15,7 @@ pub fn listing(script: &[u8], out: &mut [u8]) -> Listed
     ensures { ◌≡◌ {A = ListingOutcome} (record { answer = listing_stated result; out = out.new }) (listing_outcome script.now out.old) }
 {
     if out.len() < LISTING_BYTES {
-        return Listed::Refused {
-            refusal: Refusal::NoOutput,
-            finished: 0,
-        };
+        return Err(Refusal::NoOutput.into());
     }
-    let written = put_listing(script, out);
-    Listed::Written(written)
+    Ok(put_listing(script, out))
 }

@@ -13,9 +13,9 @@ use limits::{BUCKET_PLACES, SCRIPT_NUMBERS, SCRIPT_STARTS, SCRIPT_TERMS, WORK_PL
 use listing_lines::answers::put_answers;
 use listing_lines::ending::{put_cost, put_refused};
 use monomial::order::{Order, order_of};
-use refusal::number_of;
+use refusal::{Refusal, number_of};
 use runs::run;
-use script::reader::{Found, Loaded, read_script};
+use script::reader::{Loaded, read_script};
 
 // Puts what a run answered.
 fn put_ran(
@@ -32,19 +32,12 @@ fn put_ran(
     ensures { Put (ran_text order n ops.now ow.now oc.now tally (stated answer)) 0 out.old out.new result }
 {
     match answer {
-        Answer::Done {
-            finished: _,
-            places,
-        } => {
-            let m = places as usize;
+        Ok(done) => {
+            let m = done.places as usize;
             let at = put_answers(order, n, ops, &ow[..m], &oc[..m], out);
             put_cost(tally.comparisons, tally.brought, out, at)
         }
-        Answer::Refused {
-            refusal,
-            finished,
-            places: _,
-        } => put_refused(number_of(refusal), finished, out, 0),
+        Err(stopped) => put_refused(number_of(stopped.refusal), stopped.finished, out, 0),
     }
 }
 
@@ -92,13 +85,13 @@ pub fn put_listing(script: &[u8], out: &mut [u8]) -> usize
     let mut ops = [0usize; SCRIPT_NUMBERS];
     let found = read_script(script, &mut words, &mut coefs, &mut starts, &mut ops);
     match found {
-        Found::Script(l) => {
+        Some(l) => {
             let counts = l.counts;
             let t = counts.terms;
             let k = counts.polynomials + 1;
             let m = 2 * counts.operations;
             list_run(l, &words[..t], &coefs[..t], &starts[..k], &ops[..m], out)
         }
-        Found::Bad => put_refused(17, 0, out, 0),
+        None => put_refused(number_of(Refusal::BadScript), 0, out, 0),
     }
 }

@@ -1,11 +1,11 @@
 -- The lines of leads and sums as the code puts them. Assumes nothing.
-use Prim.Native.Nat.{ℕ, zero, suc, ◌+◌, ◌≤◌, ◌<◌}
+use Prim.Native.Nat.{ℕ, zero, suc, ◌+◌, ◌≤◌, ◌<◌, min}
 use native.Mathlib.Omega.{arith}
 use mathlib.Core.Path.{◌≡◌, refl, sym, ap, ◌∙◌}
-use mathlib.Core.Bool.{Bool, false}
+use mathlib.Core.Bool.{Bool, true, false}
 use mathlib.Core.List.{List, [], ◌∷◌, ◌++◌, append-nil, append_assoc}
-use borrow.Author.Tests.{eq-eqb, ne_eqb}
-use lib.Dec.{eqb}
+use borrow.Author.Tests.{eq-eqb, ne_eqb, leb-true, leb-false}
+use lib.Dec.{eqb, leb}
 use lib.ListN.{length, drop, get_or, length-append, length-drop, drop_of_length-le}
 use lib.Seq.{drop-drop, drop-cons}
 use Rattle.monomial.specs.declared.order.Order.{Order}
@@ -73,8 +73,8 @@ module _ {o : Order} {n i : ℕ} {ow oc : List ℕ} {at : ℕ} {out₀ out : Lis
       let w : d.done ≡ sum_terms (drop i (terms ow oc)) = sym (append-nil d.done) ∙ (ap (λ (x : List (Term ℕ)). d.done ++ x) (sym e) ∙ d.whole) in
       record { put = put_same (ap (terms_text o n) w) d.text; place = d.place_is ∙ ap (λ (x : List (Term ℕ)). i + length x) w; within = l }
 
-  pub putting-end : place ≤ length ow → length ow ≤ place → TermsPut o n i ow oc at out₀ out (record { place = place; at = to })
-  putting-end l m = ends l (terms-end ow oc h place m)
+  pub putting-end : place ≤ length ow → length ow ≤ place → TermsPut o n i ow oc at out₀ out (record { place = length ow; at = to })
+  putting-end l m = let z : place ≡ length ow = omega arith in rw (← z) (ends l (terms-end ow oc h place m))
 
   pub putting-zero : place < length ow → get_or oc place 0 ≡ 0 → TermsPut o n i ow oc at out₀ out (record { place = place; at = to })
   putting-zero l e = ends (omega arith) (terms-zero ow oc h place l e)
@@ -114,11 +114,16 @@ module _ {o : Order} {n i : ℕ} {ow oc : List ℕ} {at : ℕ} {out : List ℕ} 
   }
 
 -- past the end there is nothing
-pub drop-after : (ow oc : List ℕ) (i k : ℕ) → length oc ≡ length ow → i ≤ length ow → length ow ≤ i → k ≡ i → drop k (terms ow oc) ≡ drop (i + 1) (terms ow oc)
-drop-after ow oc i k h l m e =
-    let z : length (terms ow oc) ≤ i = omega (arith, length-terms ow oc h) in
-    let y : length (terms ow oc) ≤ i + 1 = omega arith in
-    ap (λ (j : ℕ). drop j (terms ow oc)) e ∙ (drop_of_length-le (terms ow oc) z ∙ sym (drop_of_length-le (terms ow oc) y))
+pub drop-after : (ow oc : List ℕ) (i : ℕ) → length oc ≡ length ow → drop (min (i + 1) (length ow)) (terms ow oc) ≡ drop (i + 1) (terms ow oc)
+drop-after ow oc i h = go (leb (i + 1) (length ow)) refl
+  where
+    go : (b : Bool) → leb (i + 1) (length ow) ≡ b → drop (min (i + 1) (length ow)) (terms ow oc) ≡ drop (i + 1) (terms ow oc)
+    go true e = let l : i + 1 ≤ length ow = leb-true _ _ e in ap (λ (j : ℕ). drop j (terms ow oc)) (let z : min (i + 1) (length ow) ≡ i + 1 = omega arith in z)
+    go false e =
+        let l : length ow < i + 1 = leb-false _ _ e in
+        let z : length (terms ow oc) ≤ min (i + 1) (length ow) = omega (arith, length-terms ow oc h) in
+        let y : length (terms ow oc) ≤ i + 1 = omega (arith, length-terms ow oc h) in
+        drop_of_length-le (terms ow oc) z ∙ sym (drop_of_length-le (terms ow oc) y)
 
 pub zero_flag : (place i k : ℕ) → place ≡ i + k → eqb place i ≡ eqb k 0
 zero_flag place i zero e = eq-eqb place i (omega arith) ∙ sym (eq-eqb 0 0 refl)
@@ -157,6 +162,9 @@ module _ {o : Order} {n : ℕ} {ops ow oc : List ℕ} {out₀ out : List ℕ} {p
         within = a.within;
         read = omega arith;
       }
+
+  pub answering-next : (j : ℕ) → j ≡ k + 2 → k + 1 < length ops → {out' : List ℕ} {r : Next} → AnswerPut o n (get_or ops k 0) place ow oc at out out' r → Answering o n ops ow oc out₀ out' r.place r.at j
+  answering-next j e l {out'} {r} a = rw e (answering-more l a)
 
   pub answering-end : length ops ≤ k + 1 → Put (answers_text o n ops (terms ow oc)) 0 out₀ out at
   answering-end l = put_same (sym (append-nil d.done) ∙ (ap (λ (x : List ℕ). d.done ++ x) (sym (no_answer o n (drop k ops) (drop place (terms ow oc)) (omega (arith, length-drop k ops)))) ∙ d.whole)) d.text

@@ -4,8 +4,8 @@ ghost use Rattle.polynomial.specs.Terms.{term, terms};
 ghost use Rattle.listing_lines.specs.Put.{Put};
 ghost use Rattle.listing_lines.specs.Listing.{place_text, lead_text, TermsPut, AnswerPut, zero_if, Places, SumPut, answers_text};
 
-use crate::place::put_term;
 use crate::put::{put, put_byte};
+use crate::term::put_term;
 use monomial::order::Order;
 
 // The next output place to be read, and the next place of the listing.
@@ -15,16 +15,11 @@ pub struct Next {
     pub at: usize,
 }
 
-fn word_at(s: &[u64], i: usize) -> u64
-    ensures { result ≡ get_or s.now i 0 }
+// The element at a place of s, or `none` past its end.
+fn at_or<T: Copy>(s: &[T], i: usize, none: T) -> T
+    ensures { result ≡ get_or s.now i none }
 {
-    if i < s.len() { s[i] } else { 0 }
-}
-
-fn coef_at(s: &[u32], i: usize) -> u32
-    ensures { result ≡ get_or s.now i 0 }
-{
-    if i < s.len() { s[i] } else { 0 }
+    s.get(i).copied().unwrap_or(none)
 }
 
 // Puts a term behind a space, or ` zero`.
@@ -39,6 +34,8 @@ fn put_place(order: Order, n: u32, w: u64, coef: u32, out: &mut [u8], at: usize)
 }
 
 // Puts the line of a lead, from output place i.
+// Kept: the words and coefficients are two parameters, here and below. The clauses name each of them, so a
+// struct of the two would only make the names longer; the lengths stand in `Places` with i and `at`.
 fn put_lead(
     order: Order,
     n: u32,
@@ -52,7 +49,9 @@ fn put_lead(
     ensures { Put (lead_text order n (drop i (terms ow.now oc.now))) at out.old out.new result }
 {
     let from = put(b"lead", out, at);
-    let end = put_place(order, n, word_at(ow, i), coef_at(oc, i), out, from);
+    let word = at_or(ow, i, 0);
+    let coef = at_or(oc, i, 0);
+    let end = put_place(order, n, word, coef, out, from);
     put_byte(10, out, end)
 }
 
@@ -69,17 +68,18 @@ fn put_terms(
     requires { Places i ow.now oc.now at (length out.old) }
     ensures { TermsPut order n i ow.now oc.now at out.old out.new result }
 {
-    let mut place = i;
     let mut to = at;
-    while place < ow.len() {
+    for place in i..ow.len() {
         let c = oc[place];
         if c == 0 {
             return Next { place, at: to };
         }
         to = put_term(order, n, ow[place], c, out, to);
-        place += 1;
     }
-    Next { place, at: to }
+    Next {
+        place: ow.len(),
+        at: to,
+    }
 }
 
 // Puts ` zero` if there are no terms.
@@ -98,7 +98,7 @@ fn after(ow: &[u64], oc: &[u32], i: usize) -> usize
     requires { Places i ow.now oc.now 0 0 }
     ensures { (drop result (terms ow.now oc.now) ≡ drop (i + 1) (terms ow.now oc.now)) × (result ≤ length ow.now) }
 {
-    if i < ow.len() { i + 1 } else { i }
+    (i + 1).min(ow.len())
 }
 
 // Puts the line of a sum, from output place i on.
@@ -123,6 +123,8 @@ fn put_sum(
 }
 
 // Puts the line of an operation, from output place i on.
+// Kept: the code of an operation is a number, since the run takes pairs of numbers, as the C interface has
+// them.
 fn put_answer(
     code: usize,
     order: Order,
@@ -169,12 +171,10 @@ pub fn put_answers(
     ensures { Put (answers_text order n ops.now (terms ow.now oc.now)) 0 out.old out.new result }
 {
     let mut next = Next { place: 0, at: 0 };
-    let mut k = 0;
-    while k + 1 < ops.len() {
+    for k in 0..ops.len() / 2 {
         let place = next.place;
         let at = next.at;
-        next = put_answer(ops[k], order, n, ow, oc, place, out, at);
-        k += 2;
+        next = put_answer(ops[2 * k], order, n, ow, oc, place, out, at);
     }
     next.at
 }

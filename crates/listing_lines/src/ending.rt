@@ -50,6 +50,7 @@ pub fn put_cost(comparisons: u64, brought: u64, out: &mut [u8], at: usize) -> us
 }
 
 // Puts `refused R at K`.
+// Kept: the refusal as a number, since the clause holds of every number, also of one that no refusal has.
 pub fn put_refused(number: u32, finished: u64, out: &mut [u8], at: usize) -> usize
     requires { at ≤ length out.old }
     ensures { Put (refused_text number finished) at out.old out.new result }

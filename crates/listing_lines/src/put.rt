@@ -1,5 +1,7 @@
 // Bytes put one after the other into a lent slice. What is past its end is left out, and the place
 // that comes back is at most its end.
+// Kept: the slice and the place in it stand side by side, here and in the other modules, since memory is
+// fixed and lent: the project has no heap for a growing text.
 ghost use Rattle.std.specs.Prelude.{◌≤◌, ◌<◌, ◌∷◌, [], length};
 ghost use Rattle.text.specs.Numbers.{decimal};
 ghost use Rattle.listing_lines.specs.Put.{Put};
@@ -22,10 +24,8 @@ pub fn put(text: &[u8], out: &mut [u8], at: usize) -> usize
     ensures { Put text.now at out.old out.new result }
 {
     let mut to = at;
-    let mut i = 0;
-    while i < text.len() {
-        to = put_byte(text[i], out, to);
-        i += 1;
+    for b in text {
+        to = put_byte(*b, out, to);
     }
     to
 }

@@ -141,9 +141,6 @@ module _ {p : ℕ} {ww wc : List ℕ} {a n b m to : ℕ} (r : Areas p ww wc a n 
             coef-long : length c5 ≡ length c4
             coef-long = moved-long c4 c5 to head (s4.d - to) (let l = last.long in let h = from_in in omega arith) (let l = last.long in let h = head-room in omega arith) ec
 
-            pub longs : (length w5 ≡ length ww) × (length c5 ≡ length wc)
-            longs = (word-long ∙ steps.words_long, coef-long ∙ steps.coefs-long)
-
             long5 : length c5 ≡ length w5
             long5 = coef-long ∙ (last.long ∙ sym word-long)
 

@@ -6,3 +6,4 @@ pub mod Moving
 pub mod Resting
 pub mod Joining
 mod Outcomes
+pub mod RestWords

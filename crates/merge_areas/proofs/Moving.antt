@@ -143,12 +143,6 @@ module _ {ww wc : List ℕ} {s : Ends} (y : Ready ww wc s) (one : (s.ie ≤ s.i)
     fits : s.d + size s ≤ s.e
     fits = y.room
 
-    pub left-requires : (from + size s ≤ length ww) × (s.d + size s ≤ length ww) × (from + size s ≤ length wc) × (s.d + size s ≤ length wc)
-    left-requires = move-ends y s.i s.j (omega arith) y.left_in (omega arith) y.right-in one f {to = s.d} refl (omega arith) fits
-
-    pub left-apart-from : Apart from (size s) s.d (size s)
-    left-apart-from = move-apart y s.i s.j (omega arith) y.left_in (omega arith) y.right-in one f {to = s.d} refl (omega arith) fits
-
     pub left-moved : {ww' wc' : List ℕ} → ww' ≡ sets ww s.d (part from (size s) ww) → wc' ≡ sets wc s.d (part from (size s) wc)
         → MovedLeft ww wc s ww' wc' (record { i = s.ie; ie = s.ie; j = s.je; je = s.je; d = s.d + size s; e = s.e; turns = s.turns + size s })
     left-moved {ww'} {wc'} ew ec =

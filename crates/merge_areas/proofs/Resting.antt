@@ -26,9 +26,6 @@ pub record Scanned (ws : List ℕ) (from end last k : ℕ) : Type 0 where
   pub high : k ≤ end
   pub below : (t : ℕ) → k ≤ t → t < end → get_or ws t 0 < last
 
-pub scan-start : (ws : List ℕ) (from end last : ℕ) → from ≤ end → Scanned ws from end last end
-scan-start ws from end last h = record { low = h; high = omega arith; below = λ t a b. absurd (let z : ⊥ = omega arith in z) }
-
 module _ {ws : List ℕ} {from end last k : ℕ} (s : Scanned ws from end last k) where
   pub scan-on : from < k → get_or ws (k - 1) 0 < last → Scanned ws from end last (k - 1)
   scan-on h l = record { low = omega arith; high = omega (arith, s); below = λ t a b. at t a b (dec_le k t) }
@@ -39,6 +36,22 @@ module _ {ws : List ℕ} {from end last k : ℕ} (s : Scanned ws from end last k
 
   pub scanned : (k ≡ from) ⊎ (last ≤ get_or ws (k - 1) 0) → Above ws from end last k
   scanned stop = record { low = s.low; high = s.high; below = s.below; stop = stop }
+
+  -- where it stops
+  pub stopped : from < k → last ≤ get_or ws (k - 1) 0 → Above ws from end last (k - 1 + 1)
+  stopped h l = let e : k ≡ k - 1 + 1 = omega arith in subst (λ (n : ℕ). Above ws from end last n) e (scanned (inr l))
+
+-- two words u and v that compare as the last one does with a number z, which is x too
+module _ (last x : ℕ) {u v z : ℕ} (ez : z ≡ x) (e : compare u v ≡ compare last z) where
+  pub below_last : v < u → x < last
+  below_last h = compare-larger last x (sym (e ∙ ap (compare last) ez) ∙ gt-compare h)
+
+  pub not-below : u ≤ v → last ≤ x
+  not-below h = go (dec_le last x)
+    where
+      go : Dec (last ≤ x) → last ≤ x
+      go (yes k) = k
+      go (no k) = let g : v < u = compare-larger u v (e ∙ ap (compare last) ez ∙ gt-compare (let m : x < last = omega arith in m)) in let z : ⊥ = omega arith in absurd z
 
 -- ---- whether any are below, by the last one
 module _ {ws : List ℕ} {from end last k : ℕ} (a : Above ws from end last k) (h : from < end) where

@@ -158,13 +158,13 @@ four R a b c d q = rw (a, b, c, d) q
 -- a turn, by the comparison of the two terms
 module _ {p : ℕ} {ww wc : List ℕ} {s : Ends} (y : Ready ww wc s) (g : Reducing p ww wc s) (hi : s.i < s.ie) (hj : s.j < s.je) where
   -- what a turn makes of the term that it stores
-  abbrev After : (place : ℕ) → (Joined → Ends) → Joined → Type 0
+  abbrev After : (place : ℕ) → (Joined ℕ → Ends) → Joined ℕ → Type 0
   After place next t = Turned p ww wc s (set ww place t.word) (set wc place t.coef) (next t)
 
-  abbrev at_front : Joined → Ends
+  abbrev at_front : Joined ℕ → Ends
   at_front t = record { i = s.i + t.left; ie = s.ie; j = s.j + t.right; je = s.je; d = s.d + t.kept; e = s.e; turns = s.turns + 1 }
 
-  abbrev at_back : Joined → Ends
+  abbrev at_back : Joined ℕ → Ends
   at_back t = record { i = s.i; ie = s.ie - t.left; j = s.j; je = s.je - t.right; d = s.d; e = s.e - t.kept; turns = s.turns + 1 }
 
   abbrev P : Term ℕ → Type 0
@@ -188,7 +188,7 @@ module _ {p : ℕ} {ww wc : List ℕ} {s : Ends} (y : Ready ww wc s) (g : Reduci
       subst (λ (n : ℕ). Turned p ww wc s (set ww s.d w) (set wc s.d v) (record { i = s.i + l; ie = s.ie; j = s.j + r; je = s.je; d = s.d + n; e = s.e; turns = s.turns + 1 })) (sym (kept-is w v))
       (front-step y p w v l r hl hr one (omega arith) (omega arith) q)
 
-  pub front-turn : {t : Joined} → t ≡ joined (get_or ww s.i 0) (get_or wc s.i 0) (get_or ww s.j 0) (get_or wc s.j 0) p → After s.d at_front t
+  pub front-turn : {t : Joined ℕ} → t ≡ joined (get_or ww s.i 0) (get_or wc s.i 0) (get_or ww s.j 0) (get_or wc s.j 0) p → After s.d at_front t
   front-turn {t} e =
       let a : ℕ = get_or ww s.i 0 in
       let b : ℕ = get_or ww s.j 0 in
@@ -229,7 +229,7 @@ module _ {p : ℕ} {ww wc : List ℕ} {s : Ends} (y : Ready ww wc s) (g : Reduci
       subst (λ (n : ℕ). Turned p ww wc s (set ww (s.e - 1) w) (set wc (s.e - 1) v) (record { i = s.i; ie = s.ie - l; j = s.j; je = s.je - r; d = s.d; e = s.e - n; turns = s.turns + 1 })) (sym (kept-is w v))
       (back_step y p w v l r hl hr one (omega arith) (omega arith) q)
 
-  pub back-turn : {t : Joined} → t ≡ joined_last (get_or ww (s.ie - 1) 0) (get_or wc (s.ie - 1) 0) (get_or ww (s.je - 1) 0) (get_or wc (s.je - 1) 0) p → After (s.e - 1) at_back t
+  pub back-turn : {t : Joined ℕ} → t ≡ joined_last (get_or ww (s.ie - 1) 0) (get_or wc (s.ie - 1) 0) (get_or ww (s.je - 1) 0) (get_or wc (s.je - 1) 0) p → After (s.e - 1) at_back t
   back-turn {t} e =
       let a : ℕ = get_or ww (s.ie - 1) 0 in
       let b : ℕ = get_or ww (s.je - 1) 0 in

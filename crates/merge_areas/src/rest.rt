@@ -1,30 +1,36 @@
 // Terms of a merge that are moved as they stand: the rest of a list below the other one's last term, and what
 // is left of one list where the other is used up.
 ghost use Rattle.std.specs.Prelude.{◌≡◌, ◌⊎◌, ◌≤◌, ◌<◌, length, take, drop};
+ghost use Rattle.place.specs.Numbers.{key_numbers};
 ghost use Rattle.merge_common.specs.Lent.{rest_of};
 ghost use Rattle.merge_areas.specs.Ways.{Ready, Rested, MovedLeft, Above, Source};
 
 use crate::turns::Ends;
 use merge_common::copy::{move_terms, rest_words};
+use merge_common::places::Key;
 
 // The end of the terms at places `from` up to `end` that are not below the key `last`.
-fn above(ww: &[u64], from: usize, end: usize, last: u64) -> usize
-    requires { (from ≤ end) × (end ≤ length ww.now) }
-    ensures { Above ww.now from end last result }
+fn above<K: Key>(ww: &[u64], from: usize, end: usize, last: K) -> usize
+    requires { (from ≤ end) × (end ≤ length (key_numbers K.width ww.now)) }
+    ensures { Above (key_numbers K.width ww.now) from end (K.number last) result }
 {
-    let mut k = end;
-    while k > from && ww[k - 1] < last {
-        k -= 1;
+    for k in (from..end).rev() {
+        let by = last.deciding(K::at(ww, k));
+        if by.first <= by.second {
+            return k + 1;
+        }
     }
-    k
+    from
 }
 
-// How many terms are left of two lists, from i up to ie and from j up to je, of which one is used up.
-fn rest_len(ww: &[u64], i: usize, ie: usize, j: usize, je: usize) -> usize
-    requires { (i ≤ ie) × (j ≤ je) × (ie ≤ length ww.now) × (je ≤ length ww.now) }
-    ensures { result ≡ length (rest_of (drop i (take ie ww.now)) (drop j (take je ww.now))) }
+// How many terms are left of two lists, from i up to ie and from j up to je, of which one is used up: the
+// words that are left, by the words of a key.
+fn rest_len<K: Key>(ww: &[u64], i: usize, ie: usize, j: usize, je: usize) -> usize
+    requires { (i ≤ ie) × (j ≤ je) × (ie ≤ length (key_numbers K.width ww.now)) × (je ≤ length (key_numbers K.width ww.now)) }
+    ensures { result ≡ length (rest_of (drop i (take ie (key_numbers K.width ww.now))) (drop j (take je (key_numbers K.width ww.now)))) }
 {
-    rest_words(&ww[..ie], i, &ww[..je], j).len()
+    let w = K::WORDS;
+    rest_words(&ww[..w * ie], w * i, &ww[..w * je], w * j).len() / w
 }
 
 // Where the terms begin that are left of two lists, of which one is used up.
@@ -35,20 +41,20 @@ pub fn source(i: usize, ie: usize, j: usize) -> usize
 }
 
 // Moves the rest of either list that is below the other one's last term to the end of the free places.
-pub fn move_rest(ww: &mut [u64], wc: &mut [u32], s: Ends) -> Ends
-    requires { Ready ww.old wc.old s × (s.i < s.ie) × (s.j < s.je) }
-    ensures { Rested ww.old wc.old s ww.new wc.new result }
+pub fn move_rest<K: Key>(ww: &mut [u64], wc: &mut [u32], s: Ends) -> Ends
+    requires { Ready (key_numbers K.width ww.old) wc.old s × (s.i < s.ie) × (s.j < s.je) }
+    ensures { Rested (key_numbers K.width ww.old) wc.old s (key_numbers K.width ww.new) wc.new result }
 {
     let ie = s.ie;
     let je = s.je;
-    let x = ww[ie - 1];
-    let y = ww[je - 1];
+    let x = K::at(ww, ie - 1);
+    let y = K::at(ww, je - 1);
     let i = above(ww, s.i, ie, y);
     let j = above(ww, s.j, je, x);
-    let left = rest_len(ww, i, ie, j, je);
+    let left = rest_len::<K>(ww, i, ie, j, je);
     let from = source(i, ie, j);
     let e = s.e - left;
-    move_terms(ww, wc, from, e, left);
+    move_terms::<K>(ww, wc, from, e, left);
     Ends {
         i: s.i,
         ie: i,
@@ -61,14 +67,14 @@ pub fn move_rest(ww: &mut [u64], wc: &mut [u32], s: Ends) -> Ends
 }
 
 // Moves what is left of one list, where the other is used up, to the front of the free places.
-pub fn move_left(ww: &mut [u64], wc: &mut [u32], s: Ends) -> Ends
-    requires { Ready ww.old wc.old s × ((s.ie ≤ s.i) ⊎ (s.je ≤ s.j)) }
-    ensures { MovedLeft ww.old wc.old s ww.new wc.new result }
+pub fn move_left<K: Key>(ww: &mut [u64], wc: &mut [u32], s: Ends) -> Ends
+    requires { Ready (key_numbers K.width ww.old) wc.old s × ((s.ie ≤ s.i) ⊎ (s.je ≤ s.j)) }
+    ensures { MovedLeft (key_numbers K.width ww.old) wc.old s (key_numbers K.width ww.new) wc.new result }
 {
     let left = s.ie - s.i + (s.je - s.j);
     let from = source(s.i, s.ie, s.j);
     let d = s.d;
-    move_terms(ww, wc, from, d, left);
+    move_terms::<K>(ww, wc, from, d, left);
     Ends {
         i: s.ie,
         ie: s.ie,

@@ -1,7 +1,7 @@
 -- What a turn makes of a term of each list: by the comparison, and by the flags of the code. Assumes nothing.
-use mathlib.Core.Path.{◌≡◌, sym, ap, ap₂, ◌∙◌, subst}
+use mathlib.Core.Path.{◌≡◌, refl, sym, ap, ap₂, ◌∙◌, subst}
 use mathlib.Core.Bool.{not}
-use Prim.Native.Nat.{ℕ, ◌+◌, ◌-◌, ◌%◌, ◌≤◌, compare, Ordering}
+use Prim.Native.Nat.{ℕ, zero, suc, ◌+◌, ◌-◌, ◌%◌, ◌≤◌, compare, Ordering}
 use native.Mathlib.Omega.{arith}
 use lib.Dec.{eqb}
 use Rattle.monomial.specs.TotalOrder.{turned}
@@ -30,11 +30,17 @@ pub record Flags (x y l m : ℕ) : Type 0 where
 back : (x y : ℕ) {o : Ordering} → compare x y ≡ o → compare y x ≡ turned o
 back x y h = numbers-order.turn x y ∙ ap turned h
 
-pub one_at_most : {x y l m : ℕ} → Flags x y l m → l + m ≤ 1
-one_at_most {x} {y} {l} {m} f = by_order compare x y (λ h. omega (arith, by h)) (λ h. omega (arith, by h)) (λ h. omega (arith, by h))
-  where
-    by : {o : Ordering} → compare x y ≡ o → l + m ≡ flag (is_larger o) + flag (is_larger (turned o))
-    by h = ap₂ (λ (u v : ℕ). u + v) (f.x-larger ∙ ap (λ (u : Ordering). flag (is_larger u)) h) (f.y-larger ∙ ap (λ (u : Ordering). flag (is_larger u)) (back x y h))
+-- the same by two numbers that compare as x and y do
+pub flags_as : (a b x y : ℕ) {l m : ℕ} → compare a b ≡ compare x y → l ≡ flag (is_larger (compare a b)) → m ≡ flag (is_larger (compare b a)) → Flags x y l m
+flags_as a b x y like el em = record {
+  x-larger = el ∙ ap (λ (o : Ordering). flag (is_larger o)) like;
+  y-larger = em ∙ ap (λ (o : Ordering). flag (is_larger o)) (back a b like ∙ sym (back x y refl));
+}
+
+-- the number of what is chosen
+pub chosen-as : {K : Type 0} (number : K → ℕ) (f : ℕ) (x y : K) {w : K} → w ≡ chosen f x y → number w ≡ chosen f (number x) (number y)
+chosen-as number zero x y e = ap number e
+chosen-as number (suc f) x y e = ap number e
 
 module _ (x c y d p : ℕ) where
   -- ---- by the comparison
@@ -63,10 +69,10 @@ module _ (x c y d p : ℕ) where
   last_more h = rw (h, joined_last)
 
   -- ---- by the flags: what is made of them where the larger one is first, and where the smaller one is
-  abbrev flagged : Ordering → Ordering → Joined
+  abbrev flagged : Ordering → Ordering → Joined ℕ
   flagged o q = made (chosen (flag (is_larger q)) y x) (chosen (flag (is_larger o) + flag (is_larger q)) (chosen (flag (is_larger o)) c d) ((c + d) % p)) (1 - flag (is_larger q)) (1 - flag (is_larger o))
 
-  abbrev flagged_last : Ordering → Ordering → Joined
+  abbrev flagged_last : Ordering → Ordering → Joined ℕ
   flagged_last o q = made (chosen (flag (is_larger o)) y x) (chosen (flag (is_larger o) + flag (is_larger q)) (chosen (flag (is_larger o)) d c) ((c + d) % p)) (1 - flag (is_larger o)) (1 - flag (is_larger q))
 
   by_flags : Stands compare x y → flagged (compare x y) (compare y x) ≡ joined x c y d p
@@ -81,20 +87,20 @@ module _ (x c y d p : ℕ) where
 
   -- u is the sum of the coefficients, v the one of the term that is first, s the one that is stored
   module _ {l m u v s w z : ℕ} (f : Flags x y l m) (eu : u ≡ (c + d) % p) (es : s ≡ chosen (l + m) v u) (ez : z ≡ flag (not (eqb s 0))) where
-    pub joined_is : v ≡ chosen l c d → w ≡ chosen m y x → ◌≡◌ {A = Joined} (record { word = w; coef = s; left = 1 - m; right = 1 - l; kept = z }) (joined x c y d p)
+    pub joined_is : v ≡ chosen l c d → w ≡ chosen m y x → ◌≡◌ {A = Joined ℕ} (record { word = w; coef = s; left = 1 - m; right = 1 - l; kept = z }) (joined x c y d p)
     joined_is ev ew = rw (ez, ew, es, eu, ev, f.y-larger, f.x-larger) (by_flags (stands compare x y))
 
-    pub last-is : v ≡ chosen l d c → w ≡ chosen l y x → ◌≡◌ {A = Joined} (record { word = w; coef = s; left = 1 - l; right = 1 - m; kept = z }) (joined_last x c y d p)
+    pub last-is : v ≡ chosen l d c → w ≡ chosen l y x → ◌≡◌ {A = Joined ℕ} (record { word = w; coef = s; left = 1 - l; right = 1 - m; kept = z }) (joined_last x c y d p)
     last-is ev ew = rw (ez, ew, es, eu, ev, f.y-larger, f.x-larger) (by-flags-last (stands compare x y))
 
 -- ---- at most one term of each is used, and one made
-abbrev pub Small : Joined → Type 0
+abbrev pub Small : Joined ℕ → Type 0
 Small t = (t.left ≤ 1) × (t.right ≤ 1) × (t.kept ≤ 1)
 
-small-made : {t : Joined} (w v l r : ℕ) → l ≤ 1 → r ≤ 1 → t ≡ made w v l r → Small t
+small-made : {t : Joined ℕ} (w v l r : ℕ) → l ≤ 1 → r ≤ 1 → t ≡ made w v l r → Small t
 small-made w v l r hl hr e = subst Small (sym e) (hl, hr, flag_small (not (eqb v 0)))
 
-module _ (x c y d p : ℕ) {t : Joined} where
+module _ (x c y d p : ℕ) {t : Joined ℕ} where
   pub joined_small : t ≡ joined x c y d p → Small t
   joined_small e =
       by_order compare x y (λ h. small-made y d 0 1 (omega arith) (omega arith) (e ∙ joined-less x c y d p h))

@@ -1,13 +1,14 @@
 -- Lists with a run of places put again, and parts of them. Assumes nothing.
 use mathlib.Core.Path.{◌≡◌, refl, sym, ap, ap₂, ◌∙◌}
-use mathlib.Core.List.{List, [], ◌∷◌, ◌++◌, map}
+use mathlib.Core.List.{List, [], ◌∷◌, ◌++◌, map, append_assoc}
 use mathlib.Core.Logic.{◌⊎◌, inl, inr, ⊎_elim}
 use Prim.Native.Nat.{ℕ, zero, suc, zero-le, ◌+◌, ◌-◌, ◌<◌, ◌≤◌}
 use native.Mathlib.Nat.{add-zero, add-suc, suc-add, le_of_lt, le_of_eq}
 use native.Mathlib.Numerals.{add-one}
 use native.Mathlib.Omega.{arith}
 use lib.ListN.{length, take, drop, set, get_or, length-set, length-drop, drop_of_length-le}
-use lib.Seq.{sets, take_all, take-suc, length-take-le, drop-cons, get_or-set_other, get_or-take, get_or-drop}
+use borrow.Rule.Slice.PartMut.{put_mid}
+use lib.Seq.{sets, sets-eq, drop-drop, take_all, take-suc, length-take-le, drop-cons, get_or-set_other, get_or-take, get_or-drop}
 use Rattle.merge_common.specs.Lent.{rest_of, part, Apart}
 
 module _ {A : Type 0} where
@@ -23,6 +24,12 @@ module _ {A : Type 0} where
   sets-take l to s i d h =
       ap (λ (n : ℕ). set (sets l to (take i s)) (to + n) (get_or s i d)) (sym (length-take-le i s (le_of_lt h)))
       ∙ (sym (sets-snoc l to (take i s) (get_or s i d)) ∙ ap (sets l to) (sym (take-suc s i d h) ∙ ap (λ (n : ℕ). take n s) (sym (add-one i))))
+
+  -- what is put into a part of l as a whole
+  pub sets-mid : (l : List A) (to n : ℕ) (vs : List A) {ys : List A} → n ≡ length vs → ys ≡ vs → to + length vs ≤ length l → put_mid to n l ys ≡ sets l to vs
+  sets-mid l to n vs en ey h =
+      ap₂ (λ (m : ℕ) (y : List A). take to l ++ (y ++ drop m (drop to l))) en ey
+      ∙ (ap (λ (r : List A). take to l ++ (vs ++ r)) (drop-drop (length vs) to l) ∙ (sym (append_assoc (take to l) vs (drop (to + length vs) l)) ∙ sym (sets-eq vs l to h)))
 
   -- the part of l from a on
   pub part-from : (l : List A) (a : ℕ) → take (length l - a) (drop a l) ≡ drop a l
@@ -49,22 +56,25 @@ pub get_d_part : (a n : ℕ) (l : List ℕ) (i : ℕ) → i < n → get_or (part
 get_d_part a n l i h = get_or-take n (drop a l) i 0 h ∙ get_or-drop a l i 0
 
 -- ---- the first i numbers of s are put into l from `to` on, which makes it o
-pub record Begun (s l : List ℕ) (to : ℕ) (o : List ℕ) (i : ℕ) : Type 0 where
+pub record Begun {A : Type 0} (s l : List A) (to : ℕ) (o : List A) (i : ℕ) : Type 0 where
   pub low : i ≤ length s
   pub is : o ≡ sets l to (take i s)
   pub long : length o ≡ length l
 
-pub begun-none : (s l : List ℕ) (to : ℕ) → Begun s l to l 0
+pub begun-none : {A : Type 0} (s l : List A) (to : ℕ) → Begun s l to l 0
 begun-none s l to = record { low = zero-le; is = refl; long = refl }
 
-pub begun_more : (s l : List ℕ) (to : ℕ) (o : List ℕ) (i v : ℕ) → Begun s l to o i → i < length s → v ≡ get_or s i 0 → Begun s l to (set o (to + i) v) (i + 1)
-begun_more s l to o i v b h e = record {
+pub begun-next : {A : Type 0} (s l : List A) (to : ℕ) (o : List A) (i : ℕ) (v d : A) → Begun s l to o i → i < length s → v ≡ get_or s i d → Begun s l to (set o (to + i) v) (i + 1)
+begun-next {A} s l to o i v d b h e = record {
   low = omega arith;
-  is = ap₂ (λ (x : List ℕ) (y : ℕ). set x (to + i) y) b.is e ∙ sets-take l to s i 0 h;
+  is = ap₂ (λ (x : List A) (y : A). set x (to + i) y) b.is e ∙ sets-take l to s i d h;
   long = length-set o (to + i) v ∙ b.long;
 }
 
-pub begun_all : (s l : List ℕ) (to : ℕ) (o : List ℕ) (i : ℕ) → Begun s l to o i → length s ≤ i → o ≡ sets l to s
+pub begun_more : (s l : List ℕ) (to : ℕ) (o : List ℕ) (i v : ℕ) → Begun s l to o i → i < length s → v ≡ get_or s i 0 → Begun s l to (set o (to + i) v) (i + 1)
+begun_more s l to o i v b h e = begun-next s l to o i v 0 b h e
+
+pub begun_all : {A : Type 0} (s l : List A) (to : ℕ) (o : List A) (i : ℕ) → Begun s l to o i → length s ≤ i → o ≡ sets l to s
 begun_all s l to o i b h = b.is ∙ ap (sets l to) (take_all i s h)
 
 -- what is moved within a list is read as it was, if the places lie apart

@@ -44,14 +44,14 @@ kept-is w zero = refl
 kept-is w (suc v) = ap (λ (b : Bool). flag (not b)) (ne_eqb (suc v) 0 (λ e. let z : ⊥ = omega arith in z))
 
 -- where i and j terms are used, `left i` and `right j` are left, and a turn makes t of their leads
-pub record Turn (p : ℕ) (left right : ℕ → List (Term ℕ)) (i j : ℕ) (t : Joined) : Type 0 where
+pub record Turn (p : ℕ) (left right : ℕ → List (Term ℕ)) (i j : ℕ) (t : Joined ℕ) : Type 0 where
   pub whole : merge compare p (left i) (right j) ≡ keep t.word t.coef (merge compare p (left (i + t.left)) (right (j + t.right)))
   pub count : merge_count compare (left i) (right j) ≡ suc (merge_count compare (left (i + t.left)) (right (j + t.right)))
   pub kept : t.kept ≡ length (keep t.word t.coef [])
   pub some : 1 ≤ t.left + t.right
 
 module _ (p : ℕ) (left right : ℕ → List (Term ℕ)) (i j x c y d : ℕ) (ex : left i ≡ term x c ∷ left (i + 1)) (ey : right j ≡ term y d ∷ right (j + 1)) (hc : 0 < c) (hd : 0 < d) where
-  pub turn : {t : Joined} → t ≡ joined x c y d p → Turn p left right i j t
+  pub turn : {t : Joined ℕ} → t ≡ joined x c y d p → Turn p left right i j t
   turn {t} e =
       by_order compare x y
       (λ h.

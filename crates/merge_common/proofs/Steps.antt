@@ -1,42 +1,51 @@
 -- Steps of the merges, on plain numbers. Assumes nothing.
-use mathlib.Core.Path.{◌≡◌, refl, sym, ap, ap₂, subst}
+use mathlib.Core.Path.{◌≡◌, refl, ap₂, subst}
 use mathlib.Core.Bool.{Bool, true, false}
 use mathlib.Core.List.{List, [], ◌∷◌, map}
-use Prim.Native.Nat.{ℕ, zero, suc, ◌^◌, ◌<◌, ◌≤◌, compare}
+use Prim.Native.Nat.{ℕ, zero, suc, ◌^◌, ◌<◌, ◌≤◌}
 use native.Mathlib.Omega.{arith}
-use lib.Dec.{ltb}
 use lib.ListN.{length, get_or}
 use Rattle.monomial.specs.declared.order.Order.{Order}
 use Rattle.monomial.specs.Words.{key_of, from_key}
 use Rattle.monomial.proofs.KeyLaws.{word-of-key}
+use Rattle.wide_monomial.specs.declared.width.Width.{Width}
+use Rattle.wide_monomial.specs.declared.width.Width.TheVariants.{One, Two}
+use Rattle.wide_monomial.specs.Wide.{paired}
+use Rattle.wide_monomial.specs.WideKeys.{wide_key_of, from_wide_key}
+use Rattle.wide_monomial.proofs.WideKeyLaws.{wide-of-key}
+use Rattle.place.specs.Numbers.{pairs_by, word_pairs, word_numbers, key_by, from_key_by}
+use Rattle.place.proofs.PlaceLaws.{paired-fits}
 use Rattle.polynomial.specs.Terms.{Term, term, terms, All}
-use Rattle.polynomial.specs.Opening.{is_larger}
-use Rattle.polynomial.proofs.OpeningLaws.{larger-number}
 use Rattle.polynomial.proofs.TermLists.{length-terms, term-at}
 use Rattle.merge_common.specs.Lent.{Poly, flag, chosen}
 
 -- ---- the choice by a flag
-pub chosen-one : (f x y : ℕ) → f ≡ 1 → x ≡ chosen f x y
+pub chosen-one : {A : Type 0} (f : ℕ) (x y : A) → f ≡ 1 → x ≡ chosen f x y
 chosen-one f x y h = rw h
 
-pub chosen_none : (f x y : ℕ) → f ≤ 1 → (f ≡ 1 → ⊥) → y ≡ chosen f x y
+pub chosen_none : {A : Type 0} (f : ℕ) (x y : A) → f ≤ 1 → (f ≡ 1 → ⊥) → y ≡ chosen f x y
 chosen_none f x y h ne = let e : f ≡ 0 = omega arith in rw e
-
--- ---- the larger key
-pub larger-flag : (x y : ℕ) → flag (ltb y x) ≡ flag (is_larger (compare x y))
-larger-flag x y = ap flag (sym (larger-number x y))
 
 -- the words of the keys of 64-bit words are these
 pub keys-back : (o : Order) (ws : List ℕ) → ((i : ℕ) → get_or ws i 0 < 2 ^ 64) → map (from_key o) (map (key_of o) ws) ≡ ws
 keys-back o [] h = refl
 keys-back o (w ∷ ws) h = ap₂ (λ (x : ℕ) (y : List ℕ). x ∷ y) (word-of-key o w (h 0)) (keys-back o ws (λ i. h (suc i)))
 
+-- the same for pairs of 64-bit words
+pub wide-keys-back : (o : Order) (ws : List ℕ) → ((i : ℕ) → get_or ws i 0 < 2 ^ 64) → map (from_wide_key o) (map (wide_key_of o) (word_pairs ws)) ≡ word_pairs ws
+unfolding pairs_by
+wide-keys-back o [] h = refl
+wide-keys-back o (a ∷ []) h = refl
+wide-keys-back o (a ∷ (b ∷ ws)) h = ap₂ (λ (x : ℕ) (y : List ℕ). x ∷ y) (wide-of-key o (paired a b) (paired-fits a b (h 0) (h 1))) (wide-keys-back o ws (λ i. h (suc (suc i))))
+
+-- the monomials of the keys of monomials of either width are these
+pub each-back : (w : Width) (o : Order) (ws : List ℕ) → ((i : ℕ) → get_or ws i 0 < 2 ^ 64) → map (from_key_by w o) (map (key_by w o) (word_numbers w ws)) ≡ word_numbers w ws
+each-back One o ws h = keys-back o ws h
+each-back Two o ws h = wide-keys-back o ws h
+
 pub flag_small : (b : Bool) → flag b ≤ 1
 flag_small true = omega arith
 flag_small false = omega arith
-
-pub flag_is : (b : Bool) → (flag b ≡ flag b) × (flag b ≤ 1)
-flag_is b = (refl, flag_small b)
 
 -- ---- a coefficient of a lent polynomial
 

@@ -8,12 +8,12 @@ pub record Poly (p : ℕ) (ws cs : List ℕ) : Type 0 where
   pub reduced : Reduced p (terms ws cs)
 
 -- the list that is not used up
-abbrev pub rest_of : List ℕ → List ℕ → List ℕ
+abbrev pub rest_of : {A : Type 0} → List A → List A → List A
 rest_of [] ys = ys
 rest_of (x ∷ xs) ys = x ∷ xs
 
 -- the n numbers from place a on
-abbrev pub part : ℕ → ℕ → List ℕ → List ℕ
+abbrev pub part : {A : Type 0} → ℕ → ℕ → List A → List A
 part a n l = take n (drop a l)
 
 -- the n places from a on and the m places from b on have none in common
@@ -26,6 +26,6 @@ flag true = 1
 flag false = 0
 
 -- x where the flag is not 0, and else y
-abbrev pub chosen : ℕ → ℕ → ℕ → ℕ
+abbrev pub chosen : {A : Type 0} → ℕ → A → A → A
 chosen zero x y = y
 chosen (suc f) x y = x

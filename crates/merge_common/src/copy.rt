@@ -1,9 +1,13 @@
 // Lists of words and of coefficients, each put from one slice into another or moved within one.
-ghost use Rattle.std.specs.Prelude.{◌≡◌, ◌+◌, ◌≤◌, length, drop};
+ghost use Rattle.std.specs.Prelude.{◌≡◌, ◌+◌, ◌≤◌, length, drop, replicate};
 ghost use Rattle.std.proofs.lemmas.List.Edits.{sets};
+ghost use Rattle.place.specs.Numbers.{key_numbers, Whole};
 ghost use Rattle.merge_common.specs.Lent.{rest_of, part, Apart};
 
+use crate::places::Key;
+
 // The remaining part of whichever of two slices of words has not been used up.
+// Kept: document 01 names this form; that by places, below, is made of it.
 pub fn rest_words<'a>(a: &'a [u64], i: usize, b: &'a [u64], j: usize) -> &'a [u64]
     requires { (i ≤ length a.now) × (j ≤ length b.now) }
     ensures { result.now ≡ rest_of (drop i a.now) (drop j b.now) }
@@ -14,42 +18,55 @@ pub fn rest_words<'a>(a: &'a [u64], i: usize, b: &'a [u64], j: usize) -> &'a [u6
     &b[j..]
 }
 
-// Puts the words of src into dst from place `to` on.
-pub fn put_words(src: &[u64], dst: &mut [u64], to: usize)
-    requires { to + length src.now ≤ length dst.old }
-    ensures { dst.new ≡ sets dst.old to src.now }
+// The same by places of one word or two, which are whole.
+pub fn rest_places<'a, K: Key>(a: &'a [u64], i: usize, b: &'a [u64], j: usize) -> &'a [u64]
+    requires { Whole K.width a.now × Whole K.width b.now × (i ≤ length (key_numbers K.width a.now)) × (j ≤ length (key_numbers K.width b.now)) }
+    ensures { (key_numbers K.width result.now ≡ rest_of (drop i (key_numbers K.width a.now)) (drop j (key_numbers K.width b.now))) × Whole K.width result.now }
 {
-    let mut i = 0;
-    while i < src.len() {
-        dst[to + i] = src[i];
-        i += 1;
-    }
+    let from = K::WORDS * i;
+    let start = K::WORDS * j;
+    rest_words(a, from, b, start)
 }
 
-// The same for coefficients.
-pub fn put_coefs(src: &[u32], dst: &mut [u32], to: usize)
+// Puts what is in src into dst from place `to` on.
+pub fn put<T: Copy>(src: &[T], dst: &mut [T], to: usize)
     requires { to + length src.now ≤ length dst.old }
     ensures { dst.new ≡ sets dst.old to src.now }
 {
-    let mut i = 0;
-    while i < src.len() {
-        dst[to + i] = src[i];
-        i += 1;
+    let end = to + src.len();
+    dst[to..end].copy_from_slice(src);
+}
+
+// The same by places of one word or two, which are whole.
+pub fn put_places<K: Key>(src: &[u64], dst: &mut [u64], to: usize)
+    requires { Whole K.width src.now × (to + length (key_numbers K.width src.now) ≤ length (key_numbers K.width dst.old)) }
+    ensures { key_numbers K.width dst.new ≡ sets (key_numbers K.width dst.old) to (key_numbers K.width src.now) }
+{
+    let at = K::WORDS * to;
+    put(src, dst, at);
+}
+
+// Puts x at the n places from place `at` on.
+pub fn fill<T: Copy>(s: &mut [T], at: usize, n: usize, x: T)
+    requires { at + n ≤ length s.old }
+    ensures { s.new ≡ sets s.old at (replicate n x) }
+{
+    // Kept: slices' own `fill` asks of Clone that it cannot fail, which Copy does not give.
+    for i in 0..n {
+        s[at + i] = x;
     }
 }
 
 // Puts the n terms from place `from` on also from `to` on, where the two places lie apart. They are
-// mostly few, so that words and coefficients go in one loop.
-pub fn move_terms(ww: &mut [u64], wc: &mut [u32], from: usize, to: usize, n: usize)
-    requires { (from + n ≤ length ww.old) × (to + n ≤ length ww.old) × (from + n ≤ length wc.old) × (to + n ≤ length wc.old) × Apart from n to n }
-    ensures { (ww.new ≡ sets ww.old to (part from n ww.old)) × (wc.new ≡ sets wc.old to (part from n wc.old)) }
+// mostly few, so that keys and coefficients go in one loop.
+pub fn move_terms<K: Key>(ww: &mut [u64], wc: &mut [u32], from: usize, to: usize, n: usize)
+    requires { (from + n ≤ length (key_numbers K.width ww.old)) × (to + n ≤ length (key_numbers K.width ww.old)) × (from + n ≤ length wc.old) × (to + n ≤ length wc.old) × Apart from n to n }
+    ensures { (key_numbers K.width ww.new ≡ sets (key_numbers K.width ww.old) to (part from n (key_numbers K.width ww.old))) × (wc.new ≡ sets wc.old to (part from n wc.old)) }
 {
-    let mut i = 0;
-    while i < n {
+    for i in 0..n {
         let read = from + i;
         let put = to + i;
-        ww[put] = ww[read];
+        K::at(ww, read).put(ww, put);
         wc[put] = wc[read];
-        i += 1;
     }
 }

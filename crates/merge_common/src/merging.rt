@@ -4,8 +4,9 @@ ghost use Prim.Native.Nat.{◌<◌, ◌≤◌, compare};
 ghost use Rattle.residue.specs.Modular.{Modulus};
 ghost use Rattle.polynomial.specs.Opening.{is_larger};
 ghost use Rattle.merge_common.specs.Lent.{flag, chosen};
-ghost use Rattle.merge_common.specs.Joining.{joined, joined_last};
+ghost use Rattle.merge_common.specs.Joining.{numbered, joined, joined_last};
 
+use crate::places::Key;
 use residue::arithmetic::add;
 
 // Where a merge lies, and the comparisons.
@@ -19,8 +20,8 @@ pub struct Placed {
 // What a turn makes of a term of each list: the term to store, how many of the left and of the
 // right list it is made of, and how many it is, none where like terms cancel.
 #[derive(Clone, Copy)]
-pub struct Joined {
-    pub word: u64,
+pub struct Joined<K> {
+    pub word: K,
     pub coef: u32,
     pub left: usize,
     pub right: usize,
@@ -28,10 +29,11 @@ pub struct Joined {
 }
 
 // 1 where the key x is larger than y, and else 0.
-pub fn larger(x: u64, y: u64) -> usize
-    ensures { (result ≡ flag (is_larger (compare x y))) × (result ≤ 1) }
+pub fn larger<K: Key>(x: K, y: K) -> usize
+    ensures { (result ≡ flag (is_larger (compare (K.number x) (K.number y)))) × (result ≤ 1) }
 {
-    (y < x) as usize
+    let by = x.deciding(y);
+    (by.second < by.first) as usize
 }
 
 // 1 where the coefficient is not 0, and else 0.
@@ -42,15 +44,7 @@ pub fn not_zero(c: u32) -> usize
 }
 
 // x for the flag 1, and y for 0.
-pub fn choose_word(f: usize, x: u64, y: u64) -> u64
-    requires { f ≤ 1 }
-    ensures { result ≡ chosen f x y }
-{
-    if f == 1 { x } else { y }
-}
-
-// The same for coefficients.
-pub fn choose_coef(f: usize, x: u32, y: u32) -> u32
+pub fn choose<T: Copy>(f: usize, x: T, y: T) -> T
     requires { f ≤ 1 }
     ensures { result ≡ chosen f x y }
 {
@@ -59,16 +53,17 @@ pub fn choose_coef(f: usize, x: u32, y: u32) -> u32
 
 // The larger of two leads, or the sum of like ones, without a branch: x is larger for l, y is for m, and
 // the two are like for neither.
-pub fn join(x: u64, c: u32, y: u64, d: u32, p: u32) -> Joined
+pub fn join<K: Key>(x: K, c: u32, y: K, d: u32, p: u32) -> Joined<K>
     requires { Modulus p × (c < p) × (d < p) }
-    ensures { result ≡ joined x c y d p }
+    ensures { numbered K.number result ≡ joined (K.number x) c (K.number y) d p }
 {
-    let l = larger(x, y);
-    let m = larger(y, x);
+    let by = x.deciding(y);
+    let l = larger(by.first, by.second);
+    let m = larger(by.second, by.first);
     let sum = add(c, d, p);
-    let coef = choose_coef(l + m, choose_coef(l, c, d), sum);
+    let coef = choose(l + m, choose(l, c, d), sum);
     Joined {
-        word: choose_word(m, y, x),
+        word: choose(m, y, x),
         coef,
         left: 1 - m,
         right: 1 - l,
@@ -77,16 +72,17 @@ pub fn join(x: u64, c: u32, y: u64, d: u32, p: u32) -> Joined
 }
 
 // The smaller of two last terms, or the sum of like ones, in the same way.
-pub fn join_last(x: u64, c: u32, y: u64, d: u32, p: u32) -> Joined
+pub fn join_last<K: Key>(x: K, c: u32, y: K, d: u32, p: u32) -> Joined<K>
     requires { Modulus p × (c < p) × (d < p) }
-    ensures { result ≡ joined_last x c y d p }
+    ensures { numbered K.number result ≡ joined_last (K.number x) c (K.number y) d p }
 {
-    let l = larger(x, y);
-    let m = larger(y, x);
+    let by = x.deciding(y);
+    let l = larger(by.first, by.second);
+    let m = larger(by.second, by.first);
     let sum = add(c, d, p);
-    let coef = choose_coef(l + m, choose_coef(l, d, c), sum);
+    let coef = choose(l + m, choose(l, d, c), sum);
     Joined {
-        word: choose_word(l, y, x),
+        word: choose(l, y, x),
         coef,
         left: 1 - l,
         right: 1 - m,

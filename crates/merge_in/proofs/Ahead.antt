@@ -91,7 +91,7 @@ module _ {p : ℕ} {fw fc sw₀ sc₀ : List ℕ} {h e : ℕ} (pre : Into p fw f
           ap₂ terms (part-lead sw₀ j e hj pre.words-end) (part-lead sc₀ j e hj pre.coefs-end)
           ∙ sym (ap₂ (λ (a b : ℕ). term a b ∷ G (j + 1)) (s.words-held.stay j (inr (omega arith))) (s.coefs-held.stay j (inr (omega arith))))
 
-      module _ {t : Joined} (q : t ≡ joined (get_or fw i 0) (get_or fc i 0) (get_or sw j 0) (get_or sc j 0) p) where
+      module _ {t : Joined ℕ} (q : t ≡ joined (get_or fw i 0) (get_or fc i 0) (get_or sw j 0) (get_or sc j 0) p) where
         turned : Turn p (λ a. drop a F) G i j t
         turned = turn p (λ a. drop a F) G i j (get_or fw i 0) (get_or fc i 0) (get_or sw j 0) (get_or sc j 0) (lead-at fw fc i pre.lent.long hi) y-lead x-within.0 y-within.0 q
 
@@ -169,3 +169,25 @@ module _ {p : ℕ} {fw fc sw₀ sc₀ : List ℕ} {h e : ℕ} (pre : Into p fw f
         placed head (e - head) (ap (λ (l : List (Term ℕ)). merge_count compare l (G j)) none ∙ count_left compare (G j)) len_is (omega arith) (omega (arith, s))
         (held_up s.words-held s.at e s.in-s (G j) _ whole head eh ew (ap (λ (m : ℕ). part j m sw₀) long ∙ sym (words-terms (part j (e - j) sw₀) (part j (e - j) sc₀) (lc ∙ sym lw))) (omega (arith, s)) (omega (arith, s)) pre.words-end)
         (held_up s.coefs-held s.at e s.in-s (G j) _ whole head eh ec (ap (λ (m : ℕ). part j m sc₀) long ∙ sym (coefs-terms (part j (e - j) sw₀) (part j (e - j) sc₀) (lc ∙ sym lw))) (omega (arith, s)) (omega (arith, s)) pre.coefs-end)
+
+-- ---- where the terms of f are counted by their coefficients
+-- it begins
+pub start-at : {p : ℕ} {fw fc sw₀ sc₀ : List ℕ} {h e : ℕ} → Into p fw fc sw₀ sc₀ h e → Ahead p fw fc sw₀ sc₀ h e sw₀ sc₀ 0 h (h - length fc) 0
+start-at {p} {fw} {fc} {sw₀} {sc₀} {h} {e} pre = subst (λ (x : ℕ). Ahead p fw fc sw₀ sc₀ h e sw₀ sc₀ 0 h (h - x) 0) (sym pre.lent.long) (ahead-start pre)
+
+-- it ends
+module _ {p : ℕ} {fw fc sw₀ sc₀ : List ℕ} {h e : ℕ} (pre : Into p fw fc sw₀ sc₀ h e) {sw sc : List ℕ} {i j k n : ℕ} (s : Ahead p fw fc sw₀ sc₀ h e sw sc i j k n) where
+  abbrev Result : (sw' sc' : List ℕ) (head len : ℕ) → Type 0
+  Result sw' sc' head len = PlacedIn compare p (terms fw fc) (terms (part h (e - h) sw₀) (part h (e - h) sc₀)) (h - length fw) e sw₀ sc₀ sw' sc' (record { head = head; len = len; comparisons = n })
+
+  low : h - length fc ≡ h - length fw
+  low = ap (λ (m : ℕ). h - m) pre.lent.long
+
+  pub rest-placed : (length fc ≤ i) ⊎ (e ≤ j) → i < length fc → {sw' sc' : List ℕ} → sw' ≡ sets sw k (part i (length fw - i) fw) → sc' ≡ sets sc k (part i (length fc - i) fc) → Result sw' sc' (h - length fc) (k + (length fc - i) - (h - length fc))
+  rest-placed end more {sw'} {sc'} ew ec =
+      subst (λ (x : ℕ). Result sw' sc' x (k + (length fc - i) - (h - length fc))) (sym low)
+      (put_rest pre s (subst (λ (x : ℕ). (x ≤ i) ⊎ (e ≤ j)) pre.lent.long end) (omega (arith, pre.lent.long)) ew ec (omega (arith, pre.lent.long, length_part i (length fw - i) fw (omega (arith, pre.lent.long)))))
+
+  pub gap-placed : length fc ≤ i → {sw' sc' : List ℕ} {head : ℕ} → head ≡ h - length fc + (j - k) → sw' ≡ sets sw head (part (h - length fc) (k - (h - length fc)) sw) → sc' ≡ sets sc head (part (h - length fc) (k - (h - length fc)) sc) → Result sw' sc' head (e - head)
+  gap-placed end {sw'} {sc'} {head} eh ew ec =
+      gap-closed pre s (omega (arith, pre.lent.long)) (eh ∙ ap (λ (x : ℕ). x + (j - k)) low) (ew ∙ ap (λ (x : ℕ). sets sw head (part x (k - x) sw)) low) (ec ∙ ap (λ (x : ℕ). sets sc head (part x (k - x) sc)) low)

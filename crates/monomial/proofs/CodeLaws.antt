@@ -1,77 +1,48 @@
 -- What the functions compute, on plain numbers: each law is a step of one of them. Assumes nothing.
 use mathlib.Core.Path.{◌≡◌, refl, sym, ap, ap₂, ◌∙◌, subst}
-use mathlib.Core.Bool.{Bool, false}
+use mathlib.Core.Bool.{false}
 use mathlib.Core.List.{List, [], ◌∷◌, reverse}
+use mathlib.Core.Logic.{◌⊎◌, inl, inr}
 use Prim.Native.Nat.{ℕ, zero, suc, ◌+◌, ◌-◌, ◌*◌, ◌/◌, ◌%◌, ◌^◌, ◌<◌, ◌≤◌, zero-le, compare}
 use native.Mathlib.Nat.{mul-pos, zero-mul, mod-eq_of_lt, div-div-eq-div-mul, mul-le-mul}
 use native.Mathlib.Numerals.{add-one}
 use native.Mathlib.Omega.{arith}
-use borrow.Author.Tests.{eq-eqb, ne_eqb}
+use borrow.Author.Tests.{lt-ltb, le-ltb, eq-eqb, ne_eqb}
+use Rattle.std.specs.Ordering.{nat_cmp}
 use lib.Dec.{eqb, lit<}
-use lib.Bits.{bit_and, bit_xor, xor_block, xor_zero_r, xor_add_and, and_mask, and_high}
+use lib.Bits.{bit_and, bit_xor, xor_add_and, and_mask, and_high}
 use lib.Pow.{pow_mono, pow_pos, mod-mod-pow, field}
 use lib.ListN.{length, get_or, take, drop}
 use lib.Seq.{take-suc, take_all, length-take-le}
 use Rattle.monomial.specs.declared.order.Order.{Order}
 use Rattle.monomial.specs.declared.order.Order.TheVariants.{Lex, DegLex, DegRevLex}
-use Rattle.monomial.specs.declared.order.Comparison.TheVariants.{Smaller, Same, Larger}
-use Rattle.monomial.specs.Exponents.{weighted, order_by, order_of}
+use Rattle.monomial.specs.Exponents.{weighted}
 use Rattle.monomial.specs.Layout.{bytes, of_bytes, six, upward, low_bit, word_of, fields, Below, below, in_layout, beyond_bits, WeightsFit}
-use Rattle.monomial.specs.Words.{low, high, compare_words, key_of, from_key, answer, Packed, divides_word}
-use Rattle.monomial.proofs.Comparing.{lt-compare, eq-compare, gt-compare}
+use Rattle.monomial.specs.Words.{compare_words, key_of, answer, Packed, divides_word}
+use Rattle.monomial.proofs.Comparing.{Tri, less, same, more, tri}
 use Rattle.monomial.proofs.Places.{length-each, below-reverse, below_true, below-upward, length-upward, weighted-zeros, upward-upward, weighted-upward, weighted-enough, true_below}
 use Rattle.monomial.proofs.ByteLaws.{length-bytes, bytes_below, of_bytes_bytes, bytes_of, tops, tops-clear, tops-set, apart, apart-sum, apart_below, apart-full, full, of_bytes-drop, of_bytes-take, zero-bytes}
 use Rattle.monomial.proofs.LayoutLaws.{below-fields}
-use Rattle.monomial.proofs.KeyLaws.{key-compare, from_key_lem}
+use Rattle.monomial.proofs.KeyLaws.{key-compare}
 use Rattle.monomial.proofs.FieldLaws.{pow-bytes, drop-reverse, word_more}
 
--- ---- the number of an order
-pub order-first : (k : ℕ) → k ≡ 1 → Lex ≡ order_of k
-order-first k h = sym (ap (λ (t : Bool). order_by t (eqb k 2)) (eq-eqb k 1 h))
-
-pub order-second : (k : ℕ) → (k ≡ 1 → ⊥) → k ≡ 2 → DegLex ≡ order_of k
-order-second k h l = sym (ap₂ order_by (ne_eqb k 1 h) (eq-eqb k 2 l))
-
-pub order_other : (k : ℕ) → (k ≡ 1 → ⊥) → (k ≡ 2 → ⊥) → DegRevLex ≡ order_of k
-order_other k h l = sym (ap₂ order_by (ne_eqb k 1 h) (ne_eqb k 2 l))
-
 -- ---- keys
-pub key-lex : (o : Order) (w : ℕ) → o ≡ Lex → w % 2 ^ 48 * 65536 + w / 2 ^ 48 ≡ key_of o w
-key-lex o w h = rw h
-
 pub inverted : (r : ℕ) → r < 2 ^ 48 → bit_xor r (2 ^ 48 - 1) ≡ 2 ^ 48 - 1 - r
 inverted r h = omega (arith, xor_add_and r (2 ^ 48 - 1), and_mask r 48)
-
-pub key-rev : (o : Order) (w : ℕ) → o ≡ DegRevLex → bit_xor w (2 ^ 48 - 1) ≡ key_of o w
-key-rev o w h =
-    rw h
-    (ap (λ (n : ℕ). bit_xor n (2 ^ 48 - 1)) (let e : w ≡ high w * 2 ^ 48 + low w = omega arith in e)
-    ∙ (xor_block 48 (high w) 0 (low w) (2 ^ 48 - 1) (omega arith) (lit< tt)
-    ∙ ap₂ (λ (i j : ℕ). i * 2 ^ 48 + j) (xor_zero_r (high w)) (inverted (low w) (omega arith))))
-
-pub word-lex : (o : Order) (k : ℕ) → k < 2 ^ 64 → o ≡ Lex → k % 65536 * 2 ^ 48 + k / 65536 ≡ from_key o k
-word-lex o k h e = rw e (sym (from_key_lem Lex k h))
-
-pub word-deg : (o : Order) (k : ℕ) → k < 2 ^ 64 → o ≡ DegLex → k ≡ from_key o k
-word-deg o k h e = rw e (sym (from_key_lem DegLex k h))
-
--- the word of a key of dp is had as its key is
-pub word-rev : (o : Order) (k : ℕ) → k < 2 ^ 64 → o ≡ DegRevLex → bit_xor k (2 ^ 48 - 1) ≡ from_key o k
-word-rev o k h e = key-rev DegRevLex k refl ∙ rw e (sym (from_key_lem DegRevLex k h))
 
 -- ---- the comparison of two words, by their keys
 module _ (o : Order) (x y a b : ℕ) (hx : x < 2 ^ 64) (hy : y < 2 ^ 64) (ea : a ≡ key_of o x) (eb : b ≡ key_of o y) where
   keyed : compare_words o x y ≡ compare a b
   keyed = sym (key-compare o x y hx hy) ∙ ap₂ compare (sym ea) (sym eb)
 
-  pub is-smaller : a < b → Smaller ≡ answer (compare_words o x y)
-  is-smaller h = sym (ap answer (keyed ∙ lt-compare h))
-
-  pub is-larger : b < a → Larger ≡ answer (compare_words o x y)
-  is-larger h = sym (ap answer (keyed ∙ gt-compare h))
-
-  pub is_same : a ≤ b → b ≤ a → Same ≡ answer (compare_words o x y)
-  is_same h k = sym (ap answer (keyed ∙ eq-compare (let e : a ≡ b = omega arith in e)))
+  -- what `cmp` of the keys gives
+  pub by-keys : nat_cmp a b ≡ answer (compare_words o x y)
+  by-keys = go (tri a b)
+    where
+      go : Tri a b → nat_cmp a b ≡ answer (compare_words o x y)
+      go (less h e) = rw (keyed, e, lt-ltb a b h)
+      go (same h e) = rw (keyed, e, le-ltb a b (omega arith))
+      go (more h e) = rw (keyed, e, le-ltb a b (omega arith))
 
 -- ---- divisibility
 module _ (x y : ℕ) (hx : Packed x) (hy : Packed y) where
@@ -133,11 +104,9 @@ high_bits (suc (suc (suc (suc (suc zero))))) h = refl
 high_bits (suc (suc (suc (suc (suc (suc zero)))))) h = refl
 high_bits (suc (suc (suc (suc (suc (suc (suc n))))))) h = absurd (let z : ⊥ = omega arith in z)
 
-pub beyond-lex : (o : Order) (n : ℕ) → o ≡ Lex → n ≤ 6 → (2 ^ 48 - 1) / 2 ^ (8 * n) ≡ beyond_bits o n
-beyond-lex o n e h = rw e (low_bits n h)
-
-pub beyond-deg : (o : Order) (n : ℕ) → o ≡ DegLex → n ≤ 6 → (2 ^ 48 - 1) / 2 ^ (8 * n) ≡ beyond_bits o n
-beyond-deg o n e h = rw e (low_bits n h)
+pub beyond-down : (o : Order) (n : ℕ) → (o ≡ Lex) ⊎ (o ≡ DegLex) → n ≤ 6 → (2 ^ 48 - 1) / 2 ^ (8 * n) ≡ beyond_bits o n
+beyond-down o n (inl e) h = rw e (low_bits n h)
+beyond-down o n (inr e) h = rw e (low_bits n h)
 
 pub beyond-rev : (o : Order) (n : ℕ) → o ≡ DegRevLex → n ≤ 6 → (2 ^ 48 - 1) / 2 ^ (8 * n) * 2 ^ (8 * n) % 2 ^ 64 ≡ beyond_bits o n
 beyond-rev o n e h = rw e (high_bits n h)
@@ -198,16 +167,6 @@ module _ (o : Order) (n v w : ℕ) where
     by-degree h k s e =
         let z = beyond-is ∙ eq-eqb (bit_and w b) 0 k in
         rw (clear ∙ eq-eqb (bit_and w (tops 6)) 0 h, z) (ap (eqb (w / 2 ^ 48)) (e ∙ (sym (weighted-upward o (bytes 6 v) (bytes 6 w) (length-bytes 6 v ∙ sym (length-bytes 6 w))) ∙ sym (weighted-enough (fields o v) n (fields o w) (true_below 1 (drop n (fields o w)) z)))))
-
--- ---- bits of a field
-pub bit-lex : (o : Order) (i : ℕ) → o ≡ Lex → 40 - 8 * i ≡ low_bit o i
-bit-lex o i h = rw h
-
-pub bit-deg : (o : Order) (i : ℕ) → o ≡ DegLex → 40 - 8 * i ≡ low_bit o i
-bit-deg o i h = rw h
-
-pub bit-rev : (o : Order) (i : ℕ) → o ≡ DegRevLex → 8 * i ≡ low_bit o i
-bit-rev o i h = rw h
 
 -- an exponent that is moved to its field stays below the degree
 pub moved : (e s : ℕ) → e < 256 → s ≤ 40 → (e * 2 ^ s % 2 ^ 64 ≡ e * 2 ^ s) × (e * 2 ^ s < 2 ^ 48)
@@ -294,27 +253,9 @@ module _ (l : List ℕ) (g : WeightsFit l) where
   pub sinking-fits : Below 256 (sinking l)
   sinking-fits = subst (Below 256) turned-list (true_below 256 (reverse l) (below-reverse 256 l ∙ below_true 256 l g.bytes-are))
 
-  pub weights-lex : (o : Order) (r : ℕ) → o ≡ Lex → r ≡ of_bytes (sinking l) → fields o r ≡ l
-  weights-lex o r e h = rw e (ap (fields Lex) (h ∙ ap of_bytes (sym turned-list)) ∙ fields_lying Lex l g)
-
-  pub weights-deg : (o : Order) (r : ℕ) → o ≡ DegLex → r ≡ of_bytes (sinking l) → fields o r ≡ l
-  weights-deg o r e h = rw e (ap (fields DegLex) (h ∙ ap of_bytes (sym turned-list)) ∙ fields_lying DegLex l g)
+  pub weights-down : (o : Order) (r : ℕ) → (o ≡ Lex) ⊎ (o ≡ DegLex) → r ≡ of_bytes (sinking l) → fields o r ≡ l
+  weights-down o r (inl e) h = rw e (ap (fields Lex) (h ∙ ap of_bytes (sym turned-list)) ∙ fields_lying Lex l g)
+  weights-down o r (inr e) h = rw e (ap (fields DegLex) (h ∙ ap of_bytes (sym turned-list)) ∙ fields_lying DegLex l g)
 
   pub weights-rev : (o : Order) (r : ℕ) → o ≡ DegRevLex → r ≡ of_bytes (rising l) → fields o r ≡ l
   weights-rev o r e h = rw e (ap (fields DegRevLex) (h ∙ ap of_bytes (sym (six-list l g.six-are))) ∙ fields_lying DegRevLex l g)
-
--- ---- sums and products that fit
-pub byte-times : (x y : ℕ) → x < 256 → y < 256 → x * y < 65536
-byte-times x y h k = let l : x * y ≤ 255 * 255 = mul-le-mul (let q : x ≤ 255 = omega arith in q) (let q : y ≤ 255 = omega arith in q) in omega arith
-
-pub key_fits : (w : ℕ) → w < 2 ^ 64 → w % 2 ^ 48 * 65536 + w / 2 ^ 48 < 2 ^ 64
-key_fits w h = fits (w % 2 ^ 48) (w / 2 ^ 48) (omega arith) (omega arith)
-  where
-    fits : (r q : ℕ) → r < 2 ^ 48 → q < 65536 → r * 65536 + q < 2 ^ 64
-    fits r q hr hq = omega arith
-
-pub word_fits : (k : ℕ) → k < 2 ^ 64 → k % 65536 * 2 ^ 48 + k / 65536 < 2 ^ 64
-word_fits k h = fits (k % 65536) (k / 65536) (omega arith) (omega arith)
-  where
-    fits : (r q : ℕ) → r < 65536 → q < 2 ^ 48 → r * 2 ^ 48 + q < 2 ^ 64
-    fits r q hr hq = omega arith

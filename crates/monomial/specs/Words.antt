@@ -1,10 +1,10 @@
 -- What is done with words: comparison and divisibility, as operations on numbers. The theorems of `proofs/` say that on words of the layout they are those on exponents. Assumes nothing.
 use Prim.Native.Nat.{ℕ, ◌+◌, ◌-◌, ◌*◌, ◌/◌, ◌%◌, ◌^◌, ◌<◌, min, compare, Ordering}
 use Rattle.std.specs.Prelude.{Bool}
+use Rattle.std.specs.declared.cmp.Ordering as cmp
+use Rattle.std.specs.declared.cmp.Ordering.TheVariants.{Less, Equal, Greater}
 use Rattle.monomial.specs.declared.order.Order.{Order}
 use Rattle.monomial.specs.declared.order.Order.TheVariants.{Lex, DegLex, DegRevLex}
-use Rattle.monomial.specs.declared.order.Comparison.{Comparison}
-use Rattle.monomial.specs.declared.order.Comparison.TheVariants.{Smaller, Same, Larger}
 use Rattle.monomial.specs.Exponents.{or_else, divides}
 use Rattle.monomial.specs.Layout.{bytes, Below}
 
@@ -62,10 +62,11 @@ unkey DegRevLex k = high k * 2 ^ 48 + (2 ^ 48 - 1 - low k)
 abbrev pub from_key : Order → ℕ → ℕ
 from_key o k = unkey o (min k (2 ^ 64 - 1)) + 2 ^ 64 * (2 ^ 64 * (k - min k (2 ^ 64 - 1)))
 
-abbrev pub answer : Ordering → Comparison
-answer Ordering.lt = Smaller
-answer Ordering.eq = Same
-answer Ordering.gt = Larger
+-- the comparison as std's `Ordering`, which the code answers
+abbrev pub answer : Ordering → cmp.Ordering
+answer Ordering.lt = Less
+answer Ordering.eq = Equal
+answer Ordering.gt = Greater
 
 -- What the word arithmetic below asks of a word: the top bit of each field is 0, and so is bit 63. Every word of the layout is so (theorem `layout-packed`).
 pub record Packed (w : ℕ) : Type 0 where

@@ -10,8 +10,7 @@ fn low_bit(order: Order, i: u32) -> u32
     ensures { (result ≡ low_bit order i) × (result ≤ 40) }
 {
     match order {
-        Order::Lex => 40 - 8 * i,
-        Order::DegLex => 40 - 8 * i,
+        Order::Lex | Order::DegLex => 40 - 8 * i,
         Order::DegRevLex => 8 * i,
     }
 }
@@ -30,15 +29,11 @@ pub fn weight_word(order: Order, weights: &[u32]) -> u64
     requires { WeightsFit weights.now }
     ensures { fields order result ≡ weights.now }
 {
-    let x1 = weights[0];
-    let x2 = weights[1];
-    let x3 = weights[2];
-    let x4 = weights[3];
-    let x5 = weights[4];
-    let x6 = weights[5];
+    let &[x1, x2, x3, x4, x5, x6] = weights else {
+        unreachable!()
+    };
     match order {
-        Order::Lex => of_bytes(x6, x5, x4, x3, x2, x1),
-        Order::DegLex => of_bytes(x6, x5, x4, x3, x2, x1),
+        Order::Lex | Order::DegLex => of_bytes(x6, x5, x4, x3, x2, x1),
         Order::DegRevLex => of_bytes(x1, x2, x3, x4, x5, x6),
     }
 }
@@ -59,18 +54,10 @@ pub fn word_of(order: Order, weights: u64, exps: &[u8]) -> u64
     ensures { result ≡ word_of order (fields order weights) exps.now }
 {
     let mut word: u64 = 0;
-    let mut i = 0;
-    while i < exps.len() {
-        let e = wide(exps[i]);
-        let v = wide(exponent(order, weights, i as u32));
+    for (i, e) in exps.iter().enumerate() {
+        let e = u64::from(*e);
+        let v = u64::from(exponent(order, weights, i as u32));
         word += v * e * 0x1_0000_0000_0000 + (e << low_bit(order, i as u32));
-        i += 1;
     }
     word
-}
-
-fn wide(e: u8) -> u64
-    ensures { (result ≡ e) × (result < 256) }
-{
-    e as u64
 }

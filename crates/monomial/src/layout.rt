@@ -17,8 +17,7 @@ pub fn beyond_bits(order: Order, n: u32) -> u64
 {
     let low = FIELDS >> (8 * n);
     match order {
-        Order::Lex => low,
-        Order::DegLex => low,
+        Order::Lex | Order::DegLex => low,
         Order::DegRevLex => low << (8 * n),
     }
 }

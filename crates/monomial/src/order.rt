@@ -3,20 +3,26 @@ ghost use Rattle.std.specs.Prelude.{◌≡◌};
 ghost use Rattle.monomial.specs.Exponents.{order_of};
 ghost use Rattle.monomial.specs.Words.{key_of, from_key, compare_words, answer};
 
+use std::cmp::Ordering;
+use std::fmt;
+
 // The orders by their numbers in document 01: 1 = lp, 2 = Dp, 3 = dp.
-#[derive(Clone, Copy)]
+#[derive(Clone, Copy, Debug, PartialEq, Eq)]
 pub enum Order {
     Lex,
     DegLex,
     DegRevLex,
 }
 
-// How a monomial stands to another.
-#[derive(Clone, Copy)]
-pub enum Comparison {
-    Smaller,
-    Same,
-    Larger,
+// The orders by their names in document 01.
+impl fmt::Display for Order {
+    fn fmt<W: fmt::Write>(&self, f: &mut fmt::Formatter<W>) -> fmt::Result {
+        f.write_str(match self {
+            Order::Lex => "lp",
+            Order::DegLex => "Dp",
+            Order::DegRevLex => "dp",
+        })
+    }
 }
 
 // The order of a number. Whoever takes a number from outside refuses all but 1 to 3 first.
@@ -57,17 +63,9 @@ impl Order {
     }
 
     // How the monomial x stands to y.
-    pub fn compare(self, x: u64, y: u64) -> Comparison
+    pub fn compare(self, x: u64, y: u64) -> Ordering
         ensures { result ≡ answer (compare_words self x y) }
     {
-        let kx = self.key(x);
-        let ky = self.key(y);
-        if kx < ky {
-            Comparison::Smaller
-        } else if ky < kx {
-            Comparison::Larger
-        } else {
-            Comparison::Same
-        }
+        self.key(x).cmp(&self.key(y))
     }
 }

@@ -35,10 +35,8 @@ pub fn highest(words: &[u64]) -> u64
     ensures { result ≡ highest_word words.now }
 {
     let mut high: u64 = 0;
-    let mut i = 0;
-    while i < words.len() {
-        high = raise(high, words[i]);
-        i += 1;
+    for w in words {
+        high = raise(high, *w);
     }
     high
 }
@@ -80,10 +78,8 @@ fn put_products(order: Order, q: u64, words: &[u64], ow: &mut [u64], to: usize)
     requires { Packed q × AllPacked words.now × (to + length words.now ≤ length ow.old) }
     ensures { ow.new ≡ sets ow.old to (map (λ w. key_of order (q + w)) words.now) }
 {
-    let mut i = 0;
-    while i < words.len() {
-        ow[to + i] = order.key(q + words[i]);
-        i += 1;
+    for (i, w) in words.iter().enumerate() {
+        ow[to + i] = order.key(q + *w);
     }
 }
 
@@ -92,9 +88,7 @@ fn put_scaled(factor: Factor, coefs: &[u32], oc: &mut [u32], to: usize)
     requires { Prepared factor × Below factor.prime coefs.now × (to + length coefs.now ≤ length oc.old) }
     ensures { oc.new ≡ sets oc.old to (map (λ c. product factor.prime factor.value c) coefs.now) }
 {
-    let mut j = 0;
-    while j < coefs.len() {
-        oc[to + j] = factor.times(coefs[j]);
-        j += 1;
+    for (j, c) in coefs.iter().enumerate() {
+        oc[to + j] = factor.times(*c);
     }
 }

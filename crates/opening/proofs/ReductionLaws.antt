@@ -1,10 +1,10 @@
 -- A reduction's opening checks, and what a reduction that no check refuses is. Assumes nothing.
 use mathlib.Core.Path.{◌≡◌, refl, sym, ap, ◌∙◌}
-use mathlib.Core.Bool.{Bool, true, false, ◌&&◌}
+use mathlib.Core.Bool.{Bool, true, ◌&&◌}
 use mathlib.Core.List.{List}
-use Prim.Native.Nat.{ℕ, ◌<◌, ◌≤◌}
+use Prim.Native.Nat.{ℕ}
 use native.Mathlib.Omega.{arith}
-use borrow.Author.Tests.{le-leb, lt-leb, leb-true}
+use borrow.Author.Tests.{leb-true}
 use lib.Dec.{leb, ltb}
 use lib.ListN.{length}
 use Rattle.limits.specs.Limits.{most_steps}
@@ -19,16 +19,10 @@ use Rattle.opening.specs.Run.{unless, setting, polynomials_refusal}
 use Rattle.opening.specs.Reduction.{reduction_shape, reduction_refusal, ReductionOpened}
 use Rattle.opening.specs.ReductionJudgement.{GoodReductionShape}
 use Rattle.polynomial.proofs.OpeningLaws.{first-none}
-use Rattle.opening.proofs.Tests.{first_some, passed, and-off, and-on}
+use Rattle.opening.proofs.Tests.{first_some, passed}
 use Rattle.opening.proofs.SettingLaws.{setting-passes}
 use Rattle.opening.proofs.PolynomialLaws.{polynomials-pass}
 use Rattle.opening.proofs.StartsJudged.{starts-good, good-starts}
-
-pub few-starts : (n : ℕ) → n ≤ 1 → ltb 1 n ≡ false
-few-starts n h = lt-leb 2 n (omega arith)
-
-pub some-starts : (n : ℕ) → 1 < n → ltb 1 n ≡ true
-some-starts n h = le-leb 2 n h
 
 pub reduction-shape-passes : {weights words coefs : ℕ} {ss : List ℕ} {limit bw bc ww wc ow oc : ℕ} → reduction_shape weights words coefs ss limit bw bc ww wc ow oc ≡ true → GoodReductionShape weights words coefs ss limit bw bc ww wc ow oc
 unfolding reduction_shape
@@ -89,13 +83,3 @@ reduction-opened t words coefs starts limit bw bc ww wc ow oc h =
       polynomials = polynomials-pass t words coefs starts d.0;
       divisors = divisors-rise starts (passed (divisors_good starts) 7 (omega arith) d.1);
     }
-
--- by whether lengths and starts are good
-module _ (weights words coefs : ℕ) (ss : List ℕ) (limit bw bc ww wc ow oc : ℕ) where
-  pub reduction-off : (lent_good weights words coefs bw bc ww wc ow oc && starts_good ss words) ≡ false → reduction_shape weights words coefs ss limit bw bc ww wc ow oc ≡ false
-  unfolding reduction_shape
-  reduction-off e = and-off (lent_good weights words coefs bw bc ww wc ow oc) (starts_good ss words) (ltb 1 (length ss) && leb limit most_steps) e
-
-  pub reduction-on : (lent_good weights words coefs bw bc ww wc ow oc && starts_good ss words) ≡ true → reduction_shape weights words coefs ss limit bw bc ww wc ow oc ≡ (ltb 1 (length ss) && leb limit most_steps)
-  unfolding reduction_shape
-  reduction-on e = and-on (lent_good weights words coefs bw bc ww wc ow oc) (starts_good ss words) (ltb 1 (length ss) && leb limit most_steps) e

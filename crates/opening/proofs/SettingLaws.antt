@@ -1,8 +1,8 @@
 -- The setting's refusals, test by test, and what a setting that passes is. Assumes nothing.
 use mathlib.Core.Path.{◌≡◌, subst}
-use mathlib.Core.Bool.{true, false, and-false}
-use Prim.Native.Nat.{ℕ, ◌<◌, ◌≤◌}
-use borrow.Author.Tests.{le-leb, lt-leb}
+use mathlib.Core.Bool.{true, false}
+use Prim.Native.Nat.{ℕ, ◌≤◌}
+use borrow.Author.Tests.{le-leb}
 use Rattle.limits.specs.Limits.{largest_prime, most_variables}
 use Rattle.refusal.specs.Judgement.{Judged}
 use Rattle.refusal.proofs.JudgementLaws.{judged-none}
@@ -16,30 +16,14 @@ use Rattle.opening.proofs.WeightsJudged.{good-weights, weights-fit}
 use Rattle.opening.proofs.Judgements.{setting-counted, setting-judged}
 
 module _ (t : Setting) where
-  pub over-limit : largest_prime < t.p → 1 ≡ setting t
-  unfolding setting
-  over-limit h = simp (lt-leb t.p largest_prime h, and-false)
-
   pub no-prime : is_prime t.p ≡ false → 1 ≡ setting t
   unfolding setting
   no-prime h = simp h
 
   module _ (limit : t.p ≤ largest_prime) (prime : is_prime t.p ≡ true) where
-    pub no-order : between 1 3 t.order ≡ false → 2 ≡ setting t
-    unfolding setting
-    no-order h = rw (le-leb t.p largest_prime limit, prime, h)
-
-    pub no-variables : between 1 3 t.order ≡ true → between 1 most_variables t.n ≡ false → 3 ≡ setting t
-    unfolding setting
-    no-variables h k = rw (le-leb t.p largest_prime limit, prime, h, k)
-
     pub no-weights : between 1 3 t.order ≡ true → between 1 most_variables t.n ≡ true → weights_good t.n t.weights ≡ false → 24 ≡ setting t
     unfolding setting
     no-weights h k l = rw (le-leb t.p largest_prime limit, prime, h, k, l)
-
-    pub set : between 1 3 t.order ≡ true → between 1 most_variables t.n ≡ true → weights_good t.n t.weights ≡ true → 0 ≡ setting t
-    unfolding setting
-    set h k l = rw (le-leb t.p largest_prime limit, prime, h, k, l)
 
 -- what a setting that passes is
 pub record Set (t : Setting) : Type 0 where

@@ -1,6 +1,6 @@
 -- What a good shape is. Assumes nothing.
 use mathlib.Core.Path.{◌≡◌}
-use mathlib.Core.Bool.{true, false, ◌&&◌}
+use mathlib.Core.Bool.{true, ◌&&◌}
 use mathlib.Core.List.{List}
 use Prim.Native.Nat.{ℕ}
 use Rattle.limits.specs.Limits.{bucket_places, weight_count, work_places}
@@ -9,7 +9,6 @@ use Rattle.polynomial.specs.Opening.{starts_good}
 use Rattle.conditions.specs.Lengths.{lent_good, pairs_good}
 use Rattle.conditions.proofs.LengthLaws.{lent-passes}
 use Rattle.opening.specs.Run.{shape_good}
-use Rattle.opening.proofs.Tests.{and-off, and-on}
 
 pub record Shaped (weights words coefs : ℕ) (ss : List ℕ) (ops bw bc ww wc ow oc : ℕ) : Type 0 where
   pub weights-six : weights ≡ weight_count
@@ -39,13 +38,3 @@ shape-passes {weights} {words} {coefs} {ss} {ops} {bw} {bc} {ww} {wc} {ow} {oc} 
       starts = s.0;
       pairs = s.1;
     }
-
--- by whether lengths and starts are good
-module _ (weights words coefs : ℕ) (ss : List ℕ) (ops bw bc ww wc ow oc : ℕ) where
-  pub shape-off : (lent_good weights words coefs bw bc ww wc ow oc && starts_good ss words) ≡ false → shape_good weights words coefs ss ops bw bc ww wc ow oc ≡ false
-  unfolding shape_good
-  shape-off e = and-off (lent_good weights words coefs bw bc ww wc ow oc) (starts_good ss words) (pairs_good ops) e
-
-  pub shape_on : (lent_good weights words coefs bw bc ww wc ow oc && starts_good ss words) ≡ true → shape_good weights words coefs ss ops bw bc ww wc ow oc ≡ pairs_good ops
-  unfolding shape_good
-  shape_on e = and-on (lent_good weights words coefs bw bc ww wc ow oc) (starts_good ss words) (pairs_good ops) e

@@ -1,5 +1,5 @@
 -- The test of the weights is the statement on them, and what weights that pass are. Assumes nothing.
-use mathlib.Core.Path.{◌≡◌, refl, sym, ap, ◌∙◌}
+use mathlib.Core.Path.{◌≡◌, refl, sym, ap, ap₂, ◌∙◌}
 use mathlib.Core.Bool.{Bool, true, false, ◌&&◌}
 use mathlib.Core.List.{List, [], ◌∷◌}
 use Prim.Native.Nat.{ℕ, zero, suc, ◌+◌, ◌-◌, ◌<◌, ◌≤◌, zero-le}
@@ -7,8 +7,8 @@ use native.Mathlib.Decide.{dec_lt}
 use native.Mathlib.Omega.{arith}
 use borrow.Author.Tests.{le-leb, leb-true, lt-ltb, le-ltb, eq-eqb, eqb-true}
 use lib.Dec.{leb, ltb}
-use lib.ListN.{length, get_or, drop, drop_of_length-le}
-use lib.Seq.{drop-cons}
+use lib.ListN.{length, get_or}
+use Rattle.std.specs.List.{list_all, enumerate_from}
 use Rattle.limits.specs.Limits.{largest_weight}
 use Rattle.conditions.proofs.Tests.{both}
 use Rattle.monomial.specs.Exponents.{Positive}
@@ -84,38 +84,15 @@ weights-small n vs g = (weights-range n vs (good-weights n vs g)).0
 pub weights-fit : (n : ℕ) (vs : List ℕ) → weights_good n vs ≡ true → length vs ≡ 6 → WeightsFit vs
 weights-fit n vs e six = record { six-are = six; bytes-are = Below-more 17 256 vs (omega arith) (weights-range n vs e).0 }
 
--- ---- the loop: the first i weights are good, and the rest decide
-pub record Weighed (n : ℕ) (vs : List ℕ) (i : ℕ) : Type 0 where
-  pub low : i ≤ length vs
-  pub rest : weights_good (n - i) (drop i vs) ≡ weights_good n vs
+-- ---- the weights one by one, from place i on
+weigh : (n i : ℕ) (vs : List ℕ) → list_all (λ (p : ℕ × ℕ). weight_good (ltb p.0 n) p.1) (enumerate_from i vs) ≡ weights_good (n - i) vs
+unfolding weights_good
+weigh n i [] = refl
+weigh n i (v ∷ vs) = ap₂ ◌&&◌ (ap (λ (b : Bool). weight_good b v) (left (dec_lt i n))) (weigh n (i + 1) vs ∙ ap (λ (m : ℕ). weights_good m vs) (let e : n - (i + 1) ≡ n - i - 1 = omega arith in e))
+  where
+    left : Dec (i < n) → ltb i n ≡ ltb 0 (n - i)
+    left (yes l) = lt-ltb i n l ∙ sym (lt-ltb 0 (n - i) (omega arith))
+    left (no l) = le-ltb i n (omega arith) ∙ sym (le-ltb 0 (n - i) (omega arith))
 
-module _ (n : ℕ) (vs : List ℕ) where
-  pub weigh-start : Weighed n vs 0
-  weigh-start = record { low = zero-le; rest = ap (λ (m : ℕ). weights_good m vs) (let e : n - 0 ≡ n = omega arith in e) }
-
-  module _ (i : ℕ) (g : Weighed n vs i) where
-    pub weigh-ends : length vs ≤ i → true ≡ weights_good n vs
-    unfolding weights_good
-    weigh-ends h = ap (weights_good (n - i)) (sym (drop_of_length-le vs {i = i} h)) ∙ g.rest
-
-    module _ (inside : i < length vs) (good : Bool) (is : good ≡ weight_good (ltb i n) (get_or vs i 0)) where
-      split : weights_good n vs ≡ (good && weights_good (n - (i + 1)) (drop (i + 1) vs))
-      unfolding weights_good
-      split =
-          sym g.rest
-          ∙ (ap (weights_good (n - i)) (drop-cons vs i 0 inside ∙ ap (λ (m : ℕ). get_or vs i 0 ∷ drop m vs) (let e : suc i ≡ i + 1 = omega arith in e))
-          ∙ (ap (λ (m : ℕ). weight_good (ltb 0 (n - i)) (get_or vs i 0) && weights_good m (drop (i + 1) vs)) (let e : n - i - 1 ≡ n - (i + 1) = omega arith in e)
-          ∙ ap (λ (b : Bool). b && weights_good (n - (i + 1)) (drop (i + 1) vs)) (ap (λ (b : Bool). weight_good b (get_or vs i 0)) (left i) ∙ sym is)))
-        where
-          left : (j : ℕ) → ltb 0 (n - j) ≡ ltb j n
-          left j = go (dec_lt j n)
-            where
-              go : Dec (j < n) → ltb 0 (n - j) ≡ ltb j n
-              go (yes l) = lt-ltb 0 (n - j) (omega arith) ∙ sym (lt-ltb j n l)
-              go (no l) = le-ltb 0 (n - j) (omega arith) ∙ sym (le-ltb j n (omega arith))
-
-      pub weigh-stop : good ≡ false → false ≡ weights_good n vs
-      weigh-stop e = sym (split ∙ ap (λ (b : Bool). b && weights_good (n - (i + 1)) (drop (i + 1) vs)) e)
-
-      pub weigh-next : good ≡ true → Weighed n vs (i + 1)
-      weigh-next e = record { low = omega arith; rest = sym (split ∙ ap (λ (b : Bool). b && weights_good (n - (i + 1)) (drop (i + 1) vs)) e) }
+pub weigh_all : (n : ℕ) (vs : List ℕ) → list_all (λ (p : ℕ × ℕ). weight_good (ltb p.0 n) p.1) (enumerate_from 0 vs) ≡ weights_good n vs
+weigh_all n vs = weigh n 0 vs ∙ ap (λ (m : ℕ). weights_good m vs) (let e : n - 0 ≡ n = omega arith in e)

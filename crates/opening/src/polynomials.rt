@@ -1,25 +1,27 @@
 // The opening check of all polynomials.
 ghost use Rattle.std.specs.Prelude.{◌≡◌, true, length};
+ghost use Rattle.refusal.specs.Table.{refusal_in};
 ghost use Rattle.polynomial.specs.Settings.{Testable};
 ghost use Rattle.polynomial.specs.Opening.{starts_good};
 ghost use Rattle.opening.specs.Run.{polynomials_refusal};
 
 use polynomial::check::check;
-use polynomial::part::{coefs_of, words_of};
+use polynomial::part::part_of;
 use polynomial::setting::Setting;
+use refusal::Refusal;
 
 // The first refusal of polynomial 0, 1, .., each handed on as its part of the slices.
-pub fn polynomials_refusal(t: Setting, words: &[u64], coefs: &[u32], starts: &[usize]) -> u32
+pub fn polynomials_refusal(
+    t: Setting,
+    words: &[u64],
+    coefs: &[u32],
+    starts: &[usize],
+) -> Result<(), Refusal>
     requires { Testable t × (length words.now ≡ length coefs.now) × (starts_good starts.now (length words.now) ≡ true) }
-    ensures { result ≡ polynomials_refusal t words.now coefs.now starts.now }
+    ensures { refusal_in result ≡ polynomials_refusal t words.now coefs.now starts.now }
 {
-    let mut k = 0;
-    while k + 1 < starts.len() {
-        let refusal = check(t, words_of(words, starts, k), coefs_of(coefs, starts, k));
-        if refusal != 0 {
-            return refusal;
-        }
-        k += 1;
+    for k in 0..starts.len() - 1 {
+        check(t, part_of(words, starts, k), part_of(coefs, starts, k))?;
     }
-    0
+    Ok(())
 }

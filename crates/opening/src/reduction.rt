@@ -1,5 +1,6 @@
 // All opening checks of a reduction, in their order.
 ghost use Rattle.std.specs.Prelude.{◌≡◌};
+ghost use Rattle.refusal.specs.Table.{refusal_in};
 ghost use Rattle.polynomial.specs.Settings.{setting_of};
 ghost use Rattle.opening.specs.Reduction.{reduction_shape, reduction_refusal};
 
@@ -7,11 +8,12 @@ use crate::polynomials::polynomials_refusal;
 use crate::setting::setting;
 use crate::shape::input_good;
 use conditions::divisors::divisors_good;
+use conditions::lengths::Lengths;
 use limits::MOST_STEPS;
 use polynomial::setting::setting_of;
+use refusal::Refusal;
 
-// The refusal of a reduction, 0 for none: 1, 2, 3, 24, 8, then the polynomials', then 7. The last six are
-// the lengths of bucket space, work space and output.
+// The refusal of a reduction: by its setting, its shape, the polynomials', then for a zero divisor.
 pub fn reduction_opening(
     p: u32,
     order: u32,
@@ -21,63 +23,40 @@ pub fn reduction_opening(
     coefs: &[u32],
     starts: &[usize],
     limit: u64,
-    bw: usize,
-    bc: usize,
-    ww: usize,
-    wc: usize,
-    ow: usize,
-    oc: usize,
-) -> u32
-    ensures { result ≡ reduction_refusal (setting_of p order n weights.now) words.now coefs.now starts.now limit bw bc ww wc ow oc }
+    lengths: Lengths,
+) -> Result<(), Refusal>
+    ensures { refusal_in result ≡ reduction_refusal (setting_of p order n weights.now) words.now coefs.now starts.now limit lengths.bw lengths.bc lengths.ww lengths.wc lengths.ow lengths.oc }
 {
-    let number = setting(p, order, n, weights);
-    if number != 0 {
-        return number;
-    }
+    setting(p, order, n, weights)?;
     if !reduction_shape(
         weights.len(),
         words.len(),
         coefs.len(),
         starts,
         limit,
-        bw,
-        bc,
-        ww,
-        wc,
-        ow,
-        oc,
+        lengths,
     ) {
-        return 8;
+        return Err(Refusal::BadShape);
     }
     let t = setting_of(p, order, n, weights);
-    let later = polynomials_refusal(t, words, coefs, starts);
-    if later != 0 {
-        return later;
+    polynomials_refusal(t, words, coefs, starts)?;
+    if !divisors_good(starts) {
+        return Err(Refusal::ZeroDivisor);
     }
-    if divisors_good(starts) { 0 } else { 7 }
+    Ok(())
 }
 
 // Whether lengths, starts and step limit are as a reduction asks, by the lengths of the slices.
+#[tactic(auto, unfolding(crate::specs::Reduction::reduction_shape))]
 fn reduction_shape(
     weights: usize,
     words: usize,
     coefs: usize,
     starts: &[usize],
     limit: u64,
-    bw: usize,
-    bc: usize,
-    ww: usize,
-    wc: usize,
-    ow: usize,
-    oc: usize,
+    lengths: Lengths,
 ) -> bool
-    ensures { result ≡ reduction_shape weights words coefs starts.now limit bw bc ww wc ow oc }
+    ensures { result ≡ reduction_shape weights words coefs starts.now limit lengths.bw lengths.bc lengths.ww lengths.wc lengths.ow lengths.oc }
 {
-    if !input_good(weights, words, coefs, starts, bw, bc, ww, wc, ow, oc) {
-        return false;
-    }
-    if starts.len() <= 1 {
-        return false;
-    }
-    limit <= MOST_STEPS
+    input_good(weights, words, coefs, starts, lengths) && 1 < starts.len() && limit <= MOST_STEPS
 }

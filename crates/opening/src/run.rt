@@ -1,16 +1,18 @@
 // All opening checks of a run, in their order.
 ghost use Rattle.std.specs.Prelude.{◌≡◌};
+ghost use Rattle.refusal.specs.Table.{refusal_in};
 ghost use Rattle.polynomial.specs.Settings.{setting_of};
 ghost use Rattle.opening.specs.Run.{run_refusal};
 
 use crate::polynomials::polynomials_refusal;
 use crate::setting::setting;
 use crate::shape::shape_good;
+use conditions::lengths::Lengths;
 use conditions::operations::operations_good;
 use polynomial::setting::setting_of;
+use refusal::Refusal;
 
-// The refusal of a run, 0 for none: 1, 2, 3, 24, 8, 9, then the polynomials'. The last six are the lengths
-// of bucket space, work space and output.
+// The refusal of a run: by its setting, its shape, its operations, then the polynomials'.
 pub fn run_opening(
     p: u32,
     order: u32,
@@ -20,36 +22,23 @@ pub fn run_opening(
     coefs: &[u32],
     starts: &[usize],
     ops: &[usize],
-    bw: usize,
-    bc: usize,
-    ww: usize,
-    wc: usize,
-    ow: usize,
-    oc: usize,
-) -> u32
-    ensures { result ≡ run_refusal (setting_of p order n weights.now) words.now coefs.now starts.now ops.now bw bc ww wc ow oc }
+    lengths: Lengths,
+) -> Result<(), Refusal>
+    ensures { refusal_in result ≡ run_refusal (setting_of p order n weights.now) words.now coefs.now starts.now ops.now lengths.bw lengths.bc lengths.ww lengths.wc lengths.ow lengths.oc }
 {
-    let number = setting(p, order, n, weights);
-    if number != 0 {
-        return number;
-    }
+    setting(p, order, n, weights)?;
     if !shape_good(
         weights.len(),
         words.len(),
         coefs.len(),
         starts,
         ops.len(),
-        bw,
-        bc,
-        ww,
-        wc,
-        ow,
-        oc,
+        lengths,
     ) {
-        return 8;
+        return Err(Refusal::BadShape);
     }
     if !operations_good(ops, starts.len() - 1) {
-        return 9;
+        return Err(Refusal::BadOperation);
     }
     let t = setting_of(p, order, n, weights);
     polynomials_refusal(t, words, coefs, starts)

@@ -1,7 +1,7 @@
 -- Slices of places of either width, as lists of numbers: parts, and whole places put, whatever puts two numbers together. Assumes nothing.
 use mathlib.Core.Path.{◌≡◌, refl, ap, ap₂}
 use mathlib.Core.List.{List, ◌++◌}
-use Prim.Native.Nat.{ℕ, ◌+◌, ◌-◌, ◌*◌, ◌≤◌}
+use Prim.Native.Nat.{ℕ, ◌+◌, ◌-◌, ◌*◌, ◌/◌, ◌≤◌}
 use native.Mathlib.Omega.{arith}
 use lib.ListN.{length, take, drop}
 use lib.Seq.{sets}
@@ -9,7 +9,7 @@ use Rattle.wide_monomial.specs.declared.width.Width.{Width}
 use Rattle.wide_monomial.specs.declared.width.Width.TheVariants.{One, Two}
 use Rattle.wide_monomial.specs.Widths.{words_each}
 use Rattle.place.specs.Numbers.{numbers_by}
-use Rattle.place.proofs.PairLaws.{length_pairs, pairs-long, pairs-drop, pairs-part, pairs-lent, pairs-sets, pairs-append}
+use Rattle.place.proofs.PairLaws.{length_pairs, pairs-long, pairs-whole, pairs-drop, pairs-part, pairs-lent, pairs-sets, pairs-append}
 
 once : (n : ℕ) → 1 * n ≡ n
 once n = omega arith
@@ -19,10 +19,28 @@ module _ (f : ℕ → ℕ → ℕ) where
   numbers-long One ws n e = omega arith
   numbers-long Two ws n e = pairs-long f ws n e
 
+  -- a slice of as many words has as many places
+  pub numbers-whole : (w : Width) (us vs : List ℕ) → length us ≡ length vs → length (numbers_by f w us) ≡ length (numbers_by f w vs)
+  numbers-whole One us vs e = e
+  numbers-whole Two us vs e = pairs-whole f us vs e
+
+  pub numbers-count : (w : Width) (ws : List ℕ) → length ws / words_each w ≡ length (numbers_by f w ws)
+  numbers-count One ws = omega arith
+  numbers-count Two ws = omega (arith, length_pairs f ws)
+
+  pub numbers-few : (w : Width) (ws : List ℕ) → length (numbers_by f w ws) ≤ length ws
+  numbers-few One ws = omega arith
+  numbers-few Two ws = omega (arith, length_pairs f ws)
+
   -- the words that so many places have
   pub numbers-room : (w : Width) (ws : List ℕ) (k : ℕ) → k ≤ length (numbers_by f w ws) → words_each w * k ≤ length ws
   numbers-room One ws k h = omega arith
   numbers-room Two ws k h = omega (arith, length_pairs f ws)
+
+  -- the same for places k up to k + n
+  pub numbers-space : (w : Width) (ws : List ℕ) (k n : ℕ) → k + n ≤ length (numbers_by f w ws) → words_each w * k + words_each w * n ≤ length ws
+  numbers-space One ws k n h = omega arith
+  numbers-space Two ws k n h = omega (arith, length_pairs f ws)
 
   pub numbers-drop : (w : Width) (k : ℕ) (ws : List ℕ) → numbers_by f w (drop (words_each w * k) ws) ≡ drop k (numbers_by f w ws)
   numbers-drop One k ws = ap (λ (n : ℕ). drop n ws) (once k)
@@ -44,3 +62,8 @@ module _ (f : ℕ → ℕ → ℕ) where
   pub numbers-append : (w : Width) (us : List ℕ) (n : ℕ) (vs : List ℕ) → length us ≡ words_each w * n → numbers_by f w (us ++ vs) ≡ numbers_by f w us ++ numbers_by f w vs
   numbers-append One us n vs e = refl
   numbers-append Two us n vs e = pairs-append f us n vs e
+
+-- there are as many places whatever puts two numbers together
+pub numbers-alike : (f g : ℕ → ℕ → ℕ) (w : Width) (ws : List ℕ) → length (numbers_by f w ws) ≡ length (numbers_by g w ws)
+numbers-alike f g One ws = refl
+numbers-alike f g Two ws = omega (arith, length_pairs f ws, length_pairs g ws)

@@ -1,8 +1,12 @@
 -- The monomials of a slice, as a list of numbers: with one word to a place they are the words, with two a place is the number that its two words are, or that its two keys stand for. Assumes nothing.
-use Rattle.std.specs.Prelude.{ℕ, ◌+◌, ◌*◌, ◌^◌, List, [], ◌∷◌}
+use Rattle.std.specs.Prelude.{ℕ, ◌+◌, ◌*◌, ◌^◌, ◌≡◌, List, [], ◌∷◌, length}
+use Rattle.monomial.specs.declared.order.Order.{Order}
+use Rattle.monomial.specs.Words.{key_of, from_key}
 use Rattle.wide_monomial.specs.declared.width.Width.{Width}
 use Rattle.wide_monomial.specs.declared.width.Width.TheVariants.{One, Two}
+use Rattle.wide_monomial.specs.Widths.{words_each}
 use Rattle.wide_monomial.specs.Wide.{paired}
+use Rattle.wide_monomial.specs.WideKeys.{wide_key_of, from_wide_key}
 
 -- two numbers to a place, put together by f; a last number alone is no place
 unfoldable pub pairs_by : (ℕ → ℕ → ℕ) → List ℕ → List ℕ
@@ -31,3 +35,16 @@ word_numbers w ws = numbers_by paired w ws
 
 abbrev pub key_numbers : Width → List ℕ → List ℕ
 key_numbers w ks = numbers_by keyed w ks
+
+-- there are whole places alone
+abbrev pub Whole : Width → List ℕ → Type 0
+Whole w ws = length ws ≡ words_each w * length (key_numbers w ws)
+
+-- the key of a monomial, and the monomial of a key, by width
+abbrev pub key_by : Width → Order → ℕ → ℕ
+key_by One o x = key_of o x
+key_by Two o x = wide_key_of o x
+
+abbrev pub from_key_by : Width → Order → ℕ → ℕ
+from_key_by One o k = from_key o k
+from_key_by Two o k = from_wide_key o k

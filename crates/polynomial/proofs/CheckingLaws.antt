@@ -2,6 +2,7 @@
 use mathlib.Core.Path.{◌≡◌, refl, sym, ap, ap₂, ◌∙◌}
 use mathlib.Core.Bool.{Bool, true, false, ◌&&◌, and-false}
 use mathlib.Core.List.{List, [], ◌∷◌, ◌++◌}
+use mathlib.Core.Logic.{◌⊎◌, inl, inr}
 use Prim.Native.Nat.{ℕ, zero, suc, ◌+◌, ◌<◌, ◌≤◌, zero-le, Ordering}
 use native.Mathlib.Omega.{arith}
 use lib.ListN.{length, take, drop, take-append-drop, drop_of_length-le}
@@ -10,7 +11,8 @@ use Rattle.monomial.specs.Words.{compare_words}
 use Rattle.polynomial.specs.declared.check.Checking.{Checking}
 use Rattle.polynomial.specs.declared.setting.Setting.{Setting}
 use Rattle.polynomial.specs.Terms.{Term, terms}
-use Rattle.polynomial.specs.Opening.{first, term_refusal, terms_refusal, is_larger, fall, order_by, refusal_of, polynomial_refusal}
+use Rattle.refusal.specs.Table.{listed}
+use Rattle.polynomial.specs.Opening.{first, term_by, term_refusal, terms_refusal, is_larger, fall, order_by, refusal_of, polynomial_refusal}
 use Rattle.polynomial.specs.Checking.{Carried, unseen, verdict, order_next, late_after, one_more, carry_on, carry_over, together, carried_by, polynomial_on}
 use Rattle.polynomial.proofs.TermLists.{terms-append}
 
@@ -146,22 +148,78 @@ slices-on t ws cs us ds a b long ea eb =
 pub slices-whole : (t : Setting) (ws cs : List ℕ) (a : Checking) → carried_by a ≡ polynomial_on t (unseen 0) (terms ws cs) → verdict (carried_by a) ≡ polynomial_refusal t (terms ws cs)
 slices-whole t ws cs a e = ap (λ (s : Carried ℕ). verdict s) e ∙ carry-whole (term_refusal (order_of t.order) t.n t.weights t.p) (compare_words (order_of t.order)) 0 (terms ws cs)
 
+-- ---- the numbers that can come
+-- the number for the order stays as it is, or becomes 6
+module _ {A : Type 0} (judge : Term A → ℕ) (cmp : A → A → Ordering) where
+  late-stays : (s : Carried A) (ts : List (Term A)) → ((carry_on judge cmp s ts).late ≡ s.late) ⊎ ((carry_on judge cmp s ts).late ≡ 6)
+  unfolding carry_on
+  late-stays s [] = inl refl
+  late-stays s (t ∷ ts) = by s.stop s.seen (is_larger (cmp s.last t.mono)) refl (λ u. late-stays u ts)
+    where
+      by : (r : ℕ) (seen : Bool) (b : Bool) → is_larger (cmp s.last t.mono) ≡ b → ((u : Carried A) → ((carry_on judge cmp u ts).late ≡ u.late) ⊎ ((carry_on judge cmp u ts).late ≡ 6)) → ((carry_on judge cmp (one_more judge cmp r s.late seen s.last t) ts).late ≡ s.late) ⊎ ((carry_on judge cmp (one_more judge cmp r s.late seen s.last t) ts).late ≡ 6)
+      by (suc r) seen b e again = again (record { stop = suc r; late = s.late; seen = seen; last = s.last })
+      by zero false b e again = again (record { stop = judge t; late = s.late; seen = true; last = t.mono })
+      by zero true true e again = rw e (again (record { stop = judge t; late = s.late; seen = true; last = t.mono }))
+      by zero true false e again = rw e (six (again (record { stop = judge t; late = 6; seen = true; last = t.mono })))
+        where
+          six : {k l : ℕ} → (k ≡ 6) ⊎ (k ≡ 6) → (k ≡ l) ⊎ (k ≡ 6)
+          six (inl q) = inr q
+          six (inr q) = inr q
+
+  -- so from 0 it is 0 or 6
+  pub late-either : (from : Carried A) (ts : List (Term A)) → from.late ≡ 0 → ((carry_on judge cmp from ts).late ≡ 0) ⊎ ((carry_on judge cmp from ts).late ≡ 6)
+  late-either from ts z = by (late-stays from ts)
+    where
+      by : {k : ℕ} → (k ≡ from.late) ⊎ (k ≡ 6) → (k ≡ 0) ⊎ (k ≡ 6)
+      by (inl q) = inl (q ∙ z)
+      by (inr q) = inr q
+
+  pub late-six : (from : Carried A) (ts : List (Term A)) → from.late ≡ 0 → ((carry_on judge cmp from ts).late ≡ 0 → ⊥) → (carry_on judge cmp from ts).late ≡ 6
+  late-six from ts z f = by (late-either from ts z)
+    where
+      by : ((carry_on judge cmp from ts).late ≡ 0) ⊎ ((carry_on judge cmp from ts).late ≡ 6) → (carry_on judge cmp from ts).late ≡ 6
+      by (inl q) = absurd (f q)
+      by (inr q) = q
+
+-- the number of a polynomial is that of a refusal, where it is not 0
+term-listed : (a b : Bool) → (term_by a b ≡ 0 → ⊥) → listed (term_by a b) ≡ true
+unfolding listed
+term-listed false b f = refl
+term-listed true false f = refl
+term-listed true true f = absurd (f refl)
+
+terms-listed : {A : Type 0} (judge : Term A → ℕ) → ((t : Term A) → (judge t ≡ 0 → ⊥) → listed (judge t) ≡ true) → (ts : List (Term A)) → (terms_refusal judge ts ≡ 0 → ⊥) → listed (terms_refusal judge ts) ≡ true
+unfolding terms_refusal
+terms-listed judge l [] f = absurd (f refl)
+terms-listed judge l (t ∷ ts) f = by (judge t) (l t) (terms-listed judge l ts) f
+  where
+    by : (r : ℕ) → ((r ≡ 0 → ⊥) → listed r ≡ true) → ((terms_refusal judge ts ≡ 0 → ⊥) → listed (terms_refusal judge ts) ≡ true) → (first r (terms_refusal judge ts) ≡ 0 → ⊥) → listed (first r (terms_refusal judge ts)) ≡ true
+    by zero k again h = again h
+    by (suc r) k again h = k h
+
+pub polynomial-listed : (t : Setting) (ts : List (Term ℕ)) → (polynomial_refusal t ts ≡ 0 → ⊥) → listed (polynomial_refusal t ts) ≡ true
+unfolding refusal_of listed
+polynomial-listed t ts f = by (terms_refusal judge ts) (fall (compare_words (order_of t.order)) ts) (terms-listed judge (λ u. term-listed _ _) ts) f
+  where
+    judge : Term ℕ → ℕ
+    judge u = term_refusal (order_of t.order) t.n t.weights t.p u
+
+    by : (r : ℕ) (b : Bool) → ((r ≡ 0 → ⊥) → listed r ≡ true) → (first r (order_by b) ≡ 0 → ⊥) → listed (first r (order_by b)) ≡ true
+    by zero true l h = absurd (h refl)
+    by zero false l h = refl
+    by (suc r) b l h = l h
+
 -- ---- the steps of the code
+-- the check carried on over the whole, from where no term has come
+pub whole : (t : Setting) (ws cs : List ℕ) {u a : Checking} {n : ℕ} → carried_by u ≡ unseen 0 → carried_by a ≡ polynomial_on t (carried_by u) (terms ws cs) → n ≡ verdict (carried_by a) → n ≡ polynomial_refusal t (terms ws cs)
+whole t ws cs {a = a} eu ea en = en ∙ slices-whole t ws cs a (ea ∙ ap (λ (s : Carried ℕ). polynomial_on t s (terms ws cs)) eu)
+
 pub good-is : (s : Carried ℕ) → s.stop ≡ 0 → good s.late s.seen s.last ≡ s
 good-is s h = ap (λ (r : ℕ). record { stop = r; late = s.late; seen = s.seen; last = s.last }) (sym h)
 
 pub stop-first : (stop late : ℕ) → (stop ≡ 0 → ⊥) → stop ≡ first stop late
 stop-first zero late f = absurd (f refl)
 stop-first (suc r) late f = refl
-
-pub late-first : (stop late : ℕ) → stop ≡ 0 → late ≡ first stop late
-late-first stop late h = ap (λ (r : ℕ). first r late) (sym h)
-
-pub none_before : {A : Type 0} (cmp : A → A → Ordering) (seen : Bool) (last m : A) (late : ℕ) → seen ≡ false → late ≡ late_after cmp seen last m late
-none_before cmp seen last m late h = ap (λ (b : Bool). late_after cmp b last m late) (sym h)
-
-pub one-before : {A : Type 0} (cmp : A → A → Ordering) (seen : Bool) (last m : A) (late r : ℕ) → seen ≡ true → r ≡ order_next (is_larger (cmp last m)) late → r ≡ late_after cmp seen last m late
-one-before cmp seen last m late r h e = e ∙ ap (λ (b : Bool). late_after cmp b last m late) (sym h)
 
 -- ---- a loop over the terms: i of them are looked at, none of them is bad, and these are the numbers
 pub record Looked {A : Type 0} (judge : Term A → ℕ) (cmp : A → A → Ordering) (from : Carried A) (ts : List (Term A)) (i late : ℕ) (seen : Bool) (last : A) : Type 0 where

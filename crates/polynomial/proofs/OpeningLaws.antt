@@ -2,49 +2,23 @@
 use mathlib.Core.Path.{◌≡◌, refl, sym, ap, ap₂, ◌∙◌}
 use mathlib.Core.Bool.{Bool, true, false, ◌&&◌}
 use mathlib.Core.List.{List, [], ◌∷◌}
-use Prim.Native.Nat.{ℕ, zero, suc, ◌^◌, ◌<◌, ◌≤◌, compare, Ordering}
+use Prim.Native.Nat.{ℕ, zero, suc, ◌≤◌, compare, Ordering}
 use native.Mathlib.Omega.{arith}
 use borrow.Author.Tests.{lt-ltb, le-ltb, ltb-true}
 use lib.Dec.{ltb}
 use Rattle.monomial.specs.declared.order.Order.{Order}
 use Rattle.monomial.specs.Layout.{Layout, in_layout}
 use Rattle.monomial.specs.TotalOrder.{TotalOrder}
-use Rattle.monomial.specs.Words.{compare_words, key_of}
+use Rattle.monomial.specs.Words.{compare_words}
 use Rattle.monomial.proofs.Comparing.{Tri, less, same, more, tri}
 use Rattle.monomial.proofs.OrderLaws.{words-order}
 use Rattle.monomial.proofs.LayoutLaws.{test-layout}
-use Rattle.monomial.proofs.KeyLaws.{key-compare}
 use Rattle.monomial.proofs.Places.{and_both}
-use Rattle.polynomial.specs.Terms.{Term, term, All, Reduced, Falling, Canonical}
+use Rattle.polynomial.specs.Terms.{Term, All, Reduced, Falling, Canonical}
 use Rattle.polynomial.specs.Opening.{first, term_by, term_refusal, terms_refusal, is_larger, fall, order_by, refusal_of}
-use Rattle.polynomial.specs.Checking.{order_next}
 use Rattle.polynomial.proofs.MergeLaws.{under_more}
 
--- ---- one term
-module _ (o : Order) (n : ℕ) (vs : List ℕ) (p w c : ℕ) where
-  pub coef-zero : c ≡ 0 → 4 ≡ term_refusal o n vs p (term w c)
-  coef-zero h = sym (ap (λ (t : Bool). term_by (t && ltb c p) (in_layout o n vs w)) (le-ltb 0 c (let k : c ≤ 0 = omega arith in k)))
-
-  some : (c ≡ 0 → ⊥) → 0 < c
-  some h = positive c h
-    where
-      positive : (k : ℕ) → (k ≡ 0 → ⊥) → 0 < k
-      positive zero f = absurd (f refl)
-      positive (suc k) f = omega arith
-
-  pub coef-large : (c ≡ 0 → ⊥) → p ≤ c → 4 ≡ term_refusal o n vs p (term w c)
-  coef-large h k = sym (ap₂ (λ (s t : Bool). term_by (s && t) (in_layout o n vs w)) (lt-ltb 0 c (some h)) (le-ltb c p k))
-
-  by_word : (c ≡ 0 → ⊥) → c < p → (r : Bool) → r ≡ in_layout o n vs w → term_by true r ≡ term_refusal o n vs p (term w c)
-  by_word h k r e = ap₂ term_by (sym (ap₂ ◌&&◌ (lt-ltb 0 c (some h)) (lt-ltb c p k))) e
-
-  pub word_good : (c ≡ 0 → ⊥) → c < p → (r : Bool) → r ≡ in_layout o n vs w → r ≡ true → 0 ≡ term_refusal o n vs p (term w c)
-  word_good h k r e t = sym (ap (term_by true) t) ∙ by_word h k r e
-
-  pub word-bad : (c ≡ 0 → ⊥) → c < p → (r : Bool) → r ≡ in_layout o n vs w → r ≡ false → 5 ≡ term_refusal o n vs p (term w c)
-  word-bad h k r e t = sym (ap (term_by true) t) ∙ by_word h k r e
-
--- ---- the order of two neighbours, by their keys
+-- ---- the order of two neighbours
 pub larger-number : (a b : ℕ) → is_larger (compare a b) ≡ ltb b a
 larger-number a b = go (tri a b)
   where
@@ -52,20 +26,6 @@ larger-number a b = go (tri a b)
     go (less k e) = ap is_larger e ∙ sym (le-ltb b a (let l : a ≤ b = omega arith in l))
     go (same k e) = ap is_larger e ∙ sym (le-ltb b a (let l : a ≤ b = omega arith in l))
     go (more k e) = ap is_larger e ∙ sym (lt-ltb b a k)
-
-pub larger-key : (o : Order) (x y : ℕ) → x < 2 ^ 64 → y < 2 ^ 64 → is_larger (compare_words o x y) ≡ ltb (key_of o y) (key_of o x)
-larger-key o x y hx hy = ap is_larger (sym (key-compare o x y hx hy)) ∙ larger-number (key_of o x) (key_of o y)
-
--- after the last word the next one is smaller, or it is not
-module _ (o : Order) (last word late a b : ℕ) (hl : last < 2 ^ 64) (hw : word < 2 ^ 64) (ea : a ≡ key_of o word) (eb : b ≡ key_of o last) where
-  after : (t : Bool) → ltb a b ≡ t → order_next t late ≡ order_next (is_larger (compare_words o last word)) late
-  after t e = ap (λ (s : Bool). order_next s late) (sym (larger-key o last word hl hw ∙ (ap₂ ltb (sym ea) (sym eb) ∙ e)))
-
-  pub still-falls : a < b → late ≡ order_next (is_larger (compare_words o last word)) late
-  still-falls h = after true (lt-ltb a b h)
-
-  pub no-fall : b ≤ a → 6 ≡ order_next (is_larger (compare_words o last word)) late
-  no-fall h = after false (le-ltb a b h)
 
 -- ---- a polynomial that passes
 larger-gt : (t : Ordering) → is_larger t ≡ true → t ≡ Ordering.gt

@@ -21,7 +21,7 @@ starts_good [] len = false
 starts_good (s ∷ ss) len = eqb s 0 && rise_to s ss len
 
 -- the part of a slice that is polynomial k
-abbrev pub part_of : List ℕ → ℕ → List ℕ → List ℕ
+abbrev pub part_of : {A : Type 0} → (starts : List ℕ) (k : ℕ) → List A → List A
 part_of starts k l = take (get_or starts (k + 1) 0 - get_or starts k 0) (drop (get_or starts k 0) l)
 
 -- ---- "polynomial by polynomial, the first place with 4 or 5 (4 first at one place), then 6"

@@ -1,6 +1,6 @@
-// The opening check of one polynomial, whole or part by part. Refusals are document 01's numbers, and
-// 0 is none.
+// The opening check of one polynomial, whole or part by part.
 ghost use Rattle.std.specs.Prelude.{◌≡◌, length};
+ghost use Rattle.refusal.specs.Table.{refusal_in};
 ghost use Rattle.monomial.specs.Words.{compare_words};
 ghost use Rattle.polynomial.specs.Settings.{Testable};
 ghost use Rattle.polynomial.specs.Terms.{term, terms};
@@ -11,10 +11,12 @@ use crate::setting::Setting;
 use monomial::exponents::weight_word;
 use monomial::layout::{beyond_bits, in_layout};
 use monomial::order::{Order, order_of};
+use refusal::{Refusal, number_of, refusal_of};
 
-// What the check carries from one part of a polynomial to the next: the first 4 or 5, or 0; 6 where
-// the terms so far do not fall, or else 0; whether a term has come, since the word 0 is a monomial;
-// and the last word. After a 4 or 5 no term is looked at, and nothing changes.
+// What the check carries from one part of a polynomial to the next, by document 01's numbers: the
+// first 4 or 5, or 0; 6 where the terms so far do not fall, or else 0; whether a term has come, since
+// the word 0 is a monomial; and the last word. After a 4 or 5 no term is looked at, and nothing changes.
+// Kept: what may not change: `check_on` goes on from any four numbers, which C gives `probe_check_on`.
 #[derive(Clone, Copy)]
 pub struct Checking {
     pub stop: u32,
@@ -36,7 +38,7 @@ impl Checking {
         }
     }
 
-    // The refusal of the terms so far.
+    // The number of the refusal of the terms so far, 0 for none.
     pub fn verdict(self) -> u32
         ensures { result ≡ verdict (carried_by self) }
     {
@@ -46,11 +48,16 @@ impl Checking {
 
 // The refusal of a polynomial in a setting: the first place with 4 or 5, and else 6 where the terms do
 // not fall. One pass over the terms.
-pub fn check(t: Setting, words: &[u64], coefs: &[u32]) -> u32
+pub fn check(t: Setting, words: &[u64], coefs: &[u32]) -> Result<(), Refusal>
     requires { Testable t × (length coefs.now ≡ length words.now) }
-    ensures { result ≡ polynomial_refusal t (terms words.now coefs.now) }
+    ensures { refusal_in result ≡ polynomial_refusal t (terms words.now coefs.now) }
 {
-    check_on(t, words, coefs, Checking::unseen()).verdict()
+    let number = check_on(t, words, coefs, Checking::unseen()).verdict();
+    if number == 0 {
+        Ok(())
+    } else {
+        Err(refusal_of(number))
+    }
 }
 
 // The check carried on over a further part of a polynomial. The loop keeps plain numbers, since a
@@ -71,14 +78,13 @@ pub fn check_on(t: Setting, words: &[u64], coefs: &[u32], from: Checking) -> Che
     let mut late = from.late;
     let mut seen = from.seen;
     let mut last = from.last;
-    let mut i = 0;
-    while i < words.len() {
+    for i in 0..words.len() {
         let word = words[i];
         late = check_fall(order, seen, last, word, late);
         seen = true;
         last = word;
-        let stop = check_term(beyond, weights, p, word, coefs[i]);
-        if stop != 0 {
+        if let Err(refusal) = check_term(beyond, weights, p, word, coefs[i]) {
+            let stop = number_of(refusal);
             return Checking {
                 stop,
                 late,
@@ -86,7 +92,6 @@ pub fn check_on(t: Setting, words: &[u64], coefs: &[u32], from: Checking) -> Che
                 last,
             };
         }
-        i += 1;
     }
     Checking {
         stop: 0,
@@ -96,32 +101,26 @@ pub fn check_on(t: Setting, words: &[u64], coefs: &[u32], from: Checking) -> Che
     }
 }
 
-// The refusal of one term: 4 for its coefficient, 5 for its word. `beyond` is what `beyond_bits` gives,
-// and `weights` what `weight_word` gives; of others nothing is promised.
-pub fn check_term(beyond: u64, weights: u64, p: u32, word: u64, coef: u32) -> u32
-    ensures { JudgesTerm beyond weights p (term word coef) result }
+// Checks one term, its coefficient before its word. `beyond` is what `beyond_bits` gives, and
+// `weights` what `weight_word` gives; of others nothing is promised.
+pub fn check_term(beyond: u64, weights: u64, p: u32, word: u64, coef: u32) -> Result<(), Refusal>
+    ensures { JudgesTerm beyond weights p (term word coef) (refusal_in result) }
 {
-    if coef == 0 {
-        return 4;
+    if coef == 0 || p <= coef {
+        return Err(Refusal::BadCoefficient);
     }
-    if p <= coef {
-        return 4;
+    if !in_layout(beyond, weights, word) {
+        return Err(Refusal::BadLayout);
     }
-    if in_layout(beyond, weights, word) {
-        0
-    } else {
-        5
-    }
+    Ok(())
 }
 
 // 6 where a word came before that is not larger, and else what came so far.
+// Kept: what may not change: `check_on` goes on from any number in `late`, which C gives `probe_check_on`.
 pub fn check_fall(order: Order, seen: bool, last: u64, word: u64, late: u32) -> u32
     ensures { result ≡ late_after (compare_words order) seen last word late }
 {
-    if !seen {
-        return late;
-    }
-    if order.key(word) < order.key(last) {
+    if !seen || order.key(word) < order.key(last) {
         late
     } else {
         6

@@ -16,9 +16,7 @@ pub fn setting_of(p: u32, order: u32, n: u32, weights: &[u32]) -> Setting
     requires { length weights.now ≡ 6 }
     ensures { result ≡ setting_of p order n weights.now }
 {
-    let weights = [
-        weights[0], weights[1], weights[2], weights[3], weights[4], weights[5],
-    ];
+    let weights = weights.try_into().unwrap();
     Setting {
         p,
         order,

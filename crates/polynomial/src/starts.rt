@@ -6,18 +6,8 @@ ghost use Rattle.polynomial.specs.Opening.{starts_good};
 pub fn starts_good(starts: &[usize], len: usize) -> bool
     ensures { result ≡ starts_good starts.now len }
 {
-    if starts.len() == 0 {
+    let Some(last) = starts.last() else {
         return false;
-    }
-    if starts[0] != 0 {
-        return false;
-    }
-    let mut i = 1;
-    while i < starts.len() {
-        if starts[i] < starts[i - 1] {
-            return false;
-        }
-        i += 1;
-    }
-    starts[i - 1] == len
+    };
+    starts[0] == 0 && starts.is_sorted() && *last == len
 }

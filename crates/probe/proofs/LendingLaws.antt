@@ -1,12 +1,12 @@
 -- The tests before a polynomial is checked or a part of it is read, and the multiple by a prepared factor. Assumes nothing.
-use mathlib.Core.Path.{◌≡◌, refl, sym}
-use mathlib.Core.Bool.{true, false, ◌&&◌}
+use mathlib.Core.Path.{◌≡◌, refl}
+use mathlib.Core.Bool.{true, ◌&&◌}
 use mathlib.Core.List.{List, [], ◌∷◌}
 use Prim.Native.Nat.{ℕ, zero, suc, ◌+◌, ◌≤◌, ◌<◌}
 use native.Mathlib.Omega.{arith}
 use lib.Dec.{leb, ltb, eqb}
 use lib.ListN.{length, get_or}
-use borrow.Author.Tests.{ltb-true, leb-true, eqb-true, lt-ltb, le-ltb, le-leb, lt-leb}
+use borrow.Author.Tests.{ltb-true, leb-true, eqb-true}
 use Rattle.limits.specs.Limits.{largest_weight}
 use Rattle.residue.specs.declared.factor.Factor.{Factor}
 use Rattle.residue.specs.Share.{FactorOf}
@@ -19,22 +19,9 @@ use Rattle.polynomial.specs.Opening.{Within}
 use Rattle.multiple.specs.Multiplying.{Multiplicands, Multiplied}
 use Rattle.probe.specs.Answers.{weights_fit}
 use Rattle.probe.specs.Lending.{checkable, part_there, Factors}
-use Rattle.probe.proofs.Answering.{first-fails, second-fails, by-third}
 use Rattle.probe.proofs.WeightLaws.{weights-fit}
 
 module _ (n : ℕ) (vs : List ℕ) (words coefs : ℕ) where
-  pub too_many : 6 < n → false ≡ checkable n vs words coefs
-  unfolding checkable
-  too_many h = sym (first-fails (weights_fit largest_weight vs) (eqb coefs words) (lt-leb n 6 h))
-
-  pub unfit : n ≤ 6 → weights_fit largest_weight vs ≡ false → false ≡ checkable n vs words coefs
-  unfolding checkable
-  unfit h f = sym (second-fails (eqb coefs words) (le-leb n 6 h) f)
-
-  pub by_lengths : n ≤ 6 → weights_fit largest_weight vs ≡ true → eqb coefs words ≡ checkable n vs words coefs
-  unfolding checkable
-  by_lengths h f = by-third (eqb coefs words) (le-leb n 6 h) f
-
   -- what a check asks of the setting and the lengths
   module _ (h : checkable n vs words coefs ≡ true) where
     parts : (n ≤ 6) × (weights_fit largest_weight vs ≡ true) × (coefs ≡ words)
@@ -53,18 +40,6 @@ module _ (n : ℕ) (vs : List ℕ) (words coefs : ℕ) where
         (rw e s, parts.2)
 
 module _ (starts : List ℕ) (k len : ℕ) where
-  pub no_start : length starts ≤ k + 1 → false ≡ part_there starts k len
-  unfolding part_there
-  no_start h = rw (le-ltb (k + 1) (length starts) h)
-
-  pub falls : k + 1 < length starts → get_or starts (k + 1) 0 < get_or starts k 0 → false ≡ part_there starts k len
-  unfolding part_there
-  falls h f = rw (lt-ltb (k + 1) (length starts) h, lt-leb (get_or starts k 0) (get_or starts (k + 1) 0) f)
-
-  pub by_end : k + 1 < length starts → get_or starts k 0 ≤ get_or starts (k + 1) 0 → leb (get_or starts (k + 1) 0) len ≡ part_there starts k len
-  unfolding part_there
-  by_end h r = rw (lt-ltb (k + 1) (length starts) h, le-leb (get_or starts k 0) (get_or starts (k + 1) 0) r)
-
   pub there-within : part_there starts k len ≡ true → Within starts k len
   unfolding part_there
   there-within h =

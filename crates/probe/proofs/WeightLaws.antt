@@ -1,13 +1,14 @@
 -- The test of the weights: what weights that pass are, and the loop over them. Assumes nothing.
-use mathlib.Core.Path.{◌≡◌, sym, ap, ◌∙◌}
+use mathlib.Core.Path.{◌≡◌, refl, sym, ap, ap₂, ◌∙◌}
 use mathlib.Core.Bool.{Bool, true, false, ◌&&◌}
-use mathlib.Core.List.{List, ◌∷◌}
-use Prim.Native.Nat.{ℕ, suc, ◌+◌, ◌<◌, ◌≤◌, zero-le}
+use mathlib.Core.List.{List, [], ◌∷◌}
+use Rattle.std.specs.List.{list_all}
+use native.Mathlib.Decide.{dec_le}
+use Prim.Native.Nat.{ℕ, ◌+◌, ◌<◌, ◌≤◌}
 use native.Mathlib.Omega.{arith}
-use borrow.Author.Tests.{lt-ltb, le-ltb, eq-eqb, ne_eqb, eqb-true}
-use lib.Dec.{ltb, eqb}
-use lib.ListN.{length, get_or, drop, drop_of_length-le}
-use lib.Seq.{drop-cons}
+use borrow.Author.Tests.{lt-ltb, le-ltb, le-leb, lt-leb, eq-eqb, ne_eqb, eqb-true}
+use lib.Dec.{leb, ltb, eqb}
+use lib.ListN.{length}
 use Rattle.limits.specs.Limits.{weight_count}
 use Rattle.monomial.specs.Layout.{Below, below, WeightsFit}
 use Rattle.monomial.proofs.Places.{and_both, true_below, Below-more}
@@ -31,27 +32,15 @@ module _ (most : ℕ) (vs : List ℕ) where
   unfolding weights_fit
   other-count h = rw (ne_eqb (length vs) weight_count h)
 
-  -- the loop: the first i weights are at most `most`, and the rest decide
-  pub record Tried (i : ℕ) : Type 0 where
-    pub low : i ≤ length vs
-    pub rest : below (most + 1) (drop i vs) ≡ weights_fit most vs
+  -- the test of each weight
+  each-below : (us : List ℕ) → list_all (λ w. leb w most) us ≡ below (most + 1) us
+  each-below [] = refl
+  each-below (u ∷ us) = ap₂ ◌&&◌ (one (dec_le u most)) (each-below us)
+    where
+      one : Dec (u ≤ most) → leb u most ≡ ltb u (most + 1)
+      one (yes h) = le-leb u most h ∙ sym (lt-ltb u (most + 1) (omega arith))
+      one (no h) = lt-leb u most (omega arith) ∙ sym (le-ltb u (most + 1) (omega arith))
 
-  pub try-start : length vs ≡ weight_count → Tried 0
+  pub each-fits : length vs ≡ weight_count → list_all (λ w. leb w most) vs ≡ weights_fit most vs
   unfolding weights_fit
-  try-start h = record { low = zero-le; rest = sym (ap (λ (b : Bool). b && below (most + 1) vs) (eq-eqb (length vs) weight_count h)) }
-
-  module _ (i : ℕ) (g : Tried i) where
-    pub try-ends : length vs ≤ i → true ≡ weights_fit most vs
-    try-ends h = ap (below (most + 1)) (sym (drop_of_length-le vs {i = i} h)) ∙ g.rest
-
-    module _ (inside : i < length vs) where
-      split : weights_fit most vs ≡ (ltb (get_or vs i 0) (most + 1) && below (most + 1) (drop (i + 1) vs))
-      split =
-          sym g.rest
-          ∙ ap (below (most + 1)) (drop-cons vs i 0 inside ∙ ap (λ (m : ℕ). get_or vs i 0 ∷ drop m vs) (let e : suc i ≡ i + 1 = omega arith in e))
-
-      pub try-stop : most < get_or vs i 0 → false ≡ weights_fit most vs
-      try-stop h = sym (split ∙ ap (λ (b : Bool). b && below (most + 1) (drop (i + 1) vs)) (le-ltb (get_or vs i 0) (most + 1) (omega arith)))
-
-      pub try-next : get_or vs i 0 ≤ most → Tried (i + 1)
-      try-next h = record { low = omega arith; rest = sym (split ∙ ap (λ (b : Bool). b && below (most + 1) (drop (i + 1) vs)) (lt-ltb (get_or vs i 0) (most + 1) (omega arith))) }
+  each-fits h = each-below vs ∙ sym (ap (λ (b : Bool). b && below (most + 1) vs) (eq-eqb (length vs) weight_count h))

@@ -1,14 +1,14 @@
 -- The answers as numbers, and the tests before a call. Assumes nothing.
 use Rattle.std.specs.Prelude.{ℕ, ◌+◌, ◌^◌, Bool, ◌&&◌, List, leb, ltb, eqb, length}
 use Rattle.limits.specs.Limits.{weight_count}
-use Rattle.monomial.specs.declared.order.Comparison.{Comparison}
-use Rattle.monomial.specs.declared.order.Comparison.TheVariants.{Smaller, Same, Larger}
+use Rattle.std.specs.declared.cmp.Ordering.{Ordering}
+use Rattle.std.specs.declared.cmp.Ordering.TheVariants.{Less, Equal, Greater}
 use Rattle.monomial.specs.Layout.{bytes, below}
 
-abbrev pub comparison_number : Comparison → ℕ
-comparison_number Smaller = 0
-comparison_number Same = 1
-comparison_number Larger = 2
+abbrev pub comparison_number : Ordering → ℕ
+comparison_number Less = 0
+comparison_number Equal = 1
+comparison_number Greater = 2
 
 -- fit for word arithmetic: no field's top bit is set, and bit 63 is not
 unfoldable pub packed : ℕ → Bool

@@ -3,7 +3,7 @@
 // spaces, keys stand for words. Each function asks what the one that it calls asks: whoever calls it
 // keeps to that.
 ghost use Rattle.std.specs.Prelude.{◌≡◌, [], ◌++◌, length};
-ghost use Prim.Native.Nat.{◌<◌, compare};
+ghost use Prim.Native.Nat.{compare};
 ghost use Rattle.monomial.specs.Exponents.{order_of};
 ghost use Rattle.monomial.specs.Words.{compare_words};
 ghost use Rattle.polynomial.specs.Terms.{terms};
@@ -18,20 +18,20 @@ ghost use Rattle.probe.specs.States.{Settlement};
 use buckets::add::add_polynomial;
 use buckets::sum::full_sum;
 use monomial::order::order_of;
+use search::candidate::Candidate;
 use search::lead::{find_lead, remove_lead, take_lead};
 use space::settle::settle;
 use space::state::clear;
 
-fn put_place(s: &mut [usize], i: usize, n: usize)
-    requires { i < length s.old }
+// Puts the lead's bucket, word and coefficient, and gives the comparisons.
+fn put_lead(c: Candidate, lead: &mut [u64]) -> u64
+    requires { length lead.old ≡ 3 }
+    ensures { result ≡ c.count }
 {
-    s[i] = n;
-}
-
-fn put_number(s: &mut [u64], i: usize, n: u64)
-    requires { i < length s.old }
-{
-    s[i] = n;
+    lead[0] = c.bucket as u64;
+    lead[1] = c.word;
+    lead[2] = c.coef as u64;
+    c.count
 }
 
 #[unsafe(no_mangle)]
@@ -77,10 +77,7 @@ pub extern "C" fn probe_buckets_lead(
     ensures { result ≡ length (search (compare_words (order_of order)) p (words_in (order_of order) (spaces state.old ww.now wc.old sw.now sc.old))).pairs }
 {
     let c = find_lead(order_of(order), p, state, sw, sc, ww, wc);
-    put_number(lead, 0, c.bucket as u64);
-    put_number(lead, 1, c.word);
-    put_number(lead, 2, c.coef as u64);
-    c.count
+    put_lead(c, lead)
 }
 
 // The same, with the lead removed.
@@ -99,10 +96,7 @@ pub extern "C" fn probe_buckets_take_lead(
     ensures { result ≡ length (search (compare_words (order_of order)) p (words_in (order_of order) (spaces state.old ww.now wc.old sw.now sc.old))).pairs }
 {
     let c = take_lead(order_of(order), p, state, sw, sc, ww, wc);
-    put_number(lead, 0, c.bucket as u64);
-    put_number(lead, 1, c.word);
-    put_number(lead, 2, c.coef as u64);
-    c.count
+    put_lead(c, lead)
 }
 
 // Removes the lead of a bucket that is not empty.
@@ -130,8 +124,8 @@ pub extern "C" fn probe_buckets_sum(
     ensures { result ≡ length (sum_compared compare p [] (buckets_in state.old (ww.old ++ sw.old) (wc.old ++ sc.old))) }
 {
     let r = full_sum(p, state, sw, sc, ww, wc);
-    put_place(at, 0, r.from);
-    put_place(at, 1, r.len);
+    at[0] = r.from;
+    at[1] = r.len;
     r.comparisons
 }
 
@@ -147,5 +141,5 @@ pub extern "C" fn probe_buckets_settle(
     requires { Settlement state.now (length sw.old) (length sc.old) (length ww.old) (length wc.old) }
     ensures { AtReturn (words_in (order_of order) (spaces state.now ww.old wc.old sw.old sc.old)) sw.new sc.new ww.new wc.new }
 {
-    settle(order_of(order), state, sw, sc, ww, wc);
+    settle::<u64>(order_of(order), state, sw, sc, ww, wc);
 }

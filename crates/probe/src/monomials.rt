@@ -12,9 +12,11 @@ use crate::weights::weights_fit;
 use limits::LARGEST_WEIGHT;
 use monomial::exponents::{exponent, weight_word, word_of};
 use monomial::layout::{beyond_bits, in_layout};
-use monomial::order::{Comparison, order_of};
+use monomial::order::order_of;
 use monomial::word::{TOPS, divides, quotient};
+use std::cmp::Ordering;
 
+// Kept: the C interface: numbers for answers, and REFUSED for none.
 const REFUSED: u64 = 0xffff_ffff_ffff_ffff;
 
 #[unsafe(no_mangle)]
@@ -40,13 +42,14 @@ pub extern "C" fn probe_compare(order: u32, x: u64, y: u64) -> u32
     comparison_number(order_of(order).compare(x, y))
 }
 
-fn comparison_number(c: Comparison) -> u32
+// Kept: the C interface: 0, 1 and 2, where a cast of `Ordering` gives -1, 0 and 1.
+fn comparison_number(c: Ordering) -> u32
     ensures { result ≡ comparison_number c }
 {
     match c {
-        Comparison::Smaller => 0,
-        Comparison::Same => 1,
-        Comparison::Larger => 2,
+        Ordering::Less => 0,
+        Ordering::Equal => 1,
+        Ordering::Greater => 2,
     }
 }
 
@@ -73,7 +76,7 @@ pub extern "C" fn probe_divides(y: u64, x: u64) -> u32
     if !both_packed(y, x) {
         return 2;
     }
-    bit(divides(y, x))
+    u32::from(divides(y, x))
 }
 
 #[unsafe(no_mangle)]
@@ -109,36 +112,18 @@ pub extern "C" fn probe_exponent(order: u32, w: u64, i: u32) -> u32
     if i >= 6 {
         return 256;
     }
-    wide(exponent(order_of(order), w, i))
+    u32::from(exponent(order_of(order), w, i))
 }
 
 fn both_packed(x: u64, y: u64) -> bool
     ensures { result ≡ (packed x && packed y) }
 {
-    if !is_packed(x) {
-        return false;
-    }
-    is_packed(y)
+    is_packed(x) && is_packed(y)
 }
 
 // Whether no field's top bit is set, and bit 63 is not.
 fn is_packed(w: u64) -> bool
     ensures { result ≡ packed w }
 {
-    if w & TOPS != 0 {
-        return false;
-    }
-    w < 0x8000_0000_0000_0000
-}
-
-fn bit(t: bool) -> u32
-    ensures { result ≡ cond t 1 0 }
-{
-    if t { 1 } else { 0 }
-}
-
-fn wide(e: u8) -> u32
-    ensures { result ≡ e }
-{
-    e as u32
+    w & TOPS == 0 && w < 0x8000_0000_0000_0000
 }

@@ -22,9 +22,10 @@ use merge_areas::merge_areas;
 use monomial::order::order_of;
 use multiple::multiple::{any_over, put_multiple};
 use polynomial::check::{Checking, check, check_on};
-use polynomial::part::{coefs_of, words_of};
+use polynomial::part::part_of;
 use polynomial::setting::setting_of;
 use polynomial::starts::starts_good;
+use refusal::number_of;
 use residue::factor::Factor;
 
 const NO_WORD: u64 = 0xffff_ffff_ffff_ffff;
@@ -67,7 +68,10 @@ pub extern "C" fn probe_check(
     if !is_checkable(n, weights, words.len(), coefs.len()) {
         return NOT_CHECKED;
     }
-    check(setting_of(p, order, n, weights), words, coefs)
+    match check(setting_of(p, order, n, weights), words, coefs) {
+        Ok(()) => 0,
+        Err(refusal) => number_of(refusal),
+    }
 }
 
 // The check carried on over a part from four numbers; NOT_CHECKED, 0, false and 0 where it cannot be
@@ -112,16 +116,11 @@ pub extern "C" fn probe_check_on(
 
 // Whether a polynomial in n variables with these weights, and so many words and coefficients, can be
 // checked: n and each weight are not over their limit, there are six weights, and the lengths agree.
+#[tactic(auto, unfolding(crate::specs::Lending::checkable))]
 fn is_checkable(n: u32, weights: &[u32], words: usize, coefs: usize) -> bool
     ensures { result ≡ checkable n weights.now words coefs }
 {
-    if n > 6 {
-        return false;
-    }
-    if !weights_fit(weights, LARGEST_WEIGHT) {
-        return false;
-    }
-    coefs == words
+    n <= 6 && weights_fit(weights, LARGEST_WEIGHT) && coefs == words
 }
 
 #[unsafe(no_mangle)]
@@ -139,7 +138,7 @@ pub extern "C" fn probe_part_word(words: &[u64], starts: &[usize], k: usize, i: 
     if !is_part_there(starts, k, words.len()) {
         return NO_WORD;
     }
-    word_at(words_of(words, starts, k), i)
+    part_of(words, starts, k).get(i).copied().unwrap_or(NO_WORD)
 }
 
 // Coefficient i of polynomial k, or NO_COEF where there is none.
@@ -150,36 +149,15 @@ pub extern "C" fn probe_part_coef(coefs: &[u32], starts: &[usize], k: usize, i: 
     if !is_part_there(starts, k, coefs.len()) {
         return NO_COEF;
     }
-    coef_at(coefs_of(coefs, starts, k), i)
+    part_of(coefs, starts, k).get(i).copied().unwrap_or(NO_COEF)
 }
 
 // Whether polynomial k has both starts, which rise and end within len.
+#[tactic(auto, unfolding(crate::specs::Lending::part_there))]
 fn is_part_there(starts: &[usize], k: usize, len: usize) -> bool
     ensures { result ≡ part_there starts.now k len }
 {
-    if k >= starts.len() {
-        return false;
-    }
-    let next = k + 1;
-    if next >= starts.len() {
-        return false;
-    }
-    if starts[k] > starts[next] {
-        return false;
-    }
-    starts[next] <= len
-}
-
-fn word_at(words: &[u64], i: usize) -> u64
-    ensures { result ≡ get_or words.now i 18446744073709551615 }
-{
-    if i < words.len() { words[i] } else { NO_WORD }
-}
-
-fn coef_at(coefs: &[u32], i: usize) -> u32
-    ensures { result ≡ get_or coefs.now i 4294967295 }
-{
-    if i < coefs.len() { coefs[i] } else { NO_COEF }
+    k < starts.len() && k + 1 < starts.len() && starts[k] <= starts[k + 1] && starts[k + 1] <= len
 }
 
 // Merges the n terms at place a with the m terms at place b, both not empty, with keys for words, to the
@@ -198,7 +176,7 @@ pub extern "C" fn probe_merge_areas(
     requires { Areas p ww.old wc.old a n b m to }
     ensures { PlacedIn compare p (terms (part a n ww.old) (part a n wc.old)) (terms (part b m ww.old) (part b m wc.old)) to (to + (n + m)) ww.old wc.old ww.new wc.new (placed result) × ((placed result).head + (placed result).len ≡ to + (n + m)) }
 {
-    let made = merge_areas(p, ww, wc, a, n, b, m, to);
+    let made = merge_areas::<u64>(p, ww, wc, a, n, b, m, to);
     Places {
         head: made.head,
         len: made.len,

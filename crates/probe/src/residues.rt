@@ -10,6 +10,7 @@ use residue::arithmetic::{add, multiply, negate};
 use residue::factor::Factor;
 use residue::inverse::invert;
 
+// Kept: the C interface: numbers for answers, and REFUSED for none.
 const REFUSED: u32 = 0xffff_ffff;
 
 #[unsafe(no_mangle)]
@@ -81,14 +82,5 @@ pub extern "C" fn probe_invert(a: u32, p: u32) -> u32
 fn takes(p: u32, a: u32, b: u32) -> bool
     ensures { result ≡ able p a b }
 {
-    if p < 2 {
-        return false;
-    }
-    if p > 2147483647 {
-        return false;
-    }
-    if a >= p {
-        return false;
-    }
-    b < p
+    p >= 2 && p <= 2147483647 && a < p && b < p
 }

@@ -8,15 +8,5 @@ use limits::WEIGHTS;
 pub fn weights_fit(weights: &[u32], most: u32) -> bool
     ensures { result ≡ weights_fit most weights.now }
 {
-    if weights.len() != WEIGHTS {
-        return false;
-    }
-    let mut i = 0;
-    while i < weights.len() {
-        if weights[i] > most {
-            return false;
-        }
-        i += 1;
-    }
-    true
+    weights.len() == WEIGHTS && weights.iter().all(|w| *w <= most)
 }

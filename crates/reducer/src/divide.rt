@@ -16,7 +16,7 @@ use limits::MOST_TERMS;
 use monomial::order::Order;
 use monomial::word::quotient;
 use multiple::multiple::{over, put_multiple};
-use polynomial::part::{coefs_of, words_of};
+use polynomial::part::part_of;
 use refusal::Refusal;
 use residue::arithmetic::negate;
 use residue::factor::Factor;
@@ -46,8 +46,8 @@ pub fn divide<'a>(
     requires { Dividing order p words.now coefs.now starts.now k s lead kept.old (spaces b.old ww.old wc.old bw.old bc.old) × Slices ww.old wc.old bw.old bc.old }
     ensures { Divided order p words.now coefs.now starts.now k s lead (spaces b.old ww.old wc.old bw.old bc.old) result kept.new (spaces b.new ww.new wc.new bw.new bc.new) }
 {
-    let gw = words_of(words, starts, k);
-    let gc = coefs_of(coefs, starts, k);
+    let gw = part_of(words, starts, k);
+    let gc = part_of(coefs, starts, k);
     let q = quotient(lead.word, gw[0]);
     let tw = &gw[1..];
     let tc = &gc[1..];

@@ -36,16 +36,15 @@ pub fn step<'a>(
 {
     let lead = find_lead(order, p, b, bw, bc, ww, wc);
     let t = after_search(s, lead, limit);
-    if t.goes_on() {
-        let k = first_fit(words, starts, leads, lead.word);
-        if k + 1 < starts.len() {
-            return divide(
-                order, p, words, coefs, starts, k, t, lead, kept, b, bw, bc, ww, wc,
-            );
-        }
-        return keep(t, lead, b, ow, oc);
+    if !t.goes_on() {
+        return t;
     }
-    t
+    if let Some(k) = first_fit(words, starts, leads, lead.word) {
+        return divide(
+            order, p, words, coefs, starts, k, t, lead, kept, b, bw, bc, ww, wc,
+        );
+    }
+    keep(t, lead, b, ow, oc)
 }
 
 // The state after the search: the reduction ends where no lead was found, then stops with 13 where the

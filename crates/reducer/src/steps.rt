@@ -11,7 +11,7 @@ use call::state::State;
 use divisors::divisor::keep_leads;
 use limits::MOST_TERMS;
 use monomial::order::Order;
-use polynomial::part::{coefs_of, words_of};
+use polynomial::part::part_of;
 use refusal::Refusal;
 
 // The reduction of polynomial 0 by the others, all of which passed the opening checks.
@@ -36,8 +36,8 @@ pub fn reduce_all<'a>(
     let mut leads = [0u64; 1024];
     let mut kept = [0u64; 2048];
     keep_leads(words, starts, &mut leads);
-    let fw = words_of(words, starts, 0);
-    let fc = coefs_of(coefs, starts, 0);
+    let fw = part_of(words, starts, 0);
+    let fc = part_of(coefs, starts, 0);
     let mut s = begin(order, p, fw, fc, b, bw, bc, ww, wc);
     while s.goes_on() {
         s = step(

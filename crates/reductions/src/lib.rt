@@ -8,6 +8,7 @@ ghost use Rattle.call.specs.Answers.{Outcome, stated};
 ghost use Rattle.reduction_outcome.specs.Outcome.{reduction_outcome};
 
 use call::answer::{Answer, Returned, Tally, ended, refused};
+use conditions::lengths::Lengths;
 use monomial::order::order_of;
 use opening::reduction::reduction_opening;
 use reducer::steps::reduce_all;
@@ -37,24 +38,18 @@ pub fn reduce<'a>(
         (record { answer = stated result.answer; tally = result.tally; bw = bw.new; bc = bc.new; ww = ww.new; wc = wc.new; ow = ow.new; oc = oc.new })
         (reduction_outcome tally (setting_of p order n weights.now) words.now coefs.now starts.now limit bw.old bc.old ww.old wc.old ow.old oc.old) }
 {
-    let number = reduction_opening(
-        p,
-        order,
-        n,
-        weights,
-        words,
-        coefs,
-        starts,
-        limit,
-        bw.len(),
-        bc.len(),
-        ww.len(),
-        wc.len(),
-        ow.len(),
-        oc.len(),
-    );
-    if number != 0 {
-        return refused(number, tally);
+    let lengths = Lengths {
+        bw: bw.len(),
+        bc: bc.len(),
+        ww: ww.len(),
+        wc: wc.len(),
+        ow: ow.len(),
+        oc: oc.len(),
+    };
+    if let Err(refusal) = reduction_opening(
+        p, order, n, weights, words, coefs, starts, limit, lengths,
+    ) {
+        return refused(refusal, tally);
     }
     let mut b = [0usize; 18];
     clear(&mut b);
@@ -62,11 +57,12 @@ pub fn reduce<'a>(
     let s = reduce_all(
         o, p, words, coefs, starts, limit, &mut b, bw, bc, ww, wc, ow, oc,
     );
-    settle(o, &b, bw, bc, ww, wc);
+    settle::<u64>(o, &b, bw, bc, ww, wc);
     ended(s, &b)
 }
 
 // The same, with the counts set in place.
+// Kept: may not change: an entry of document 01 beside `reduce`, which `README.md` and `docs/` name.
 pub fn reduce_in_place<'t, 'a>(
     tally: &'t mut Tally,
     p: u32,

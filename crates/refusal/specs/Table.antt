@@ -1,5 +1,5 @@
 -- The refusals by cause, with the numbers of document 01 ("Refusals by cause") and of document 02. Assumes nothing.
-use Rattle.std.specs.Prelude.{ℕ, Bool, true, false, ◌&&◌, ◌||◌, List, [], ◌∷◌, eqb, ltb}
+use Rattle.std.specs.Prelude.{ℕ, Bool, true, false, ◌&&◌, ◌||◌, List, [], ◌∷◌, Result, Ok, Err, eqb, ltb}
 use Rattle.refusal.specs.declared.Refusal.{Refusal}
 use Rattle.refusal.specs.declared.Refusal.TheVariants.{NotPrime, BadOrder, BadVariables, BadCoefficient, BadLayout, NotFalling, ZeroDivisor, BadShape, BadOperation, NoOutput, TooManyTerms, ExponentOver, StepLimit, NotBlocks, BadCheck, BadBlock, BadScript, BadWeight}
 
@@ -23,6 +23,11 @@ number_of BadCheck = 15
 number_of BadBlock = 16
 number_of BadScript = 17
 number_of BadWeight = 24
+
+-- the number of the refusal that a check gives, 0 where it gives none
+abbrev pub refusal_in : {A : Type 0} → Result A Refusal → ℕ
+refusal_in (Ok _) = 0
+refusal_in (Err r) = number_of r
 
 -- all causes, from the largest number down (theorems `table-falls` and `cause-found`: the numbers fall, and each cause is there)
 abbrev pub causes : List Refusal

@@ -3,31 +3,33 @@
 
 ghost use Rattle.std.specs.Prelude.{◌≡◌, true};
 ghost use Rattle.refusal.specs.Table.{number_of, listed};
+ghost use Rattle.refusal.specs.Calls.{unfinished};
 
-// The causes, in the order of their numbers.
-#[derive(Clone, Copy)]
+// The causes, each with its number.
+#[derive(Clone, Copy, Debug, PartialEq, Eq)]
 pub enum Refusal {
-    NotPrime,
-    BadOrder,
-    BadVariables,
-    BadCoefficient,
-    BadLayout,
-    NotFalling,
-    ZeroDivisor,
-    BadShape,
-    BadOperation,
-    NoOutput,
-    TooManyTerms,
-    ExponentOver,
-    StepLimit,
-    NotBlocks,
-    BadCheck,
-    BadBlock,
-    BadScript,
-    BadWeight,
+    NotPrime = 1,
+    BadOrder = 2,
+    BadVariables = 3,
+    BadCoefficient = 4,
+    BadLayout = 5,
+    NotFalling = 6,
+    ZeroDivisor = 7,
+    BadShape = 8,
+    BadOperation = 9,
+    NoOutput = 10,
+    TooManyTerms = 11,
+    ExponentOver = 12,
+    StepLimit = 13,
+    NotBlocks = 14,
+    BadCheck = 15,
+    BadBlock = 16,
+    BadScript = 17,
+    BadWeight = 24,
 }
 
 // The cause of a number that a check gave: one of the table's.
+// Kept: may not change: `refusal_of` cannot fail, where `TryFrom` would answer a Result.
 pub fn refusal_of(number: u32) -> Refusal
     requires { listed number ≡ true }
     ensures { number_of result ≡ number }
@@ -54,28 +56,27 @@ pub fn refusal_of(number: u32) -> Refusal
     }
 }
 
-// The number of a cause.
+// The number of a cause: the discriminant.
 pub fn number_of(refusal: Refusal) -> u32
     ensures { result ≡ number_of refusal }
 {
-    match refusal {
-        Refusal::NotPrime => 1,
-        Refusal::BadOrder => 2,
-        Refusal::BadVariables => 3,
-        Refusal::BadCoefficient => 4,
-        Refusal::BadLayout => 5,
-        Refusal::NotFalling => 6,
-        Refusal::ZeroDivisor => 7,
-        Refusal::BadShape => 8,
-        Refusal::BadOperation => 9,
-        Refusal::NoOutput => 10,
-        Refusal::TooManyTerms => 11,
-        Refusal::ExponentOver => 12,
-        Refusal::StepLimit => 13,
-        Refusal::NotBlocks => 14,
-        Refusal::BadCheck => 15,
-        Refusal::BadBlock => 16,
-        Refusal::BadScript => 17,
-        Refusal::BadWeight => 24,
+    refusal as u32
+}
+
+// What a call gives that is refused before it began: the cause, and that 0 operations are finished.
+#[derive(Clone, Copy, Debug, PartialEq, Eq)]
+pub struct Refused {
+    pub refusal: Refusal,
+    pub finished: u64,
+}
+
+impl From<Refusal> for Refused {
+    ghost from_gives = { unfinished };
+
+    fn from(refusal: Refusal) -> Refused {
+        Refused {
+            refusal,
+            finished: 0,
+        }
     }
 }

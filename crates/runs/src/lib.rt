@@ -8,6 +8,7 @@ ghost use Rattle.call.specs.Answers.{Outcome, stated};
 ghost use Rattle.run_outcome.specs.Outcome.{run_outcome};
 
 use call::answer::{Answer, Returned, Tally, ended, refused};
+use conditions::lengths::Lengths;
 use engine::run::operate_all;
 use monomial::order::order_of;
 use opening::run::run_opening;
@@ -37,24 +38,16 @@ pub fn run<'a>(
         (record { answer = stated result.answer; tally = result.tally; bw = bw.new; bc = bc.new; ww = ww.new; wc = wc.new; ow = ow.new; oc = oc.new })
         (run_outcome tally (setting_of p order n weights.now) words.now coefs.now starts.now ops.now bw.old bc.old ww.old wc.old ow.old oc.old) }
 {
-    let number = run_opening(
-        p,
-        order,
-        n,
-        weights,
-        words,
-        coefs,
-        starts,
-        ops,
-        bw.len(),
-        bc.len(),
-        ww.len(),
-        wc.len(),
-        ow.len(),
-        oc.len(),
-    );
-    if number != 0 {
-        return refused(number, tally);
+    let lengths = Lengths {
+        bw: bw.len(),
+        bc: bc.len(),
+        ww: ww.len(),
+        wc: wc.len(),
+        ow: ow.len(),
+        oc: oc.len(),
+    };
+    if let Err(refusal) = run_opening(p, order, n, weights, words, coefs, starts, ops, lengths) {
+        return refused(refusal, tally);
     }
     let mut b = [0usize; 18];
     clear(&mut b);
@@ -62,11 +55,12 @@ pub fn run<'a>(
     let s = operate_all(
         by, p, words, coefs, starts, ops, &mut b, bw, bc, ww, wc, ow, oc,
     );
-    settle(by, &b, bw, bc, ww, wc);
+    settle::<u64>(by, &b, bw, bc, ww, wc);
     ended(s, &b)
 }
 
 // The same, with the counts set in place.
+// Kept: may not change: an entry of document 01 beside `run`, which `README.md` and `docs/` name.
 pub fn run_in_place<'t, 'a>(
     tally: &'t mut Tally,
     p: u32,

@@ -3,7 +3,8 @@ ghost use Rattle.std.specs.Prelude.{◌≡◌, ◌≤◌, length};
 
 use crate::{text, words};
 use monomial::exponents::word_of;
-use monomial::order::{Comparison, Order, order_of};
+use monomial::order::{Order, order_of};
+use std::cmp::Ordering;
 use std::io;
 
 // The largest exponent.
@@ -39,32 +40,18 @@ const PAIRS: [[u8; 13]; 24] = [
 ];
 
 pub fn pairs(rt: &impl Print) -> io::Result<()> {
-    for i in 0..24 {
-        let row = PAIRS[i];
-        pair(rt, row)?;
+    for row in PAIRS {
+        in_row(rt, row)?;
     }
     Ok(())
 }
 
-// A row of the table, by value: so its length is known where it is lent.
-fn pair(rt: &impl Print, row: [u8; 13]) -> io::Result<()> {
-    in_row(rt, &row)
-}
-
-fn in_row(rt: &impl Print, row: &[u8]) -> io::Result<()>
-    requires { length row.now ≡ 13 }
-{
-    let n = wide(row[0]);
+fn in_row(rt: &impl Print, row: [u8; 13]) -> io::Result<()> {
+    let n = usize::from(row[0]);
     if n > 6 {
         return Ok(());
     }
     in_orders(rt, &row[1..1 + n], &row[7..7 + n])
-}
-
-fn wide(n: u8) -> usize
-    ensures { result ≡ n }
-{
-    n as usize
 }
 
 // The pair in the three orders.
@@ -88,15 +75,16 @@ fn in_order(rt: &impl Print, order: Order, x: &[u8], y: &[u8]) -> io::Result<()>
 fn comparison(rt: &impl Print, order: Order, x: &[u8], y: &[u8]) -> io::Result<()>
     requires { (length x.now ≤ 6) × (length y.now ≤ 6) }
 {
+    let sign = match order.compare(word_in(order, x), word_in(order, y)) {
+        Ordering::Less => "<",
+        Ordering::Equal => "=",
+        Ordering::Greater => ">",
+    };
     text::order(rt, order)?;
     text::exponents(rt, x)?;
-    match order.compare(word_in(order, x), word_in(order, y)) {
-        Comparison::Smaller => text::put(rt, b" < ")?,
-        Comparison::Same => text::put(rt, b" = ")?,
-        Comparison::Larger => text::put(rt, b" > ")?,
-    }
+    print!(rt; " {sign} ")?;
     text::exponents(rt, y)?;
-    text::put(rt, b"\n")
+    println!(rt;)
 }
 
 fn word(rt: &impl Print, order: Order, x: &[u8]) -> io::Result<()>

@@ -35,9 +35,8 @@ const WORDS: [[u64; 2]; 20] = [
 ];
 
 pub fn given(rt: &impl Print) -> io::Result<()> {
-    for i in 0..20 {
-        let row = WORDS[i];
-        in_orders(rt, row[0], row[1])?;
+    for [n, w] in WORDS {
+        in_orders(rt, n, w)?;
     }
     Ok(())
 }
@@ -57,8 +56,7 @@ fn one(rt: &impl Print, order: Order, n: usize, w: u64) -> io::Result<()>
     requires { n ≤ 6 }
 {
     text::order(rt, order)?;
-    text::put(rt, b"n = ")?;
-    text::number(rt, n as u64)?;
+    print!(rt; "n = {n}")?;
     reading(rt, order, n, w)
 }
 
@@ -66,15 +64,11 @@ fn one(rt: &impl Print, order: Order, n: usize, w: u64) -> io::Result<()>
 pub fn reading(rt: &impl Print, order: Order, n: usize, w: u64) -> io::Result<()>
     requires { n ≤ 6 }
 {
-    text::put(rt, b" word ")?;
-    text::word(rt, w)?;
-    text::put(rt, b" exponents ")?;
+    let is_of = in_layout(beyond_bits(order, n as u32), unit_weights(order), w);
+    let not = if is_of { "" } else { "not " };
+    print!(rt; " word {w:016x} exponents ")?;
     back(rt, order, n, w)?;
-    if in_layout(beyond_bits(order, n as u32), unit_weights(order), w) {
-        text::put(rt, b" of the layout\n")
-    } else {
-        text::put(rt, b" not of the layout\n")
-    }
+    println!(rt; " {not}of the layout")
 }
 
 // Six weights of 1, as a word.
@@ -89,10 +83,8 @@ pub fn unit_weights(order: Order) -> u64
 pub fn back(rt: &impl Print, order: Order, n: usize, w: u64) -> io::Result<()>
     requires { n ≤ 6 }
 {
-    let mut i = 0;
-    while i < n {
+    for i in 0..n {
         text::dotted(rt, i, exponent(order, w, i as u32))?;
-        i += 1;
     }
     Ok(())
 }

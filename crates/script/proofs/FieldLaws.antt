@@ -1,4 +1,6 @@
 -- The terms of an addition, field by field, as the code reads them. Assumes nothing.
+use Rattle.std.proofs.lemmas.Option.{some_pair_parts}
+use Rattle.std.specs.Prelude.{Some, None}
 use Prim.Native.Nat.{ℕ, suc, ◌+◌, ◌-◌, ◌*◌, ◌≤◌, ◌<◌}
 use native.Mathlib.Numerals.{add-one}
 use native.Mathlib.Omega.{arith}
@@ -16,11 +18,6 @@ use Rattle.text.specs.Numbers.{decimal, and_then}
 use Rattle.text.proofs.ByteLaws.{parts-some, parts-found, parts_last, found-there}
 use Rattle.text.proofs.NumberLaws.{decimal-some}
 use Rattle.merge_common.proofs.Lists.{sets-snoc}
-use Rattle.grammar.specs.declared.numbers.Counted.TheVariants.{All}
-use Rattle.grammar.specs.declared.numbers.Counted.TheVariants.{Bad as Counted-as-Bad}
-use Rattle.grammar.specs.declared.entry.Parsed.{Parsed}
-use Rattle.grammar.specs.declared.entry.Parsed.TheVariants.{Term}
-use Rattle.grammar.specs.declared.entry.Parsed.TheVariants.{Bad as Parsed-as-Bad}
 use Rattle.grammar.specs.Grammar.{Entry, entry_text, entries_text, GoodEntry, GoodEntries}
 use Rattle.grammar.specs.Reading.{entry_of, entries_of, fields_of}
 use Rattle.grammar.specs.Parts.{parsed, entry_word, entry_coef}
@@ -88,13 +85,13 @@ entries-size n (t ∷ ts) g =
     omega (arith, h, entry-size n t g.0, entries-size n ts g.1)
 
 -- ---- what the code's answer for one term tells
-pub parsed-term : (o : Order) (vs : List ℕ) (x : Option Entry) (r : Parsed) (w c : ℕ) → r ≡ parsed o vs x → r ≡ Term w c → (t : Entry) × (x ≡ some t) × (w ≡ entry_word o vs t) × (c ≡ entry_coef t)
-parsed-term o vs none r w c e h = absurd (let z : ◌≡◌ {A = ℕ} 0 1 = cc in let y : ⊥ = omega arith in y)
-parsed-term o vs (some t) r w c e h = (t, refl, cc, cc)
+pub parsed-term : (o : Order) (vs : List ℕ) (x : Option Entry) (w c : ℕ) → Some (w, c) ≡ parsed o vs x → (t : Entry) × (x ≡ some t) × (w ≡ entry_word o vs t) × (c ≡ entry_coef t)
+parsed-term o vs none w c e = absurd (let z : ◌≡◌ {A = ℕ} 0 1 = cc in let y : ⊥ = omega arith in y)
+parsed-term o vs (some t) w c e = let p = some_pair_parts w (entry_word o vs t) c (entry_coef t) e in (t, refl, p.0, p.1)
 
-pub parsed-bad : (o : Order) (vs : List ℕ) (x : Option Entry) (r : Parsed) → r ≡ parsed o vs x → r ≡ Parsed-as-Bad → x ≡ none
-parsed-bad o vs none r e h = refl
-parsed-bad o vs (some t) r e h = absurd (let z : ◌≡◌ {A = ℕ} 0 1 = cc in let y : ⊥ = omega arith in y)
+pub parsed-bad : (o : Order) (vs : List ℕ) (x : Option Entry) → None ≡ parsed o vs x → x ≡ none
+parsed-bad o vs none e = refl
+parsed-bad o vs (some t) e = absurd (let z : ◌≡◌ {A = ℕ} 0 1 = cc in let y : ⊥ = omega arith in y)
 
 -- ---- the terms put so far
 pub record Adding (o : Order) (vs : List ℕ) (n : ℕ) (s : List ℕ) (at : ℕ) (words₀ coefs₀ words coefs : List ℕ) (to i : ℕ) : Type 0 where
@@ -119,19 +116,19 @@ module _ {o : Order} {vs : List ℕ} {n : ℕ} {s : List ℕ} {at : ℕ} {words�
   pub adding-coefs : length coefs ≡ length coefs₀
   adding-coefs = ap length a.coefs-are ∙ length-sets coefs₀ at (map entry_coef a.done)
 
-  pub adding-end : length s ≤ i → ReadEntries o vs n s at words₀ coefs₀ words coefs (All to)
+  pub adding-end : length s ≤ i → ReadEntries o vs n s at words₀ coefs₀ words coefs (Some to)
   unfolding and_then
   adding-end h =
       let w : some (a.done ++ []) ≡ fields_of n (parts 32 s) = ap (before a.done) (sym (fields-end n s i h)) ∙ a.whole in
-      record { is = rw (← w, append-nil) (ap All a.place, a.words_are, a.coefs-are) }
+      record { is = rw (← w, append-nil) (ap Some a.place, a.words_are, a.coefs-are) }
 
   module _ (l : i < length s) where
-    pub adding-no-space : (get_or s i 0 ≡ 32 → ⊥) → ReadEntries o vs n s at words₀ coefs₀ words coefs Counted-as-Bad
+    pub adding-no-space : (get_or s i 0 ≡ 32 → ⊥) → ReadEntries o vs n s at words₀ coefs₀ words coefs None
     unfolding and_then
     adding-no-space e = let w : none ≡ fields_of n (parts 32 s) = ap (before a.done) (sym (no-space n s i l e)) ∙ a.whole in record { is = rw (← w) refl }
 
     module _ (b : get_or s i 0 ≡ 32) (e : ℕ) (is : e ≡ i + 1 + index_of 32 (drop (i + 1) s)) where
-      pub adding-bad : entry_of n (take (e - (i + 1)) (drop (i + 1) s)) ≡ none → ReadEntries o vs n s at words₀ coefs₀ words coefs Counted-as-Bad
+      pub adding-bad : entry_of n (take (e - (i + 1)) (drop (i + 1) s)) ≡ none → ReadEntries o vs n s at words₀ coefs₀ words coefs None
       unfolding and_then
       adding-bad q =
           let w : none ≡ fields_of n (parts 32 s) = ap (λ (x : Option Entry). before a.done (and_then x (λ t. and_then (fields_of n (parts 32 (drop e s))) (λ ts. some (t ∷ ts))))) (sym q) ∙ (ap (before a.done) (sym (space-next n s i l b e is)) ∙ a.whole) in

@@ -1,4 +1,5 @@
 -- The lines behind the first ones as the code reads them. Assumes nothing.
+use Rattle.std.specs.Prelude.{Some, None, Option as Answered}
 use Prim.Native.Nat.{ℕ, suc, ◌+◌, ◌-◌, ◌*◌, ◌≤◌, ◌<◌}
 use native.Mathlib.Omega.{arith}
 use mathlib.Core.Path.{◌≡◌, refl, sym, ap, ◌∙◌}
@@ -7,14 +8,11 @@ use mathlib.Core.Option.{Option, none, some}
 use lib.ListN.{length, take, drop, length-append, length-map, length-take, length-drop, drop_of_length-le}
 use lib.Seq.{sets, length-sets}
 use Rattle.monomial.specs.declared.order.Order.{Order}
-use Rattle.monomial.specs.Layout.{Below}
 use Rattle.text.specs.Bytes.{index_of, parts}
 use Rattle.text.specs.Numbers.{and_then}
 use Rattle.text.proofs.ByteLaws.{parts-some}
 use Rattle.merge_common.proofs.Lists.{sets-append}
 use Rattle.script.specs.declared.line.Counts.{Counts}
-use Rattle.script.specs.declared.line.Behind.{Behind}
-use Rattle.script.specs.declared.line.Behind.TheVariants.{Line as Behind-as-Line, Bad as Behind-as-Bad}
 use Rattle.grammar.specs.Grammar.{Entry, Line, add_line, lead_line, sum_line, line_text, GoodLine}
 use Rattle.grammar.specs.Reading.{line_of, lines_of}
 use Rattle.grammar.specs.Parts.{entry_word, entry_coef}
@@ -84,9 +82,9 @@ line-size n s l e = let g = line_read n s l e in rw g.1 (go l g.0)
     go sum_line g = omega arith
 
 -- ---- what a line's answer tells
-line-bad : (o : Order) (vs : List ℕ) (x : Option Line) (c : Counts) (words coefs starts ops words' coefs' starts' ops' : List ℕ) (r : Behind) → LineAs o vs x c words coefs starts ops words' coefs' starts' ops' r → r ≡ Behind-as-Bad → x ≡ none
+line-bad : (o : Order) (vs : List ℕ) (x : Option Line) (c : Counts) (words coefs starts ops words' coefs' starts' ops' : List ℕ) (r : Answered Counts) → LineAs o vs x c words coefs starts ops words' coefs' starts' ops' r → r ≡ None → x ≡ none
 line-bad o vs none c words coefs starts ops words' coefs' starts' ops' r d e = refl
-line-bad o vs (some l) c words coefs starts ops words' coefs' starts' ops' r d e = absurd (let x : r ≡ Behind-as-Line (counts_behind c l) = d.0 in let z : ◌≡◌ {A = ℕ} 0 1 = cc in let y : ⊥ = omega arith in y)
+line-bad o vs (some l) c words coefs starts ops words' coefs' starts' ops' r d e = absurd (let x : r ≡ Some (counts_behind c l) = d.0 in let z : ◌≡◌ {A = ℕ} 0 1 = cc in let y : ⊥ = omega arith in y)
 
 pub record LineRead (o : Order) (vs : List ℕ) (n : ℕ) (s : List ℕ) (c : Counts) (words coefs starts ops words' coefs' starts' ops' : List ℕ) (b : Counts) : Type 0 where
   pub line : Line
@@ -97,14 +95,14 @@ pub record LineRead (o : Order) (vs : List ℕ) (n : ℕ) (s : List ℕ) (c : Co
   pub starts-are : starts' ≡ sets starts (c.polynomials + 1) (ends_from c.terms (line ∷ []))
   pub ops-are : ops' ≡ sets ops (2 * c.operations) (pairs_from c.polynomials (line ∷ []))
 
-line-good : (o : Order) (vs : List ℕ) (n : ℕ) (s : List ℕ) (x : Option Line) (c : Counts) (words coefs starts ops words' coefs' starts' ops' : List ℕ) (r : Behind) (b : Counts) → line_of n s ≡ x → LineAs o vs x c words coefs starts ops words' coefs' starts' ops' r → r ≡ Behind-as-Line b → LineRead o vs n s c words coefs starts ops words' coefs' starts' ops' b
-line-good o vs n s none c words coefs starts ops words' coefs' starts' ops' r b q d e = absurd (let x : r ≡ Behind-as-Bad = d in let z : ◌≡◌ {A = ℕ} 0 1 = cc in let y : ⊥ = omega arith in y)
-line-good o vs n s (some l) c words coefs starts ops words' coefs' starts' ops' r b q d e = let x : r ≡ Behind-as-Line (counts_behind c l) = d.0 in record { line = l; is = q; counts = cc; words_are = d.1; coefs-are = d.2; starts-are = d.3; ops-are = d.4 }
+line-good : (o : Order) (vs : List ℕ) (n : ℕ) (s : List ℕ) (x : Option Line) (c : Counts) (words coefs starts ops words' coefs' starts' ops' : List ℕ) (r : Answered Counts) (b : Counts) → line_of n s ≡ x → LineAs o vs x c words coefs starts ops words' coefs' starts' ops' r → r ≡ Some b → LineRead o vs n s c words coefs starts ops words' coefs' starts' ops' b
+line-good o vs n s none c words coefs starts ops words' coefs' starts' ops' r b q d e = absurd (let x : r ≡ None = d in let z : ◌≡◌ {A = ℕ} 0 1 = cc in let y : ⊥ = omega arith in y)
+line-good o vs n s (some l) c words coefs starts ops words' coefs' starts' ops' r b q d e = let x : r ≡ Some (counts_behind c l) = d.0 in record { line = l; is = q; counts = cc; words_are = d.1; coefs-are = d.2; starts-are = d.3; ops-are = d.4 }
 
-pub line-none : {o : Order} {vs : List ℕ} {n : ℕ} {s : List ℕ} {c : Counts} {words coefs starts ops words' coefs' starts' ops' : List ℕ} {r : Behind} → ReadLine o vs n s c words coefs starts ops words' coefs' starts' ops' r → r ≡ Behind-as-Bad → line_of n s ≡ none
+pub line-none : {o : Order} {vs : List ℕ} {n : ℕ} {s : List ℕ} {c : Counts} {words coefs starts ops words' coefs' starts' ops' : List ℕ} {r : Answered Counts} → ReadLine o vs n s c words coefs starts ops words' coefs' starts' ops' r → r ≡ None → line_of n s ≡ none
 line-none {o} {vs} {n} {s} {c} {words} {coefs} {starts} {ops} {words'} {coefs'} {starts'} {ops'} {r} d e = line-bad o vs (line_of n s) c words coefs starts ops words' coefs' starts' ops' r d.is e
 
-pub line-some : {o : Order} {vs : List ℕ} {n : ℕ} {s : List ℕ} {c : Counts} {words coefs starts ops words' coefs' starts' ops' : List ℕ} {r : Behind} {b : Counts} → ReadLine o vs n s c words coefs starts ops words' coefs' starts' ops' r → r ≡ Behind-as-Line b → LineRead o vs n s c words coefs starts ops words' coefs' starts' ops' b
+pub line-some : {o : Order} {vs : List ℕ} {n : ℕ} {s : List ℕ} {c : Counts} {words coefs starts ops words' coefs' starts' ops' : List ℕ} {r : Answered Counts} {b : Counts} → ReadLine o vs n s c words coefs starts ops words' coefs' starts' ops' r → r ≡ Some b → LineRead o vs n s c words coefs starts ops words' coefs' starts' ops' b
 line-some {o} {vs} {n} {s} {c} {words} {coefs} {starts} {ops} {words'} {coefs'} {starts'} {ops'} {r} {b} d e = line-good o vs n s (line_of n s) c words coefs starts ops words' coefs' starts' ops' r b refl d.is e
 
 -- ---- the lines read so far
@@ -118,16 +116,15 @@ pub record Reading (o : Order) (vs : List ℕ) (n from : ℕ) (s : List ℕ) (wo
   pub ops-are : ops ≡ sets ops₀ 0 (pairs_from 0 done)
 
 -- room for the lines from a place on
-pub record Left (vs : List ℕ) (s : ℕ) (c : Counts) (at words coefs starts ops : ℕ) : Type 0 where
-  pub small : Below 18 vs
+pub record Left (s : ℕ) (c : Counts) (at words coefs starts ops : ℕ) : Type 0 where
   pub within : at ≤ s
   pub terms-fit : 4 * c.terms + s ≤ 4 * words + at
   pub same-long : coefs ≡ words
   pub starts_fit : 4 * c.polynomials + s + 4 ≤ 4 * starts + at
   pub pairs-fit : 4 * c.operations + s ≤ 2 * ops + at
 
-pub left-start : {vs : List ℕ} {from s words coefs starts ops : ℕ} → LinesRoom vs from s words coefs starts ops → Left vs s (record { terms = 0; polynomials = 0; operations = 0 }) from words coefs starts ops
-left-start r = record { small = r.small; within = r.within; terms-fit = omega (arith, r.terms-fit); same-long = r.same-long; starts_fit = omega (arith, r.starts_fit); pairs-fit = omega (arith, r.pairs-fit) }
+pub left-start : {from s words coefs starts ops : ℕ} → LinesRoom from s words coefs starts ops → Left s (record { terms = 0; polynomials = 0; operations = 0 }) from words coefs starts ops
+left-start r = record { within = r.within; terms-fit = omega (arith, r.terms-fit); same-long = r.same-long; starts_fit = omega (arith, r.starts_fit); pairs-fit = omega (arith, r.pairs-fit) }
 
 map_both : {A : Type 0} (f : A → ℕ) (xs ys : List A) → map f (xs ++ ys) ≡ map f xs ++ map f ys
 map_both f [] ys = refl
@@ -158,16 +155,16 @@ module _ {o : Order} {vs : List ℕ} {n from : ℕ} {s words₀ coefs₀ starts�
   pub long-ops : length ops ≡ length ops₀
   long-ops = ap length d.ops-are ∙ length-sets ops₀ 0 (pairs_from 0 d.done)
 
-  pub reading-end : at ≤ length s → length s ≤ at → ReadLines o vs n from s words₀ coefs₀ starts₀ ops₀ words coefs starts ops (Behind-as-Line c)
+  pub reading-end : at ≤ length s → length s ≤ at → ReadLines o vs n from s words₀ coefs₀ starts₀ ops₀ words coefs starts ops (Some c)
   unfolding lines_of and_then parts
   reading-end h l =
       let p : parts_from 10 at s ≡ [] ∷ [] = parts_at 10 at s h ∙ ap (parts 10) (drop_of_length-le s l) in
       let w : some (d.done ++ []) ≡ lines_of n (parts 10 (drop from s)) = ap (λ (ps : List (List ℕ)). before d.done (lines_of n ps)) (sym p) ∙ d.whole in
-      record { is = rw (← w, append-nil) (ap Behind-as-Line d.counts, d.words_are, d.coefs-are, d.starts-are, d.ops-are) }
+      record { is = rw (← w, append-nil) (ap Some d.counts, d.words_are, d.coefs-are, d.starts-are, d.ops-are) }
 
   module _ (h : at < length s) (e : ℕ) (is : e ≡ at + index_of 10 (drop at s)) where
     -- no newline behind the last line
-    pub reading-cut : e ≡ length s → {words' coefs' starts' ops' : List ℕ} → ReadLines o vs n from s words₀ coefs₀ starts₀ ops₀ words' coefs' starts' ops' Behind-as-Bad
+    pub reading-cut : e ≡ length s → {words' coefs' starts' ops' : List ℕ} → ReadLines o vs n from s words₀ coefs₀ starts₀ ops₀ words' coefs' starts' ops' None
     unfolding lines_of and_then
     reading-cut q =
         let t = take (e - at) (drop at s) in
@@ -180,13 +177,13 @@ module _ {o : Order} {vs : List ℕ} {n from : ℕ} {s words₀ coefs₀ starts�
         last [] z = absurd (let y : ⊥ = omega arith in y)
         last (b ∷ t) z = refl
 
-    module _ (l : e ≤ length s) (q : e ≡ length s → ⊥) where
+    module _ (l : e < length s) where
       next : lines_of n (parts_from 10 at s) ≡ and_then (line_of n (take (e - at) (drop at s))) (λ x. and_then (lines_of n (parts_from 10 (e + 1) s)) (λ xs. some (x ∷ xs)))
       next =
           let m = parts-some 10 (drop (e + 1) s) in
           ap (lines_of n) (from_next 10 at s (omega arith) e is) ∙ lines-behind n (take (e - at) (drop at s)) (parts_from 10 (e + 1) s) m.0 m.1 (parts_at 10 (e + 1) s (omega arith) ∙ m.2)
 
-      pub reading-bad : line_of n (take (e - at) (drop at s)) ≡ none → {words' coefs' starts' ops' : List ℕ} → ReadLines o vs n from s words₀ coefs₀ starts₀ ops₀ words' coefs' starts' ops' Behind-as-Bad
+      pub reading-bad : line_of n (take (e - at) (drop at s)) ≡ none → {words' coefs' starts' ops' : List ℕ} → ReadLines o vs n from s words₀ coefs₀ starts₀ ops₀ words' coefs' starts' ops' None
       unfolding and_then
       reading-bad x =
           let w : none ≡ lines_of n (parts 10 (drop from s)) = ap (λ (y : Option Line). before d.done (and_then y (λ k. and_then (lines_of n (parts_from 10 (e + 1) s)) (λ xs. some (k ∷ xs))))) (sym x) ∙ (ap (before d.done) (sym next) ∙ d.whole) in
@@ -196,22 +193,22 @@ module _ {o : Order} {vs : List ℕ} {n from : ℕ} {s words₀ coefs₀ starts�
       line-long = omega (arith, length-take (e - at) (drop at s), length-drop at s)
 
       -- room for this line
-      pub line-room : Left vs (length s) c at (length words₀) (length coefs₀) (length starts₀) (length ops₀) → LineRoom vs (length (take (e - at) (drop at s))) c (length words) (length coefs) (length starts) (length ops)
+      pub line-room : Left (length s) c at (length words₀) (length coefs₀) (length starts₀) (length ops₀) → LineRoom (length (take (e - at) (drop at s))) c (length words) (length coefs) (length starts) (length ops)
       line-room r =
           let lw = long-words in
           let lc = long-coefs in
           let lt = long-starts in
           let lo = long-ops in
-          record { small = r.small; terms-fit = omega (arith, lw, line-long, r.terms-fit); same-long = lc ∙ (r.same-long ∙ sym lw); starts_fit = omega (arith, lt, line-long, r.starts_fit); pairs-fit = omega (arith, lo, line-long, r.pairs-fit) }
+          record { terms-fit = omega (arith, lw, line-long, r.terms-fit); same-long = lc ∙ (r.same-long ∙ sym lw); starts_fit = omega (arith, lt, line-long, r.starts_fit); pairs-fit = omega (arith, lo, line-long, r.pairs-fit) }
 
       module _ {words' coefs' starts' ops' : List ℕ} {b : Counts} (t : LineRead o vs n (take (e - at) (drop at s)) c words coefs starts ops words' coefs' starts' ops' b) where
-        pub left-more : {words coefs starts ops : ℕ} → Left vs (length s) c at words coefs starts ops → Left vs (length s) b (e + 1) words coefs starts ops
+        pub left-more : {words coefs starts ops : ℕ} → Left (length s) c at words coefs starts ops → Left (length s) b (e + 1) words coefs starts ops
         left-more {words} {coefs} {starts} {ops} r = rw t.counts (go t.line (line-size n (take (e - at) (drop at s)) t.line t.is))
           where
-            go : (k : Line) → 4 * length (line_entries k) + 3 ≤ length (take (e - at) (drop at s)) → Left vs (length s) (counts_behind c k) (e + 1) words coefs starts ops
-            go (add_line ts) z = record { small = r.small; within = omega arith; terms-fit = omega (arith, line-long, r.terms-fit); same-long = r.same-long; starts_fit = omega (arith, line-long, r.starts_fit); pairs-fit = omega (arith, line-long, r.pairs-fit) }
-            go lead_line z = record { small = r.small; within = omega arith; terms-fit = omega (arith, line-long, r.terms-fit); same-long = r.same-long; starts_fit = omega (arith, line-long, r.starts_fit); pairs-fit = omega (arith, line-long, r.pairs-fit) }
-            go sum_line z = record { small = r.small; within = omega arith; terms-fit = omega (arith, line-long, r.terms-fit); same-long = r.same-long; starts_fit = omega (arith, line-long, r.starts_fit); pairs-fit = omega (arith, line-long, r.pairs-fit) }
+            go : (k : Line) → 4 * length (line_entries k) + 3 ≤ length (take (e - at) (drop at s)) → Left (length s) (counts_behind c k) (e + 1) words coefs starts ops
+            go (add_line ts) z = record { within = omega arith; terms-fit = omega (arith, line-long, r.terms-fit); same-long = r.same-long; starts_fit = omega (arith, line-long, r.starts_fit); pairs-fit = omega (arith, line-long, r.pairs-fit) }
+            go lead_line z = record { within = omega arith; terms-fit = omega (arith, line-long, r.terms-fit); same-long = r.same-long; starts_fit = omega (arith, line-long, r.starts_fit); pairs-fit = omega (arith, line-long, r.pairs-fit) }
+            go sum_line z = record { within = omega arith; terms-fit = omega (arith, line-long, r.terms-fit); same-long = r.same-long; starts_fit = omega (arith, line-long, r.starts_fit); pairs-fit = omega (arith, line-long, r.pairs-fit) }
 
         pub reading-more : Reading o vs n from s words₀ coefs₀ starts₀ ops₀ words' coefs' starts' ops' b (e + 1)
         unfolding and_then

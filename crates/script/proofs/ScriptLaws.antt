@@ -1,4 +1,5 @@
 -- A whole script as the code reads it, return by return. Assumes nothing.
+use Rattle.std.specs.Prelude.{Some, None, Option as Answered}
 use Prim.Native.Nat.{ℕ, ◌≤◌, ◌<◌}
 use native.Mathlib.Omega.{arith}
 use mathlib.Core.Path.{◌≡◌, refl, sym, ap, ◌∙◌, subst}
@@ -15,12 +16,7 @@ use Rattle.monomial.specs.Layout.{fields, Below, WeightsFit}
 use Rattle.text.specs.Bytes.{parts}
 use Rattle.text.specs.Numbers.{and_then}
 use Rattle.script.specs.declared.line.Counts.{Counts}
-use Rattle.script.specs.declared.line.Behind.{Behind}
-use Rattle.script.specs.declared.line.Behind.TheVariants.{Line as Behind-as-Line, Bad as Behind-as-Bad}
 use Rattle.grammar.specs.declared.header.Header.{Header}
-use Rattle.grammar.specs.declared.header.Head.{Head}
-use Rattle.grammar.specs.declared.header.Head.TheVariants.{Is, Bad as Head-as-Bad}
-use Rattle.script.specs.declared.reader.Found.TheVariants.{Script as Found-as-Script, Bad as Found-as-Bad}
 use Rattle.grammar.specs.Grammar.{Line, Script}
 use Rattle.grammar.specs.Reading.{lines_of, script_from, with_header, script_of}
 use Rattle.grammar.specs.Parts.{entry_word, six_weights, packed_weights, order_number, HeadAs, ReadHeader}
@@ -33,11 +29,11 @@ order-number DegLex = refl
 order-number DegRevLex = refl
 
 module _ {s words coefs starts ops words' coefs' starts' ops' : List ℕ} where
-  pub script-none : script_of s ≡ none → ReadScript s words coefs starts ops words' coefs' starts' ops' Found-as-Bad
+  pub script-none : script_of s ≡ none → ReadScript s words coefs starts ops words' coefs' starts' ops' None
   script-none e = record { is = rw e refl }
 
   -- "At most 16,384 bytes"
-  pub too_long : script_bytes < length s → ReadScript s words coefs starts ops words' coefs' starts' ops' Found-as-Bad
+  pub too_long : script_bytes < length s → ReadScript s words coefs starts ops words' coefs' starts' ops' None
   unfolding script_of
   too_long h = script-none (rw (lt-leb (length s) script_bytes h, script_of))
 
@@ -45,9 +41,9 @@ short : (s : List ℕ) → length s ≤ script_bytes → script_of s ≡ with_he
 unfolding script_of
 short s h = rw (le-leb (length s) script_bytes h, script_of)
 
-head-bad : (x : Option Script) (s : List ℕ) (r : Head) → HeadAs x s r → r ≡ Head-as-Bad → x ≡ none
-head-bad x s Head-as-Bad d e = d
-head-bad x s (Is h) d e = absurd (let z : ◌≡◌ {A = ℕ} 0 1 = cc in let y : ⊥ = omega arith in y)
+head-bad : (x : Option Script) (s : List ℕ) (r : Answered Header) → HeadAs x s r → r ≡ None → x ≡ none
+head-bad x s None d e = d
+head-bad x s (Some h) d e = absurd (let z : ◌≡◌ {A = ℕ} 0 1 = cc in let y : ⊥ = omega arith in y)
 
 pub record HeadRead (s : List ℕ) (h : Header) : Type 0 where
   pub from_in : h.from ≤ length s
@@ -57,14 +53,14 @@ pub record HeadRead (s : List ℕ) (h : Header) : Type 0 where
   pub weighed : h.weights ≡ packed_weights weights
   pub is : with_header (parts 10 s) ≡ script_from h.prime order h.vars weights (parts 10 (drop h.from s))
 
-head-good : (s : List ℕ) (r : Head) (h : Header) → HeadAs (with_header (parts 10 s)) s r → r ≡ Is h → HeadRead s h
-head-good s Head-as-Bad h d e = absurd (let z : ◌≡◌ {A = ℕ} 0 1 = cc in let y : ⊥ = omega arith in y)
-head-good s (Is k) h d e = let q : k ≡ h = cc in rw (← q) (record { from_in = d.0; order = d.1; named = d.2; weights = d.3; weighed = d.4; is = d.5 })
+head-good : (s : List ℕ) (r : Answered Header) (h : Header) → HeadAs (with_header (parts 10 s)) s r → r ≡ Some h → HeadRead s h
+head-good s None h d e = absurd (let z : ◌≡◌ {A = ℕ} 0 1 = cc in let y : ⊥ = omega arith in y)
+head-good s (Some k) h d e = let q : k ≡ h = cc in rw (← q) (record { from_in = d.0; order = d.1; named = d.2; weights = d.3; weighed = d.4; is = d.5 })
 
-pub no_header : {s words coefs starts ops : List ℕ} {r : Head} → length s ≤ script_bytes → ReadHeader s r → r ≡ Head-as-Bad → ReadScript s words coefs starts ops words coefs starts ops Found-as-Bad
+pub no_header : {s words coefs starts ops : List ℕ} {r : Answered Header} → length s ≤ script_bytes → ReadHeader s r → r ≡ None → ReadScript s words coefs starts ops words coefs starts ops None
 no_header {s} {words} {coefs} {starts} {ops} {r} h d e = script-none (short s h ∙ head-bad (with_header (parts 10 s)) s r d.is e)
 
-pub header_is : {s : List ℕ} {r : Head} {h : Header} → ReadHeader s r → r ≡ Is h → HeadRead s h
+pub header_is : {s : List ℕ} {r : Answered Header} {h : Header} → ReadHeader s r → r ≡ Some h → HeadRead s h
 header_is {s} {r} {h} d e = head-good s r h d.is e
 
 module _ {s : List ℕ} {h : Header} (l : length s ≤ script_bytes) (d : HeadRead s h) where
@@ -78,29 +74,33 @@ module _ {s : List ℕ} {h : Header} (l : length s ≤ script_bytes) (d : HeadRe
   pub weights-fit : {ws : List ℕ} → ws ≡ fields DegRevLex h.weights → WeightsFit ws
   weights-fit e = subst WeightsFit (sym (weights-are e)) (six-fit d.weights)
 
-  lines-room : {vs : List ℕ} → vs ≡ six_weights d.weights → {words coefs starts ops : ℕ} → ScriptRoom words coefs starts ops → LinesRoom vs h.from (length s) words coefs starts ops
-  lines-room ve r = record { small = subst (Below 18) (sym ve) (six-small d.weights); within = d.from_in; terms-fit = omega (arith, r.words_long); same-long = r.coefs-long ∙ sym r.words_long; starts_fit = omega (arith, r.starts-long); pairs-fit = omega (arith, r.ops-long) }
+  -- the weights are so small that no word is too large
+  pub weights-small : {vs : List ℕ} → vs ≡ six_weights d.weights → Below 18 vs
+  weights-small ve = subst (Below 18) (sym ve) (six-small d.weights)
+
+  lines-room : {words coefs starts ops : ℕ} → ScriptRoom words coefs starts ops → LinesRoom h.from (length s) words coefs starts ops
+  lines-room r = record { within = d.from_in; terms-fit = omega (arith, r.words_long); same-long = r.coefs-long ∙ sym r.words_long; starts_fit = omega (arith, r.starts-long); pairs-fit = omega (arith, r.ops-long) }
 
   script-is : (x : Option (List Line)) → lines_of h.vars (parts 10 (drop h.from s)) ≡ x → script_of s ≡ and_then x (λ xs. some (record { prime = h.prime; order = d.order; vars = h.vars; weights = d.weights; lines = xs }))
   script-is x e = short s l ∙ (d.is ∙ ap (λ (y : Option (List Line)). and_then y (λ xs. some (record { prime = h.prime; order = d.order; vars = h.vars; weights = d.weights; lines = xs }))) e)
 
-  module _ {o : Order} (oe : o ≡ order_of h.order) {vs : List ℕ} (ve : vs ≡ six_weights d.weights) {words coefs starts ops words' coefs' starts' ops' : List ℕ} {r : Behind} (t : ReadLines o vs h.vars h.from s words coefs (set starts 0 0) ops words' coefs' starts' ops' r) where
-    pub no_lines : r ≡ Behind-as-Bad → ReadScript s words coefs starts ops words' coefs' starts' ops' Found-as-Bad
+  module _ {o : Order} (oe : o ≡ order_of h.order) {vs : List ℕ} (ve : vs ≡ six_weights d.weights) {words coefs starts ops words' coefs' starts' ops' : List ℕ} {r : Answered Counts} (t : ReadLines o vs h.vars h.from s words coefs (set starts 0 0) ops words' coefs' starts' ops' r) where
+    pub no_lines : r ≡ None → ReadScript s words coefs starts ops words' coefs' starts' ops' None
     unfolding and_then
     no_lines e = script-none (script-is none (go (lines_of h.vars (parts 10 (drop h.from s))) t.is))
       where
         go : (x : Option (List Line)) → LinesAs o vs x words coefs (set starts 0 0) ops words' coefs' starts' ops' r → x ≡ none
         go none q = refl
-        go (some ls) q = absurd (let y : r ≡ Behind-as-Line (counts_of ls) = q.0 in let z : ◌≡◌ {A = ℕ} 0 1 = cc in let w : ⊥ = omega arith in w)
+        go (some ls) q = absurd (let y : r ≡ Some (counts_of ls) = q.0 in let z : ◌≡◌ {A = ℕ} 0 1 = cc in let w : ⊥ = omega arith in w)
 
-    pub script-read : (c : Counts) → r ≡ Behind-as-Line c → ReadScript s words coefs starts ops words' coefs' starts' ops' (Found-as-Script (record { prime = h.prime; order = h.order; vars = h.vars; weights = h.weights; counts = c }))
+    pub script-read : (c : Counts) → r ≡ Some c → ReadScript s words coefs starts ops words' coefs' starts' ops' (Some (record { prime = h.prime; order = h.order; vars = h.vars; weights = h.weights; counts = c }))
     unfolding and_then
     script-read c e = go (lines_of h.vars (parts 10 (drop h.from s))) refl t.is
       where
-        go : (x : Option (List Line)) → lines_of h.vars (parts 10 (drop h.from s)) ≡ x → LinesAs o vs x words coefs (set starts 0 0) ops words' coefs' starts' ops' r → ReadScript s words coefs starts ops words' coefs' starts' ops' (Found-as-Script (record { prime = h.prime; order = h.order; vars = h.vars; weights = h.weights; counts = c }))
-        go none y q = absurd (let u : r ≡ Behind-as-Bad = q in let z : ◌≡◌ {A = ℕ} 0 1 = cc in let w : ⊥ = omega arith in w)
+        go : (x : Option (List Line)) → lines_of h.vars (parts 10 (drop h.from s)) ≡ x → LinesAs o vs x words coefs (set starts 0 0) ops words' coefs' starts' ops' r → ReadScript s words coefs starts ops words' coefs' starts' ops' (Some (record { prime = h.prime; order = h.order; vars = h.vars; weights = h.weights; counts = c }))
+        go none y q = absurd (let u : r ≡ None = q in let z : ◌≡◌ {A = ℕ} 0 1 = cc in let w : ⊥ = omega arith in w)
         go (some ls) y q =
-            let u : r ≡ Behind-as-Line (counts_of ls) = q.0 in
+            let u : r ≡ Some (counts_of ls) = q.0 in
             let k : c ≡ counts_of ls = cc in
             let oo : o ≡ d.order = oe ∙ order_is in
             record {
@@ -113,5 +113,5 @@ module _ {s : List ℕ} {h : Header} (l : length s ≤ script_bytes) (d : HeadRe
               );
             }
 
-  pub lines-room-at : {vs : List ℕ} → vs ≡ six_weights d.weights → (words coefs starts ops : List ℕ) → ScriptRoom (length words) (length coefs) (length starts) (length ops) → LinesRoom vs h.from (length s) (length words) (length coefs) (length (set starts 0 0)) (length ops)
-  lines-room-at ve words coefs starts ops r = rw (length-set starts 0 0) (lines-room ve r)
+  pub lines-room-at : (words coefs starts ops : List ℕ) → ScriptRoom (length words) (length coefs) (length starts) (length ops) → LinesRoom h.from (length s) (length words) (length coefs) (length (set starts 0 0)) (length ops)
+  lines-room-at words coefs starts ops r = rw (length-set starts 0 0) (lines-room r)

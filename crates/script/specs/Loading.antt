@@ -1,21 +1,14 @@
 -- A script as a run takes it: words, coefficients, starts and operations. Assumes nothing.
+use Rattle.std.specs.Prelude.{Some, None, Option as Answered}
 use Rattle.std.specs.Prelude.{ℕ, ◌+◌, ◌*◌, ◌≤◌, List, [], ◌∷◌, ◌++◌, map, ◌≡◌, length, drop}
 use Rattle.std.proofs.Math.Option.{Option, none, some}
 use Rattle.std.proofs.lemmas.List.Edits.{sets}
 use Rattle.limits.specs.Limits.{script_numbers, script_starts, script_terms}
 use Rattle.monomial.specs.declared.order.Order.{Order}
-use Rattle.monomial.specs.Layout.{Below}
-use Rattle.grammar.specs.declared.numbers.Counted.{Counted}
-use Rattle.grammar.specs.declared.numbers.Counted.TheVariants.{All}
-use Rattle.grammar.specs.declared.numbers.Counted.TheVariants.{Bad as Counted-as-Bad}
 use Rattle.text.specs.Bytes.{parts}
 use Rattle.grammar.specs.Reading.{fields_of, add_of, line_of, lines_of, script_of}
 use Rattle.script.specs.declared.reader.Loaded.{Loaded}
-use Rattle.script.specs.declared.reader.Found.{Found}
-use Rattle.script.specs.declared.reader.Found.TheVariants.{Script as Found-as-Script, Bad as Found-as-Bad}
 use Rattle.script.specs.declared.line.Counts.{Counts}
-use Rattle.script.specs.declared.line.Behind.{Behind}
-use Rattle.script.specs.declared.line.Behind.TheVariants.{Line as Behind-as-Line, Bad as Behind-as-Bad}
 use Rattle.grammar.specs.Grammar.{Entry, Line, add_line, lead_line, sum_line, Script}
 use Rattle.grammar.specs.Parts.{entry_word, entry_coef, six_weights, packed_weights, order_number}
 
@@ -57,18 +50,17 @@ pairs_of s = pairs_from 0 s.lines
 
 -- ---- what the code hands back
 
--- Room for terms: each takes at least four bytes of the text, of which there are l. And weights whose words are not too large.
-pub record EntryRoom (weights : List ℕ) (l at words coefs : ℕ) : Type 0 where
-  pub small : Below 18 weights
+-- Room for terms: each takes at least four bytes of the text, of which there are l.
+pub record EntryRoom (l at words coefs : ℕ) : Type 0 where
   pub fits : 4 * at + l ≤ 4 * words
   pub same-long : coefs ≡ words
 
 -- the terms of an addition, put from place at on
-abbrev pub EntriesAs : Order → (weights : List ℕ) → Option (List Entry) → (at : ℕ) (words coefs words' coefs' : List ℕ) → Counted → Type 0
-EntriesAs o vs none at words coefs words' coefs' r = r ≡ Counted-as-Bad
-EntriesAs o vs (some ts) at words coefs words' coefs' r = (r ≡ All (at + length ts)) × (words' ≡ sets words at (map (entry_word o vs) ts)) × (coefs' ≡ sets coefs at (map entry_coef ts))
+abbrev pub EntriesAs : Order → (weights : List ℕ) → Option (List Entry) → (at : ℕ) (words coefs words' coefs' : List ℕ) → Answered ℕ → Type 0
+EntriesAs o vs none at words coefs words' coefs' r = r ≡ None
+EntriesAs o vs (some ts) at words coefs words' coefs' r = (r ≡ Some (at + length ts)) × (words' ≡ sets words at (map (entry_word o vs) ts)) × (coefs' ≡ sets coefs at (map entry_coef ts))
 
-pub record ReadEntries (o : Order) (vs : List ℕ) (n : ℕ) (s : List ℕ) (at : ℕ) (words coefs words' coefs' : List ℕ) (r : Counted) : Type 0 where
+pub record ReadEntries (o : Order) (vs : List ℕ) (n : ℕ) (s : List ℕ) (at : ℕ) (words coefs words' coefs' : List ℕ) (r : Answered ℕ) : Type 0 where
   pub is : EntriesAs o vs (fields_of n (parts 32 s)) at words coefs words' coefs' r
 
 -- ---- a line
@@ -78,27 +70,26 @@ counts_behind c lead_line = record { terms = c.terms; polynomials = c.polynomial
 counts_behind c sum_line = record { terms = c.terms; polynomials = c.polynomials; operations = c.operations + 1 }
 
 -- Room for a line of l bytes: with its newline it takes four bytes for each term, and at least four for itself.
-pub record LineRoom (weights : List ℕ) (l : ℕ) (c : Counts) (words coefs starts ops : ℕ) : Type 0 where
-  pub small : Below 18 weights
+pub record LineRoom (l : ℕ) (c : Counts) (words coefs starts ops : ℕ) : Type 0 where
   pub terms-fit : 4 * c.terms + l + 1 ≤ 4 * words
   pub same-long : coefs ≡ words
   pub starts_fit : 4 * c.polynomials + l + 5 ≤ 4 * starts
   pub pairs-fit : 4 * c.operations + l + 1 ≤ 2 * ops
 
-abbrev pub LineAs : Order → (weights : List ℕ) → Option Line → Counts → (words coefs starts ops words' coefs' starts' ops' : List ℕ) → Behind → Type 0
-LineAs o vs none c words coefs starts ops words' coefs' starts' ops' r = r ≡ Behind-as-Bad
+abbrev pub LineAs : Order → (weights : List ℕ) → Option Line → Counts → (words coefs starts ops words' coefs' starts' ops' : List ℕ) → Answered Counts → Type 0
+LineAs o vs none c words coefs starts ops words' coefs' starts' ops' r = r ≡ None
 LineAs o vs (some l) c words coefs starts ops words' coefs' starts' ops' r =
-    (r ≡ Behind-as-Line (counts_behind c l))
+    (r ≡ Some (counts_behind c l))
     × (words' ≡ sets words c.terms (map (entry_word o vs) (line_entries l)))
     × (coefs' ≡ sets coefs c.terms (map entry_coef (line_entries l)))
     × (starts' ≡ sets starts (c.polynomials + 1) (ends_from c.terms (l ∷ [])))
     × (ops' ≡ sets ops (2 * c.operations) (pairs_from c.polynomials (l ∷ [])))
 
-pub record ReadLine (o : Order) (vs : List ℕ) (n : ℕ) (s : List ℕ) (c : Counts) (words coefs starts ops words' coefs' starts' ops' : List ℕ) (r : Behind) : Type 0 where
+pub record ReadLine (o : Order) (vs : List ℕ) (n : ℕ) (s : List ℕ) (c : Counts) (words coefs starts ops words' coefs' starts' ops' : List ℕ) (r : Answered Counts) : Type 0 where
   pub is : LineAs o vs (line_of n s) c words coefs starts ops words' coefs' starts' ops' r
 
 -- an addition, by what stands behind the word
-pub record ReadAdd (o : Order) (vs : List ℕ) (n : ℕ) (s : List ℕ) (c : Counts) (words coefs starts ops words' coefs' starts' ops' : List ℕ) (r : Behind) : Type 0 where
+pub record ReadAdd (o : Order) (vs : List ℕ) (n : ℕ) (s : List ℕ) (c : Counts) (words coefs starts ops words' coefs' starts' ops' : List ℕ) (r : Answered Counts) : Type 0 where
   pub is : LineAs o vs (add_of n s) c words coefs starts ops words' coefs' starts' ops' r
 
 -- ---- the lines from a place on
@@ -106,24 +97,23 @@ abbrev pub counts_of : List Line → Counts
 counts_of ls = record { terms = length (entries_in ls); polynomials = length (ends_from 0 ls); operations = length ls }
 
 -- Room for the lines of s from a place on: four bytes for each term and each line.
-pub record LinesRoom (weights : List ℕ) (from s words coefs starts ops : ℕ) : Type 0 where
-  pub small : Below 18 weights
+pub record LinesRoom (from s words coefs starts ops : ℕ) : Type 0 where
   pub within : from ≤ s
   pub terms-fit : s ≤ 4 * words + from
   pub same-long : coefs ≡ words
   pub starts_fit : s + 4 ≤ 4 * starts + from
   pub pairs-fit : s ≤ 2 * ops + from
 
-abbrev pub LinesAs : Order → (weights : List ℕ) → Option (List Line) → (words coefs starts ops words' coefs' starts' ops' : List ℕ) → Behind → Type 0
-LinesAs o vs none words coefs starts ops words' coefs' starts' ops' r = r ≡ Behind-as-Bad
+abbrev pub LinesAs : Order → (weights : List ℕ) → Option (List Line) → (words coefs starts ops words' coefs' starts' ops' : List ℕ) → Answered Counts → Type 0
+LinesAs o vs none words coefs starts ops words' coefs' starts' ops' r = r ≡ None
 LinesAs o vs (some ls) words coefs starts ops words' coefs' starts' ops' r =
-    (r ≡ Behind-as-Line (counts_of ls))
+    (r ≡ Some (counts_of ls))
     × (words' ≡ sets words 0 (map (entry_word o vs) (entries_in ls)))
     × (coefs' ≡ sets coefs 0 (map entry_coef (entries_in ls)))
     × (starts' ≡ sets starts 1 (ends_from 0 ls))
     × (ops' ≡ sets ops 0 (pairs_from 0 ls))
 
-pub record ReadLines (o : Order) (vs : List ℕ) (n from : ℕ) (s : List ℕ) (words coefs starts ops words' coefs' starts' ops' : List ℕ) (r : Behind) : Type 0 where
+pub record ReadLines (o : Order) (vs : List ℕ) (n from : ℕ) (s : List ℕ) (words coefs starts ops words' coefs' starts' ops' : List ℕ) (r : Answered Counts) : Type 0 where
   pub is : LinesAs o vs (lines_of n (parts 10 (drop from s))) words coefs starts ops words' coefs' starts' ops' r
 
 -- ---- a whole script
@@ -138,14 +128,14 @@ pub record ScriptRoom (words coefs starts ops : ℕ) : Type 0 where
 abbrev pub loaded_of : Script → Loaded
 loaded_of s = record { prime = s.prime; order = order_number s.order; vars = s.vars; weights = packed_weights s.weights; counts = counts_of s.lines }
 
-abbrev pub ScriptAs : Option Script → (words coefs starts ops words' coefs' starts' ops' : List ℕ) → Found → Type 0
-ScriptAs none words coefs starts ops words' coefs' starts' ops' r = r ≡ Found-as-Bad
+abbrev pub ScriptAs : Option Script → (words coefs starts ops words' coefs' starts' ops' : List ℕ) → Answered Loaded → Type 0
+ScriptAs none words coefs starts ops words' coefs' starts' ops' r = r ≡ None
 ScriptAs (some s) words coefs starts ops words' coefs' starts' ops' r =
-    (r ≡ Found-as-Script (loaded_of s))
+    (r ≡ Some (loaded_of s))
     × (words' ≡ sets words 0 (words_of s))
     × (coefs' ≡ sets coefs 0 (coefs_of s))
     × (starts' ≡ sets starts 0 (starts_of s))
     × (ops' ≡ sets ops 0 (pairs_of s))
 
-pub record ReadScript (s : List ℕ) (words coefs starts ops words' coefs' starts' ops' : List ℕ) (r : Found) : Type 0 where
+pub record ReadScript (s : List ℕ) (words coefs starts ops words' coefs' starts' ops' : List ℕ) (r : Answered Loaded) : Type 0 where
   pub is : ScriptAs (script_of s) words coefs starts ops words' coefs' starts' ops' r

@@ -5,10 +5,8 @@ ghost use Rattle.monomial.specs.Layout.{fields};
 ghost use Rattle.script.specs.Loading.{EntryRoom, ReadEntries, LineRoom, ReadLine, ReadAdd, counts_behind};
 ghost use Rattle.grammar.specs.Grammar.{lead_line};
 
-use grammar::entry::{Parsed, read_entry};
-use grammar::numbers::Counted;
-use monomial::order::Order;
-use text::bytes::{find, is_word, starts_with};
+use grammar::entry::{Shape, read_entry};
+use text::bytes::{is_word, part_end};
 
 // How many terms, polynomials and operations have been read.
 #[derive(Clone, Copy)]
@@ -18,48 +16,40 @@ pub struct Counts {
     pub operations: usize,
 }
 
-// The counts behind a line, or that it is not of the form.
-#[derive(Clone, Copy)]
-pub enum Behind {
-    Line(Counts),
-    Bad,
-}
-
-// Reads the terms of an addition, each behind a space, and puts them from place `at` on.
+// Reads the terms of an addition, each behind a space, and puts them from place `at` on. Answers the place
+// behind the last.
 fn read_entries(
     s: &[u8],
-    order: Order,
-    weights: u64,
-    n: u32,
+    shape: Shape,
     words: &mut [u64],
     coefs: &mut [u32],
     at: usize,
-) -> Counted
-    requires { EntryRoom (fields order weights) (length s.now) at (length words.old) (length coefs.old) }
-    ensures { ReadEntries order (fields order weights) n s.now at words.old coefs.old words.new coefs.new result }
+) -> Option<usize>
+    requires { EntryRoom (length s.now) at (length words.old) (length coefs.old) }
+    ensures { ReadEntries shape.order (fields shape.order shape.weights) shape.n s.now at words.old coefs.old words.new coefs.new result }
 {
     let mut to = at;
     let mut i = 0;
+    // Kept: the loop goes from space to space, since the room for a term is told by the bytes left behind i;
+    // a loop over the library's `split` has no such place.
     while i < s.len() {
-        if s[i] != 32 {
-            return Counted::Bad;
+        if s[i] != b' ' {
+            return None;
         }
         let from = i + 1;
-        let e = find(s, from, 32);
-        let field = &s[from..e];
-        let entry = read_entry(field, order, weights, n);
-        let Parsed::Term(word, coef) = entry else {
-            return Counted::Bad;
-        };
+        let e = part_end(s, from, b' ');
+        let (word, coef) = read_entry(&s[from..e], shape)?;
         words[to] = word;
         coefs[to] = coef;
         to += 1;
         i = e;
     }
-    Counted::All(to)
+    Some(to)
 }
 
 // Puts pair k of the operations.
+// Kept: the code of an operation is a number, since the run takes pairs of numbers, as the C interface has
+// them.
 fn put_pair(ops: &mut [usize], k: usize, code: usize, index: usize)
     requires { 2 * k + 2 ≤ length ops.old }
     ensures { ops.new ≡ sets ops.old (2 * k) (code ∷ index ∷ []) }
@@ -74,71 +64,58 @@ fn plain(c: Counts) -> Counts
     ensures { result ≡ counts_behind c lead_line }
 {
     Counts {
-        terms: c.terms,
-        polynomials: c.polynomials,
         operations: c.operations + 1,
+        ..c
     }
 }
 
 // Reads an addition, by what stands behind the word.
 fn read_add(
     s: &[u8],
-    order: Order,
-    weights: u64,
-    n: u32,
+    shape: Shape,
     words: &mut [u64],
     coefs: &mut [u32],
     starts: &mut [usize],
     ops: &mut [usize],
     c: Counts,
-) -> Behind
-    requires { LineRoom (fields order weights) (length s.now + 3) c (length words.old) (length coefs.old) (length starts.old) (length ops.old) }
-    ensures { ReadAdd order (fields order weights) n s.now c words.old coefs.old starts.old ops.old words.new coefs.new starts.new ops.new result }
+) -> Option<Counts>
+    requires { LineRoom (length s.now + 3) c (length words.old) (length coefs.old) (length starts.old) (length ops.old) }
+    ensures { ReadAdd shape.order (fields shape.order shape.weights) shape.n s.now c words.old coefs.old starts.old ops.old words.new coefs.new starts.new ops.new result }
 {
-    let at = c.terms;
+    let terms = read_entries(s, shape, words, coefs, c.terms)?;
     let k = c.polynomials;
-    let counted = read_entries(s, order, weights, n, words, coefs, at);
-    let Counted::All(terms) = counted else {
-        return Behind::Bad;
-    };
     starts[k + 1] = terms;
-    let operations = c.operations;
-    put_pair(ops, operations, 1, k);
-    let behind = Counts {
+    put_pair(ops, c.operations, 1, k);
+    Some(Counts {
         terms,
         polynomials: k + 1,
-        operations: operations + 1,
-    };
-    Behind::Line(behind)
+        operations: c.operations + 1,
+    })
 }
 
-// Reads a line.
+// Reads a line, and answers the counts behind it.
+// Kept: the four lent slices are parameters, since clauses on a struct of `&mut` fields would have to name
+// what each field holds before and after, which is no plainer.
 pub fn read_line(
     s: &[u8],
-    order: Order,
-    weights: u64,
-    n: u32,
+    shape: Shape,
     words: &mut [u64],
     coefs: &mut [u32],
     starts: &mut [usize],
     ops: &mut [usize],
     c: Counts,
-) -> Behind
-    requires { LineRoom (fields order weights) (length s.now) c (length words.old) (length coefs.old) (length starts.old) (length ops.old) }
-    ensures { ReadLine order (fields order weights) n s.now c words.old coefs.old starts.old ops.old words.new coefs.new starts.new ops.new result }
+) -> Option<Counts>
+    requires { LineRoom (length s.now) c (length words.old) (length coefs.old) (length starts.old) (length ops.old) }
+    ensures { ReadLine shape.order (fields shape.order shape.weights) shape.n s.now c words.old coefs.old starts.old ops.old words.new coefs.new starts.new ops.new result }
 {
-    let operations = c.operations;
     if is_word(s, b"lead") {
-        put_pair(ops, operations, 2, 0);
-        return Behind::Line(plain(c));
+        put_pair(ops, c.operations, 2, 0);
+        return Some(plain(c));
     }
     if is_word(s, b"sum") {
-        put_pair(ops, operations, 3, 0);
-        return Behind::Line(plain(c));
+        put_pair(ops, c.operations, 3, 0);
+        return Some(plain(c));
     }
-    if !starts_with(s, b"add") {
-        return Behind::Bad;
-    }
-    let terms = &s[3..];
-    read_add(terms, order, weights, n, words, coefs, starts, ops, c)
+    let terms = s.strip_prefix(b"add")?;
+    read_add(terms, shape, words, coefs, starts, ops, c)
 }

@@ -3,8 +3,8 @@ ghost use Rattle.std.specs.Prelude.{◌≤◌, ◌-◌, length};
 ghost use Rattle.monomial.specs.Layout.{fields};
 ghost use Rattle.script.specs.Loading.{LinesRoom, ReadLines};
 
-use crate::line::{Behind, Counts, read_line};
-use monomial::order::Order;
+use crate::line::{Counts, read_line};
+use grammar::entry::Shape;
 use text::bytes::find;
 
 // Reads the lines from a place on and puts what they say into words, coefficients, starts and
@@ -12,16 +12,14 @@ use text::bytes::find;
 pub fn read_lines(
     s: &[u8],
     from: usize,
-    order: Order,
-    weights: u64,
-    n: u32,
+    shape: Shape,
     words: &mut [u64],
     coefs: &mut [u32],
     starts: &mut [usize],
     ops: &mut [usize],
-) -> Behind
-    requires { LinesRoom (fields order weights) from (length s.now) (length words.old) (length coefs.old) (length starts.old) (length ops.old) }
-    ensures { ReadLines order (fields order weights) n from s.now words.old coefs.old starts.old ops.old words.new coefs.new starts.new ops.new result }
+) -> Option<Counts>
+    requires { LinesRoom from (length s.now) (length words.old) (length coefs.old) (length starts.old) (length ops.old) }
+    ensures { ReadLines shape.order (fields shape.order shape.weights) shape.n from s.now words.old coefs.old starts.old ops.old words.new coefs.new starts.new ops.new result }
 {
     let mut c = Counts {
         terms: 0,
@@ -29,18 +27,12 @@ pub fn read_lines(
         operations: 0,
     };
     let mut at = from;
+    // Kept: the loop goes from newline to newline, since the room for a line is told by the bytes left
+    // behind `at`; a loop over the library's `split` has no such place.
     while at < s.len() {
-        let e = find(s, at, 10);
-        if e == s.len() {
-            return Behind::Bad;
-        }
-        let line = &s[at..e];
-        let behind = read_line(line, order, weights, n, words, coefs, starts, ops, c);
-        let Behind::Line(next) = behind else {
-            return Behind::Bad;
-        };
-        c = next;
+        let e = find(s, at, b'\n')?;
+        c = read_line(&s[at..e], shape, words, coefs, starts, ops, c)?;
         at = e + 1;
     }
-    Behind::Line(c)
+    Some(c)
 }

@@ -2,15 +2,17 @@
 ghost use Rattle.std.specs.Prelude.{length};
 ghost use Rattle.script.specs.Loading.{ScriptRoom, ReadScript};
 
-use crate::line::{Behind, Counts};
+use crate::line::Counts;
 use crate::lines::read_lines;
-use grammar::header::{Head, read_header};
+use grammar::entry::Shape;
+use grammar::header::read_header;
 use grammar::weights::weights_of;
 use limits::SCRIPT_BYTES;
 use monomial::exponents::weight_word;
 use monomial::order::order_of;
 
 // The prime, the number of the order, the number of variables, the weights as one number, and the counts.
+// Kept: the order as its number, as in `Header`.
 #[derive(Clone, Copy)]
 pub struct Loaded {
     pub prime: u32,
@@ -20,12 +22,6 @@ pub struct Loaded {
     pub counts: Counts,
 }
 
-#[derive(Clone, Copy)]
-pub enum Found {
-    Script(Loaded),
-    Bad,
-}
-
 // Reads a script of any length, and puts what it says into words, coefficients, starts and operations.
 pub fn read_script(
     s: &[u8],
@@ -33,42 +29,28 @@ pub fn read_script(
     coefs: &mut [u32],
     starts: &mut [usize],
     ops: &mut [usize],
-) -> Found
+) -> Option<Loaded>
     requires { ScriptRoom (length words.old) (length coefs.old) (length starts.old) (length ops.old) }
     ensures { ReadScript s.now words.old coefs.old starts.old ops.old words.new coefs.new starts.new ops.new result }
 {
     if SCRIPT_BYTES < s.len() {
-        return Found::Bad;
+        return None;
     }
-    let head = read_header(s);
-    let Head::Is(h) = head else {
-        return Found::Bad;
-    };
+    let h = read_header(s)?;
     starts[0] = 0;
-    let from = h.from;
     let order = order_of(h.order);
     let weights = weights_of(h.weights);
-    let weights_word = weight_word(order, &weights);
-    let behind = read_lines(
-        s,
-        from,
+    let shape = Shape {
         order,
-        weights_word,
-        h.vars,
-        words,
-        coefs,
-        starts,
-        ops,
-    );
-    let Behind::Line(counts) = behind else {
-        return Found::Bad;
+        weights: weight_word(order, &weights),
+        n: h.vars,
     };
-    let loaded = Loaded {
+    let counts = read_lines(s, h.from, shape, words, coefs, starts, ops)?;
+    Some(Loaded {
         prime: h.prime,
         order: h.order,
         vars: h.vars,
         weights: h.weights,
         counts,
-    };
-    Found::Script(loaded)
+    })
 }

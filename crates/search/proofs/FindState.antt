@@ -19,12 +19,11 @@ use Rattle.search.specs.Candidates.{candidate_of}
 use Rattle.search.specs.Searching.{Seek, SeekDone, pass_from, FirstHeld, Removal, FindDone}
 use Rattle.search.proofs.FindLaws.{pass-first, pass-none, put-append, Fronted, fronted, seek-few, Finding, finding-start, pass-long, last-answer, last-buckets, last-count, whole-none, whole-lead, lead-in, fewer, lead-canon, finding-on}
 
-pub record Finds (cmp : ℕ → ℕ → Ordering) (p : ℕ) (bs : List (List (Term ℕ))) (sw : List ℕ) (b : Buckets) (n : ℕ) (sc : List ℕ) (i : ℕ) : Type 0 where
+pub record Finds (cmp : ℕ → ℕ → Ordering) (p : ℕ) (bs : List (List (Term ℕ))) (sw : List ℕ) (b : Buckets) (n : ℕ) (sc : List ℕ) : Type 0 where
   pub modulus : Modulus p
   pub words_long : length sw ≡ all_places
   pub coefs-long : length sc ≡ all_places
   pub laid : Laid b
-  pub first : FirstHeld b i
   pub state : Finding cmp p (search cmp p bs) (buckets_in b sw sc) n
 
 -- good buckets are canonical
@@ -32,13 +31,12 @@ pub stands-canon : {cmp : ℕ → ℕ → Ordering} {p : ℕ} {b : Buckets} {sw 
 stands-canon {cmp} {p} {b} {sw} {sc} s = good-canon cmp p 4 (buckets_in b sw sc) s.good
 
 -- ---- the start
-pub finds-start : {cmp : ℕ → ℕ → Ordering} {p : ℕ} {b : Buckets} {sw sc : List ℕ} {i : ℕ} → Stands cmp p b sw sc → FirstHeld b i → Finds cmp p (buckets_in b sw sc) sw b 0 sc i
-finds-start {cmp} {p} {b} {sw} {sc} s f = record {
+pub finds-start : {cmp : ℕ → ℕ → Ordering} {p : ℕ} {b : Buckets} {sw sc : List ℕ} → Stands cmp p b sw sc → Finds cmp p (buckets_in b sw sc) sw b 0 sc
+finds-start {cmp} {p} {b} {sw} {sc} s = record {
   modulus = s.modulus;
   words_long = s.words_long;
   coefs-long = s.coefs-long;
   laid = s.laid;
-  first = f;
   state =
       finding-start cmp p (buckets_in b sw sc) (stands-canon s)
       (let e = held-short (bucket_at b sw sc) 6 0 (λ j u w. bucket-short b s.laid sw sc s.words_long s.coefs-long j (omega arith)) in omega (arith, e, six));
@@ -54,12 +52,12 @@ stands_by {cmp} {p} {b} {sw} {sc} m hw hc l c = record {
   good = subst (λ (q : ℕ). Good cmp p q (buckets_in b sw sc)) cap-zero (good-from cmp p (bucket_at b sw sc) 6 0 c (λ j u w. bucket-short b l sw sc hw hc j (omega arith)));
 }
 
-module _ {cmp : ℕ → ℕ → Ordering} {p : ℕ} {bs : List (List (Term ℕ))} {sw : List ℕ} {b : Buckets} {n : ℕ} {sc : List ℕ} {i : ℕ} (v : Finds cmp p bs sw b n sc i) (O : TotalOrder ℕ cmp) where
+module _ {cmp : ℕ → ℕ → Ordering} {p : ℕ} {bs : List (List (Term ℕ))} {sw : List ℕ} {b : Buckets} {n : ℕ} {sc : List ℕ} {i : ℕ} (v : Finds cmp p bs sw b n sc) (first : FirstHeld b i) (O : TotalOrder ℕ cmp) where
   pos : 0 < p
   pos = omega (arith, v.modulus.two)
 
   empty-below : (j : ℕ) → j < i → bucket_at b sw sc j ≡ []
-  empty-below j h = bucket-none b j v.laid (omega (arith, v.first.most)) sw sc (v.first.below j h)
+  empty-below j h = bucket-none b j v.laid (omega (arith, first.most)) sw sc (first.below j h)
 
   -- ---- the end: all buckets are empty
   module _ (h : 6 ≤ i) where
@@ -92,7 +90,7 @@ module _ {cmp : ℕ → ℕ → Ordering} {p : ℕ} {bs : List (List (Term ℕ))
       laid = v.laid;
       canonical = λ j l. canon-at cmp p (bucket_at b sw sc) 6 0 v.state.canon j (omega arith) (omega arith);
       within = h;
-      some = v.first.held h;
+      some = first.held h;
       word-is = ek;
       coef-is = ec;
       few = omega (arith, v.state.few);
@@ -109,7 +107,7 @@ module _ {cmp : ℕ → ℕ → Ordering} {p : ℕ} {bs : List (List (Term ℕ))
       is-pass =
           let e : i + suc (5 - i) ≡ 6 = omega arith in
           let z : 0 + i ≡ i = omega arith in
-          let own = bucket-lead b i v.laid h (v.first.held h) sw sc v.words_long v.coefs-long ∙ ap₂ (λ (w x : ℕ). term w x ∷ bucket_at (dropped b i) sw sc i) (sym ek) (sym ec) in
+          let own = bucket-lead b i v.laid h (first.held h) sw sc v.words_long v.coefs-long ∙ ap₂ (λ (w x : ℕ). term w x ∷ bucket_at (dropped b i) sw sc i) (sym ek) (sym ec) in
           let r = pass-first cmp p (bucket_at b sw sc) i 0 (5 - i) (λ j l. ap (bucket_at b sw sc) (zero-add j) ∙ empty-below j l) (term begun.word begun.coef) (bucket_at (dropped b i) sw sc i) (ap (bucket_at b sw sc) z ∙ own) in
           rw (z, e) at r
 
@@ -168,13 +166,12 @@ module _ {cmp : ℕ → ℕ → Ordering} {p : ℕ} {bs : List (List (Term ℕ))
         pub fewer-held : held (buckets_in b'' sw sc') < held (buckets_in b sw sc)
         fewer-held = omega (arith, ap (λ (x : Buckets). held (buckets_in x sw sc')) e, ap held removed, fewer O pos v.state P is-pass (i + S.at) S.lead refl)
 
-        pub find-again : c.coef ≡ 0 → {k : ℕ} → FirstHeld b'' k → Finds cmp p bs sw b'' c.count sc' k
-        find-again z f = record {
+        pub find-again : c.coef ≡ 0 → Finds cmp p bs sw b'' c.count sc'
+        find-again z = record {
           modulus = v.modulus;
           words_long = v.words_long;
           coefs-long = d.coefs-long;
           laid = subst Laid (sym e) (dropped-laid b' c.bucket d.laid bucket-six removal.some);
-          first = f;
           state =
               subst (λ (l : List (List (Term ℕ))). Finding cmp p (search cmp p bs) l c.count) (sym (ap (λ (x : Buckets). buckets_in x sw sc') e ∙ removed))
               (subst (Finding cmp p (search cmp p bs) P.buckets) (sym d.count-is) (finding-on O pos v.state P is-pass (i + S.at) S.lead refl (coef-is ∙ z) few));

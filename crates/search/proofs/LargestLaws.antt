@@ -64,7 +64,7 @@ module _ {p : ℕ} {b : Buckets} {ws cs : List ℕ} (st : Stands compare p b ws 
   first_of j = record { bucket = j; word = get_or ws (head_at b j) 0; coef = get_or cs (head_at b j) 0; count = 0 }
 
   pub asks : {j : ℕ} → FirstHeld b j → j < 6 → Seek compare p b (first_of j) ws cs
-  asks f h = seek-asks (finds-start st f) numbers-order h refl refl
+  asks f h = seek-asks (finds-start st) f numbers-order h refl refl
 
   abbrev pass_of : ℕ → Pass ℕ
   pass_of j = pass_from compare p b (first_of j) ws cs
@@ -123,7 +123,7 @@ module _ {p : ℕ} {b : Buckets} {ws cs : List ℕ} (st : Stands compare p b ws 
 
     -- after the last bucket
     ends : 6 ≤ i → FindDone compare p (buckets_in b ws cs) b ws cs (as_candidate t (get_or cs (head_at b t.bucket) 0))
-    ends h = find-lead (finds-start st u.is-first) numbers-order u.within refl refl (seeks-end (asks u.is-first u.within) u.seeks h) (positive t.bucket (own-six u.seeks) (own-some u.seeks))
+    ends h = find-lead (finds-start st) u.is-first numbers-order u.within refl refl (seeks-end (asks u.is-first u.within) u.seeks h) (positive t.bucket (own-six u.seeks) (own-some u.seeks))
 
   abbrev pub Halfway : Largest → ℕ → Type 0
   Halfway t i = ((t ≡ unseen) × ((j : ℕ) → j < i → len_at b j ≡ 0)) ⊎ Under t i

@@ -77,16 +77,6 @@ module _ {cmp : ℕ → ℕ → Ordering} {p : ℕ} {G : List (List (Term ℕ))}
   pub own-some : 0 < len_at b c.bucket
   own-some = some_of b c.bucket v.laid own-six sw sc v.words_long v.coefs-long (term c.word c.coef) v.state.rest v.state.own
 
-  pub own-head : head_at b c.bucket < all_places
-  own-head = head_in b c.bucket v.laid own-six own-some
-
-  -- the same of the candidate that a like lead has joined
-  pub joined-six : {k : ℕ} → k ≡ c.bucket → k < 6
-  joined-six e = omega (arith, own-six)
-
-  pub joined-some : {k : ℕ} → k ≡ c.bucket → 0 < len_at b k
-  joined-some e = subst (λ (x : ℕ). 0 < len_at b x) (sym e) own-some
-
   module _ (h : i < 6) where
     not_own : i ≡ c.bucket → ⊥
     not_own e = let z : ⊥ = omega (arith, v.state.below) in z

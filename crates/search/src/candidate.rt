@@ -9,6 +9,8 @@ use residue::arithmetic::add;
 
 // The largest lead so far: its bucket (6 for none), the comparisons made, its monomial, as a key until
 // the search is done, and its coefficient with those of the like leads.
+// Kept: bucket 6 for none, not an Option around it all: the comparisons are counted where no lead is found
+// too, and the exported probe_buckets_lead gives 6.
 #[derive(Clone, Copy)]
 pub struct Candidate {
     pub bucket: usize,

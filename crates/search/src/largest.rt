@@ -6,12 +6,13 @@ ghost use Rattle.space.specs.Space.{Laid};
 ghost use Rattle.search.specs.Largest.{met, largest_of, as_candidate, Looked};
 
 use crate::candidate::Candidate;
-use merge_common::merging::{choose_word, larger};
+use merge_common::merging::{choose, larger};
 use space::leads::lead_key;
 use space::state::len_of;
 
 // The largest lead so far: its bucket (6 for none) and its key; how many buckets that are not empty were
 // looked at, and how many leads were like the largest one before them.
+// Kept: bucket 6 for none, as in the Candidate that it becomes.
 #[derive(Clone, Copy)]
 pub struct Largest {
     pub bucket: usize,
@@ -29,7 +30,7 @@ impl Largest {
         let l = larger(key, self.key);
         Largest {
             bucket: if l == 1 { bucket } else { self.bucket },
-            key: choose_word(l, key, self.key),
+            key: choose(l, key, self.key),
             held: self.held + 1,
             like: self.like + (key == self.key) as usize,
         }
@@ -60,12 +61,10 @@ pub fn largest_lead(b: &[usize], sw: &[u64], ww: &[u64]) -> Largest
         held: 0,
         like: 0,
     };
-    let mut i = 0;
-    while i < 6 {
+    for i in 0..6 {
         if len_of(b, i) != 0 {
             t = t.meet(i, lead_key(b, ww, sw, i));
         }
-        i += 1;
     }
     t
 }

@@ -1,5 +1,5 @@
 // The search for the lead.
-ghost use Rattle.std.specs.Prelude.{◌≡◌, ◌++◌, length};
+ghost use Rattle.std.specs.Prelude.{◌≡◌, ◌++◌, ◌<◌, length, MatchOption};
 ghost use Prim.Native.Nat.{compare};
 ghost use Rattle.space.specs.Space.{buckets_in, Stands, dropped, spaces, Standing, Slices};
 ghost use Rattle.search.specs.Searching.{Removal, Seek, SeekDone, FirstHeld, FindDone, Found, Taken};
@@ -68,8 +68,7 @@ fn find_key(
     ensures { FindDone compare p (buckets_in b.old (ww.now ++ sw.now) (wc.old ++ sc.old)) b.new (ww.now ++ sw.now) (wc.new ++ sc.new) result }
 {
     let mut n: u64 = 0;
-    let mut i = first_held(b);
-    while i < 6 {
+    while let Some(i) = first_held(b) {
         let c = Candidate {
             bucket: i,
             count: n,
@@ -82,7 +81,6 @@ fn find_key(
         }
         remove_lead(b, d.bucket);
         n = d.count;
-        i = first_held(b);
     }
     Candidate::none(n)
 }
@@ -102,43 +100,41 @@ fn seek(
     ensures { SeekDone compare p b.old candidate (ww.now ++ sw.now) (wc.old ++ sc.old) (wc.new ++ sc.new) b.new result }
 {
     let mut c = candidate;
-    let mut i = c.bucket + 1;
-    while i < 6 {
+    for i in c.bucket + 1..6 {
         let len = len_of(b, i);
         if len == 0 {
-            i += 1;
+            continue;
+        }
+        let key = lead_key(b, ww, sw, i);
+        if key == c.word {
+            c = c.join(lead_coef(b, wc, sc, i), p);
+            put_lead_coef(b, wc, sc, c.bucket, c.coef);
+            remove_lead(b, i);
+        } else if larger(key, c.word) == 1 {
+            let own = c.bucket;
+            let gone = 1 - not_zero(c.coef);
+            let head = head_of(b, own);
+            let left = len_of(b, own);
+            c = c.replace(i, key, lead_coef(b, wc, sc, i));
+            place(b, own, head + gone, left - gone);
         } else {
-            let key = lead_key(b, ww, sw, i);
-            if key == c.word {
-                c = c.join(lead_coef(b, wc, sc, i), p);
-                put_lead_coef(b, wc, sc, c.bucket, c.coef);
-                remove_lead(b, i);
-            } else if larger(key, c.word) == 1 {
-                let own = c.bucket;
-                let gone = 1 - not_zero(c.coef);
-                let head = head_of(b, own);
-                let left = len_of(b, own);
-                c = c.replace(i, key, lead_coef(b, wc, sc, i));
-                place(b, own, head + gone, left - gone);
-            } else {
-                c = c.pass_by();
-            }
-            i += 1;
+            c = c.pass_by();
         }
     }
     c
 }
 
-// The lowest bucket that is not empty, or 6.
-fn first_held(b: &[usize]) -> usize
+// The lowest bucket that is not empty.
+fn first_held(b: &[usize]) -> Option<usize>
     requires { length b.now ≡ 18 }
-    ensures { FirstHeld b.now result }
+    ensures { MatchOption result (FirstHeld b.now 6) (λ i. FirstHeld b.now i × (i < 6)) }
 {
-    let mut i = 0;
-    while i < 6 && len_of(b, i) == 0 {
-        i += 1;
+    for i in 0..6 {
+        if len_of(b, i) != 0 {
+            return Some(i);
+        }
     }
-    i
+    None
 }
 
 // Removes the lead of a bucket that is not empty.

@@ -1,5 +1,5 @@
 -- A bucket's lead, read and put in the slice that it lies in, is read and put in all places. Assumes nothing.
-use Prim.Native.Nat.{ℕ, ◌+◌, ◌-◌, ◌<◌, ◌≤◌}
+use Prim.Native.Nat.{ℕ, ◌-◌, ◌<◌, ◌≤◌}
 use mathlib.Core.Path.{◌≡◌, sym, ap, ◌∙◌}
 use mathlib.Core.List.{List, ◌++◌}
 use native.Mathlib.Omega.{arith}
@@ -28,8 +28,8 @@ module _ (b : Buckets) (l r : List ℕ) (i : ℕ) (asked : Asked b l r i) {h : �
     pub past_work : work_places ≤ h
     past_work = omega (arith, row-past b asked.0 i asked.1 k)
 
-    pub in-space : h < work_places + bucket_places
-    in-space = omega (arith, head_in b i asked.0 asked.1 asked.2)
+    pub in-space : h - work_places < bucket_places
+    in-space = omega (arith, past_work, head_in b i asked.0 asked.1 asked.2)
 
     pub read-space : get_or r (h - work_places) 0 ≡ get_or (l ++ r) (head_at b i) 0
     read-space = sym (get_d_past l r asked.3 h past_work) ∙ ap (λ (x : ℕ). get_or (l ++ r) x 0) eh

@@ -2,6 +2,8 @@ pub mod Starts
 pub mod Joined
 pub mod SpaceLaws
 pub mod LeadLaws
+pub mod PullLaws
 pub mod SettleLaws
+pub mod RowLaws
 pub mod LaidLaws
 pub mod InWords

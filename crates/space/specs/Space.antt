@@ -5,6 +5,8 @@ use Rattle.limits.specs.Limits.{bucket_places, work_places}
 use Rattle.residue.specs.Modular.{Modulus}
 use Rattle.monomial.specs.declared.order.Order.{Order}
 use Rattle.monomial.specs.Words.{from_key}
+use Rattle.wide_monomial.specs.declared.width.Width.{Width}
+use Rattle.place.specs.Numbers.{from_key_by}
 use Rattle.polynomial.specs.Terms.{Term, terms, words, coefs, renamed}
 use Rattle.merge_common.specs.Lent.{part, Apart}
 use Rattle.geobucket.specs.Buckets.{Good}
@@ -106,6 +108,10 @@ in_words o ts = renamed (from_key o) ts
 -- the six buckets as polynomials of words: in the spaces lie keys, which are compared as numbers
 abbrev pub words_in : Order → Spaces → List (List (Term ℕ))
 words_in o x = map (in_words o) (buckets_in x.places x.keys x.coefs)
+
+-- the same by width, where monomials have one word or two
+abbrev pub words_by : Width → Order → Spaces → List (List (Term ℕ))
+words_by w o x = map (renamed (from_key_by w o)) (buckets_in x.places x.keys x.coefs)
 
 -- good buckets of keys lie in the spaces
 abbrev pub Standing : (p : ℕ) → Spaces → Type 0

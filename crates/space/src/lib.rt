@@ -1,4 +1,5 @@
-// The buckets in the lent spaces: where each of them lies, and how the spaces are left.
+// The buckets in the lent spaces: where each of them lies, and how the spaces are left. Keys have one
+// word or two, as a type `K: Key` says.
 #![tactic(auto)]
 
 pub mod leads; // a bucket's lead, in whichever space it lies

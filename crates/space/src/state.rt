@@ -2,6 +2,8 @@
 // the place of each bucket's lead, the next six each bucket's terms, and the next five where the free
 // area of each of buckets 0 to 4 begins. Places are counted through the work space and on through the
 // bucket space. Taking a lead moves the head: nothing is shifted.
+// Kept: a slice, not an array of 18. C lends a slice; tried, the proof didn't close, as its conversion to
+// an array says nothing of what it holds at return, and a copy each way is 36 moves for each call.
 ghost use Rattle.std.specs.Prelude.{◌≡◌, ◌<◌, length};
 ghost use Rattle.space.specs.Space.{Laid, head_at, held_in, len_at, side_at, moved, turned, no_buckets};
 
@@ -18,11 +20,7 @@ pub fn clear(b: &mut [usize])
     requires { length b.old ≡ 18 }
     ensures { b.new ≡ no_buckets }
 {
-    let mut i = 0;
-    while i < 18 {
-        b[i] = EMPTY[i];
-        i += 1;
-    }
+    b.copy_from_slice(&EMPTY);
 }
 
 // The place of bucket i's lead.

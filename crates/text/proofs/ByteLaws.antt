@@ -1,14 +1,16 @@
 -- Laws of words at the start of a text and of separators. Assumes nothing.
 use Prim.Native.Nat.{ℕ, suc, ◌+◌, ◌≤◌, ◌<◌}
-use native.Mathlib.Numerals.{add-one}
 use native.Mathlib.Omega.{arith}
 use mathlib.Core.Path.{◌≡◌, refl, sym, ap, ◌∙◌}
-use mathlib.Core.Bool.{Bool, true, false, ◌&&◌}
+use mathlib.Core.Bool.{Bool, cond, true, false, ◌&&◌}
 use mathlib.Core.List.{List, [], ◌∷◌, ◌++◌, append-nil}
-use borrow.Author.Tests.{eq-eqb, ne_eqb, eqb-true, leb-true}
-use lib.Dec.{eqb, leb}
-use lib.ListN.{length, take, drop, get_or, drop_of_length-le}
-use lib.Seq.{drop-cons}
+use borrow.Author.Tests.{eq-eqb, ne_eqb, eqb-true, eqb-false, leb-true, ltb-true, ltb-false}
+use lib.Dec.{eqb, leb, eqb-suc-zero, eqb-zero-suc, eqb-suc-suc}
+use lib.Pointwise.{pointwise}
+use Rattle.std.proofs.Common.{nat_lt, Some, None}
+use Rattle.std.specs.List.{position_or_len, position, slice_split, onto_first}
+use Rattle.std.proofs.lemmas.List.Recursion.{is_position_or_len}
+use lib.ListN.{length, get_or, take, drop, drop_of_length-le}
 use Rattle.text.specs.Bytes.{begins, same, index_of, onto, parts, joined}
 
 pub and-false : (b : Bool) → (b && false) ≡ false
@@ -22,25 +24,37 @@ both false b e = absurd (let z : ◌≡◌ {A = ℕ} 0 1 = cc in let y : ⊥ = o
 pub cons : {A : Type 0} {a b : A} {l m : List A} → a ≡ b → l ≡ m → a ∷ l ≡ b ∷ m
 cons p q = cc
 
--- ---- a word at the start
-pub shorter : (w s : List ℕ) → length s < length w → begins w s ≡ false
+eqb-flip : (a b : ℕ) → eqb a b ≡ eqb b a
+eqb-flip a b = go (eqb b a) refl
+  where
+    go : (t : Bool) → eqb b a ≡ t → eqb a b ≡ t
+    go true e = eq-eqb _ _ (sym (eqb-true _ _ e))
+    go false e = ne_eqb _ _ (λ f. eqb-false _ _ e (sym f))
+
+-- ---- what the code's own tests of texts say
+pub begins-code : (w s : List ℕ) → pointwise eqb w (take (length w) s) ≡ begins w s
 unfolding begins
-shorter [] s h = absurd (let z : ⊥ = omega arith in z)
-shorter (x ∷ w) [] h = refl
-shorter (x ∷ w) (y ∷ s) h = simp (shorter w s (omega arith), and-false)
+begins-code [] s = refl
+begins-code (x ∷ w) [] = refl
+begins-code (x ∷ w) (y ∷ s) = rw (eqb-flip x y, begins-code w s)
 
-module _ (w s : List ℕ) (i : ℕ) (l : i < length w) (m : i < length s) where
-  pub same_byte : get_or s i 0 ≡ get_or w i 0 → begins (drop i w) (drop i s) ≡ begins (drop (i + 1) w) (drop (i + 1) s)
-  unfolding begins
-  same_byte e = rw (add-one, drop-cons w i 0 l, drop-cons s i 0 m, begins, eq-eqb _ _ e)
+swap-and : (a b c : Bool) → (a && (b && c)) ≡ (b && (a && c))
+swap-and true b c = refl
+swap-and false true c = refl
+swap-and false false c = refl
 
-  pub other_byte : (get_or s i 0 ≡ get_or w i 0 → ⊥) → begins (drop i w) (drop i s) ≡ false
-  unfolding begins
-  other_byte e = rw (drop-cons w i 0 l, drop-cons s i 0 m, begins, ne_eqb _ _ e)
-
-pub all_read : (w s : List ℕ) (i : ℕ) → length w ≤ i → begins (drop i w) (drop i s) ≡ true
+pub prefix-code : (w s : List ℕ) → pointwise eqb (take (length w) s) w ≡ begins w s
 unfolding begins
-all_read w s i h = rw (drop_of_length-le w h)
+prefix-code [] s = refl
+prefix-code (x ∷ w) [] = refl
+prefix-code (x ∷ w) (y ∷ s) = rw (prefix-code w s)
+
+pub same-code : (w s : List ℕ) → pointwise eqb s w ≡ same w s
+unfolding same begins
+same-code [] [] = refl
+same-code [] (y ∷ s) = rw eqb-suc-zero
+same-code (x ∷ w) [] = rw eqb-zero-suc
+same-code (x ∷ w) (y ∷ s) = rw (same-code w s, eqb-suc-suc (length s) (length w)) (swap-and (eqb y x) (eqb (length s) (length w)) (begins w s))
 
 -- ---- the place of a separator
 pub index-most : (b : ℕ) (s : List ℕ) → index_of b s ≤ length s
@@ -52,18 +66,31 @@ index-most b (x ∷ s) = go (eqb x b) (index-most b s)
     go true h = omega arith
     go false h = omega arith
 
-module _ (b : ℕ) (s : List ℕ) (i : ℕ) (l : i < length s) where
-  pub index-here : get_or s i 0 ≡ b → index_of b (drop i s) ≡ 0
-  unfolding index_of
-  index-here e = rw (drop-cons s i 0 l, index_of, eq-eqb _ _ e)
-
-  pub index-later : (get_or s i 0 ≡ b → ⊥) → i + index_of b (drop i s) ≡ i + 1 + index_of b (drop (i + 1) s)
-  unfolding index_of
-  index-later e = rw (add-one i, drop-cons s i 0 l, index_of, ne_eqb _ _ e) (let z : i + suc (index_of b (drop (suc i) s)) ≡ suc i + index_of b (drop (suc i) s) = omega arith in z)
-
-pub index-end : (b : ℕ) (s : List ℕ) (i : ℕ) → length s ≤ i → index_of b (drop i s) ≡ 0
+pub index-code : (b : ℕ) (s : List ℕ) → index_of b s ≡ position_or_len (λ x. eqb x b) s
 unfolding index_of
-index-end b s i h = rw (drop_of_length-le s h)
+index-code b = is_position_or_len (index_of b) (λ x. eqb x b) refl step
+  where
+    step : (x : ℕ) (xs : List ℕ) → index_of b (x ∷ xs) ≡ cond (eqb x b) 0 (1 + index_of b xs)
+    step x xs = go (eqb x b)
+      where
+        go : (t : Bool) → elim t [ true ↦ 0 | false ↦ suc (index_of b xs) ] ≡ cond t 0 (1 + index_of b xs)
+        go true = refl
+        go false = omega arith
+
+-- the place that `position` answers
+pub index-found : (b : ℕ) (s : List ℕ) (i : ℕ) → Some i ≡ position (λ x. eqb x b) s → (i ≡ index_of b s) × (i < length s)
+index-found b s i e = go (nat_lt (position_or_len (λ x. eqb x b) s) (length s)) refl e
+  where
+    go : (t : Bool) → nat_lt (position_or_len (λ x. eqb x b) s) (length s) ≡ t → Some i ≡ cond t (Some (position_or_len (λ x. eqb x b) s)) None → (i ≡ index_of b s) × (i < length s)
+    go true l f = let k : i ≡ position_or_len (λ x. eqb x b) s = cc in (k ∙ sym (index-code b s), let m = ltb-true _ _ l in omega arith)
+    go false l f = absurd (let z : ◌≡◌ {A = ℕ} 0 1 = cc in let y : ⊥ = omega arith in y)
+
+pub index-none : (b : ℕ) (s : List ℕ) → None ≡ position (λ x. eqb x b) s → index_of b s ≡ length s
+index-none b s e = go (nat_lt (position_or_len (λ x. eqb x b) s) (length s)) refl e
+  where
+    go : (t : Bool) → nat_lt (position_or_len (λ x. eqb x b) s) (length s) ≡ t → None ≡ cond t (Some (position_or_len (λ x. eqb x b) s)) None → index_of b s ≡ length s
+    go true l f = absurd (let z : ◌≡◌ {A = ℕ} 0 1 = cc in let y : ⊥ = omega arith in y)
+    go false l f = let m = ltb-false _ _ l in let k = index-most b s in let j = index-code b s in omega arith
 
 -- what a word at the start tells
 pub begins-is : (w s : List ℕ) → begins w s ≡ true → s ≡ w ++ drop (length w) s
@@ -128,6 +155,30 @@ parts-some b (x ∷ s) = go (eqb x b) (parts b s) (parts-some b s)
     go : (t : Bool) (l : List (List ℕ)) → (p : List ℕ) × (ps : List (List ℕ)) × (l ≡ p ∷ ps) → (p : List ℕ) × (ps : List (List ℕ)) × (elim t [ true ↦ [] ∷ l | false ↦ onto x l ] ≡ p ∷ ps)
     go true l m = ([], l, refl)
     go false l m = (x ∷ m.0, m.1, ap (onto x) m.2)
+
+-- the same parts as the library's `split` gives
+pub parts-code : (b : ℕ) (s : List ℕ) → parts b s ≡ slice_split (λ x. eqb x b) s
+unfolding parts
+parts-code b [] = refl
+parts-code b (x ∷ s) = let m = parts-some b s in go (eqb x b) (parts b s) m.0 m.1 m.2 (parts-code b s)
+  where
+    go : (t : Bool) (l : List (List ℕ)) (p : List ℕ) (ps : List (List ℕ)) → l ≡ p ∷ ps → l ≡ slice_split (λ y. eqb y b) s → elim t [ true ↦ [] ∷ l | false ↦ onto x l ] ≡ cond t ([] ∷ slice_split (λ y. eqb y b) s) (onto_first x (slice_split (λ y. eqb y b) s))
+    go true l p ps m i = ap (λ (k : List (List ℕ)). [] ∷ k) i
+    go false l p ps m i = rw (← i, m) refl
+
+-- a part that the library's `split` comes to at a place
+pub part_at : (b : ℕ) (s : List ℕ) (n : ℕ) {m : ℕ} {part : List ℕ} → n ≡ m → (m < length (slice_split (λ x. eqb x b) s)) × (part ≡ get_or (slice_split (λ x. eqb x b) s) m part) → (n < length (parts b s)) × (part ≡ get_or (parts b s) n part)
+part_at b s n {m} {part} e h = rw (parts-code b s, e) h
+
+pub parts-most : (b : ℕ) (s : List ℕ) → length (parts b s) ≤ length s + 1
+unfolding parts
+parts-most b [] = omega arith
+parts-most b (x ∷ s) = go (eqb x b) (parts b s) (parts-most b s)
+  where
+    go : (t : Bool) (l : List (List ℕ)) → length l ≤ length s + 1 → length {A = List ℕ} (elim t [ true ↦ [] ∷ l | false ↦ onto x l ]) ≤ suc (length s) + 1
+    go true l h = omega arith
+    go false [] h = omega arith
+    go false (p ∷ l) h = omega arith
 
 onto-joined : (b x : ℕ) (p : List ℕ) (ps : List (List ℕ)) → joined b ((x ∷ p) ∷ ps) ≡ x ∷ joined b (p ∷ ps)
 unfolding joined

@@ -3,18 +3,17 @@ use Prim.Native.Nat.{ℕ, zero, suc, ◌+◌, ◌-◌, ◌*◌, ◌/◌, ◌%◌
 use native.Mathlib.Numerals.{add-one}
 use native.Mathlib.Omega.{arith}
 use mathlib.Core.Path.{◌≡◌, refl, sym, ap, ◌∙◌}
-use mathlib.Core.Bool.{Bool, true, false, ◌&&◌, not}
+use mathlib.Core.Bool.{Bool, true, false, ◌&&◌}
 use mathlib.Core.List.{List, [], ◌∷◌, ◌++◌, append-nil, append_assoc}
 use native.Mathlib.Nat.{add-zero, div-lt_self, div-eq_of_lt, mul-add-div_right, div-add-mod', mod-lt}
 use mathlib.Core.Option.{Option, none, some}
-use borrow.Author.Tests.{lt-ltb, le-ltb, le-leb, lt-leb, ltb-true, ltb-false, leb-true, not-true, not-false}
+use Rattle.std.specs.Prelude.{Some, None, SomeIff, Option as Answered}
+use borrow.Author.Tests.{lt-ltb, le-ltb, le-leb, lt-leb, ltb-true, ltb-false, leb-true}
 use lib.Dec.{leb, ltb}
 use lib.ListN.{length, drop, get_or, drop_of_length-le, length-append}
 use lib.Seq.{drop-cons}
 use Rattle.text.proofs.ByteLaws.{both, Within, within-append}
 use Rattle.text.specs.Numbers.{decimal_in, decimal, and_then, only_if, is_digit, with_digit, with_digits, number_of, found}
-use Rattle.text.specs.declared.number.Number.{Number}
-use Rattle.text.specs.declared.number.Number.TheVariants.{Value, Bad}
 
 -- ---- digits
 pub digit-range : (b : ℕ) → is_digit b ≡ true → (48 ≤ b) × (b < 58)
@@ -23,19 +22,28 @@ digit-range b e = let h = both (leb 48 b) (ltb b 58) e in (leb-true _ _ h.0, ltb
 pub range-digit : (b : ℕ) → 48 ≤ b → b < 58 → is_digit b ≡ true
 range-digit b h k = simp (le-leb _ _ h, lt-ltb _ _ k)
 
--- ---- one more digit, xs the code tries it
+-- ---- one more digit, as the code tries it
 module _ (v b : ℕ) where
   pub after-zero : v ≡ 0 → with_digit v b ≡ none
   unfolding with_digit
   after-zero e = simp (le-ltb 0 v (omega arith))
 
-  pub no_digit : (v ≡ 0 → ⊥) → is_digit b ≡ false → with_digit v b ≡ none
+  pub no_digit : is_digit b ≡ false → with_digit v b ≡ none
   unfolding with_digit
-  no_digit n e = simp (lt-ltb 0 v (omega arith), e)
+  no_digit e = go (ltb 0 v)
+    where
+      go : (t : Bool) → only_if (t && (is_digit b && leb (v * 10 + (b - 48)) 4294967295)) (v * 10 + (b - 48)) ≡ none
+      go true = rw e
+      go false = refl
 
-  pub too_large : (v ≡ 0 → ⊥) → is_digit b ≡ true → 4294967295 < v * 10 + (b - 48) → with_digit v b ≡ none
+  pub too_large : 4294967295 < v * 10 + (b - 48) → with_digit v b ≡ none
   unfolding with_digit
-  too_large n e h = simp (lt-ltb 0 v (omega arith), e, lt-leb (v * 10 + (b - 48)) 4294967295 h)
+  too_large h = go (ltb 0 v) (is_digit b)
+    where
+      go : (t u : Bool) → only_if (t && (u && leb (v * 10 + (b - 48)) 4294967295)) (v * 10 + (b - 48)) ≡ none
+      go true true = rw (lt-leb (v * 10 + (b - 48)) 4294967295 h)
+      go true false = refl
+      go false u = refl
 
   pub digit-added : (v ≡ 0 → ⊥) → is_digit b ≡ true → v * 10 + (b - 48) ≤ 4294967295 → with_digit v b ≡ some (v * 10 + (b - 48))
   unfolding with_digit
@@ -61,31 +69,27 @@ unfolding number_of
 number-empty [] h = refl
 number-empty (b ∷ s) h = absurd (let z : ⊥ = omega arith in z)
 
-pub number-no : (s : List ℕ) → is_digit (get_or s 0 0) ≡ false → number_of s ≡ none
+pub number-no : (s : List ℕ) (b : ℕ) (r : List ℕ) → s ≡ b ∷ r → is_digit b ≡ false → number_of s ≡ none
 unfolding number_of and_then
-number-no [] h = refl
-number-no (b ∷ s) h = rw h
+number-no s b r e h = rw (e, number_of, h)
 
-pub number-starts : (s : List ℕ) → (length s ≡ 0 → ⊥) → is_digit (get_or s 0 0) ≡ true → with_digits (get_or s 0 0 - 48) (drop 1 s) ≡ number_of s
+pub number-starts : (s : List ℕ) (b : ℕ) (r : List ℕ) → s ≡ b ∷ r → is_digit b ≡ true → with_digits (b - 48) r ≡ number_of s
 unfolding number_of and_then
-number-starts [] n h = absurd (n refl)
-number-starts (b ∷ s) n h = rw h
+number-starts s b r e h = rw (e, number_of, h)
 
 -- ---- what the code hands back
-pub found-value : (o : Option ℕ) (r : Number) (v : ℕ) → r ≡ found o → r ≡ Value v → o ≡ some v
-found-value none r v e h = absurd (let z : ◌≡◌ {A = ℕ} 0 1 = cc in let y : ⊥ = omega arith in y)
-found-value (some w) r v e h = cc
+pub found-some : {A : Type 0} (o : Option A) (v : A) → Some v ≡ found o → o ≡ some v
+found-some none v e = absurd (let z : ◌≡◌ {A = ℕ} 0 1 = cc in let y : ⊥ = omega arith in y)
+found-some (some w) v e = cc
 
-pub found-bad : (o : Option ℕ) (r : Number) → r ≡ found o → r ≡ Bad → o ≡ none
-found-bad none r e h = refl
-found-bad (some w) r e h = absurd (let z : ◌≡◌ {A = ℕ} 0 1 = cc in let y : ⊥ = omega arith in y)
+pub found-none : {A : Type 0} (o : Option A) → None ≡ found o → o ≡ none
+found-none none e = refl
+found-none (some w) e = absurd (let z : ◌≡◌ {A = ℕ} 0 1 = cc in let y : ⊥ = omega arith in y)
 
--- what a test `!t` says of the definition b that t is
-pub yes : {t b : Bool} → t ≡ b → not t ≡ false → b ≡ true
-yes {t} e h = sym e ∙ not-false t h
-
-pub no : {t b : Bool} → t ≡ b → not t ≡ true → b ≡ false
-no {t} e h = sym e ∙ not-true t h
+-- what the code's sum answers, with no number past 32 bits
+pub digit-code : (v b tens : ℕ) (r : Answered ℕ) → (v ≡ 0 → ⊥) → is_digit b ≡ true → tens ≡ v * 10 → SomeIff r (tens + (b - 48) < 4294967296) (tens + (b - 48)) → r ≡ found (with_digit v b)
+digit-code v b tens None n e t h = sym (ap found (too_large v b (omega (arith, h))))
+digit-code v b tens (Some w) n e t h = let k : w ≡ v * 10 + (b - 48) = omega (arith, h.1) in ap Some k ∙ sym (ap found (digit-added v b n e (omega (arith, h.0))))
 
 -- ---- decimal digits
 -- more steps than v make no difference

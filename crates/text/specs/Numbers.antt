@@ -1,8 +1,7 @@
 -- Decimal numbers without leading zeros, of at most 4,294,967,295 where they are read. Assumes nothing.
 use Rattle.std.specs.Prelude.{ℕ, zero, suc, ◌+◌, ◌-◌, ◌*◌, ◌/◌, ◌%◌, Bool, true, false, ◌&&◌, List, [], ◌∷◌, ◌++◌, leb, ltb}
+use Rattle.std.specs.Prelude.{Some, None, Option as Answered}
 use Rattle.std.proofs.Math.Option.{Option, none, some}
-use Rattle.text.specs.declared.number.Number.{Number}
-use Rattle.text.specs.declared.number.Number.TheVariants.{Value, Bad}
 
 -- the decimal digits of v, in at most so many steps more
 unfoldable pub decimal_in : (steps v : ℕ) → List ℕ
@@ -41,7 +40,7 @@ unfoldable pub number_of : List ℕ → Option ℕ
 number_of [] = none
 number_of (b ∷ bs) = and_then (only_if (is_digit b) (b - 48)) (λ v. with_digits v bs)
 
--- what the code hands back
-abbrev pub found : Option ℕ → Number
-found none = Bad
-found (some v) = Value v
+-- the same as an `Option` of the code, which is what it hands back
+abbrev pub found : {A : Type 0} → Option A → Answered A
+found none = None
+found (some v) = Some v

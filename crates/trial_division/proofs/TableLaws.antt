@@ -31,9 +31,6 @@ pub start : (p from : ℕ) (gaps : List ℕ) → Gaps from gaps → prime_to fro
 start p from gaps g h = record { two = above-one from p h; three = g.three; odd = g.odd; none = none_below from p h; leads = refl; end = g.end; holds = g.holds }
 
 module _ {p to d : ℕ} where
-  pub small-d : (left : List ℕ) → Tried p to d left → d ≤ 65537
-  small-d left t = omega (arith, t.leads, t.end, reached-above d left)
-
   pub stop : (left : List ℕ) → Tried p to d left → p < d * d → prime_to to p ≡ true
   stop left t = past-root to d p t.two t.none
 
@@ -175,9 +172,6 @@ module _ {p from : ℕ} {table : List ℕ} {d i : ℕ} (v : Exact p from table d
 
     pub exact-inverse : d * w % 67108864 ≡ 1
     exact-inverse = eqb-true _ 1 rule.0
-
-    pub exact-small : d + 2 * (w / 67108864) ≤ 65537
-    exact-small = step_small (w / 67108864) (gaps_of (drop (i + 1) table)) here
 
     module _ {b : Bool} (q : b ≡ eqb (p % d) 0) where
       pub exact-hit : d * d ≤ p → b ≡ true → prime_to (reached from (gaps_of table)) p ≡ false

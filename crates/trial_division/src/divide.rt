@@ -4,14 +4,13 @@ ghost use Rattle.trial_division.specs.Tables.{prime_to, reached, digits, Gaps};
 
 // Carries the test of p on from the number `from` to the one that the table leads to, or to the root of p.
 // The table has half gaps, 16 in each number, as its digits to the base 16 from the lowest up.
+// Kept: no plainer as one with `divide_exactly`: the tables and the tests of a divisor differ in kind.
 pub fn divide(p: u32, from: u32, table: &[u64]) -> bool
     requires { Gaps from (digits table.now) × (prime_to from p ≡ true) }
     ensures { result ≡ prime_to (reached from (digits table.now)) p }
 {
-    let n = 16 * table.len();
     let mut d = from;
-    let mut i = 0;
-    while i < n {
+    for i in 0..16 * table.len() {
         if d as u64 * d as u64 > p as u64 {
             return true;
         }
@@ -19,7 +18,6 @@ pub fn divide(p: u32, from: u32, table: &[u64]) -> bool
             return false;
         }
         d += 2 * digit(table[i / 16], i % 16);
-        i += 1;
     }
     true
 }

@@ -12,17 +12,14 @@ pub fn divide_exactly(p: u32, from: u32, table: &[u32]) -> bool
     ensures { result ≡ prime_to (reached from (gaps_of table.now)) p }
 {
     let mut d = from;
-    let mut i = 0;
-    while i < table.len() {
+    for w in table {
         if d as u64 * d as u64 > p as u64 {
             return true;
         }
-        let w = table[i];
-        if divides(p, d, w) {
+        if divides(p, d, *w) {
             return false;
         }
-        d += 2 * (w / QUOTIENTS);
-        i += 1;
+        d += 2 * (*w / QUOTIENTS);
     }
     true
 }

@@ -2,18 +2,16 @@
 use mathlib.Core.Path.{◌≡◌, refl, sym, ap, ap₂, ◌∙◌, subst}
 use mathlib.Core.Bool.{Bool, true, false, ◌&&◌, not, and_assoc}
 use mathlib.Core.List.{List, [], ◌∷◌, ◌++◌}
-use Prim.Native.Nat.{ℕ, ◌+◌, ◌-◌, ◌*◌, ◌/◌, ◌%◌, ◌^◌, ◌<◌, ◌≤◌, zero-le}
+use Prim.Native.Nat.{ℕ, ◌+◌, ◌-◌, ◌*◌, ◌/◌, ◌^◌, ◌<◌, ◌≤◌, zero-le}
 use native.Mathlib.Nat.{mul-le-mul}
 use native.Mathlib.Decide.{dec_le}
 use native.Mathlib.Omega.{arith}
 use borrow.Author.Tests.{eq-eqb, ne_eqb, lt-ltb, le-ltb}
 use lib.Dec.{ltb, eqb}
-use lib.Arith.{digits_div, digits_mod}
-use lib.Bits.{bit_and, and_le_r}
+use lib.Bits.{bit_and}
 use lib.ListN.{length, take, drop, drop_of_length-le, length-drop, take-append-drop}
 use lib.Seq.{drop-append-le, drop-append-add, take_all, length-take-le}
 use Rattle.monomial.specs.declared.order.Order.{Order}
-use Rattle.monomial.specs.declared.order.Order.TheVariants.{Lex, DegLex, DegRevLex}
 use Rattle.monomial.specs.Exponents as E
 use Rattle.monomial.specs.Exponents.{weighted, divides}
 use Rattle.monomial.specs.Layout.{bytes, fields, Below, below, beyond_bits, WeightsFit}
@@ -23,58 +21,9 @@ use Rattle.monomial.proofs.ByteLaws.{length-bytes, bytes_below, bytes-add, tops,
 use Rattle.monomial.proofs.LayoutLaws.{length_fields, below-fields, below-take}
 use Rattle.monomial.proofs.CodeLaws.{beyond-clear}
 use Rattle.wide_monomial.specs.Wide.{paired, wide_fields, wide_exponents, in_wide, in_first, in_second, TestsClear, WideWeights}
-use Rattle.wide_monomial.specs.WideKeys.{first_key, second_key, first_word, second_word, wide_key_of, from_wide_key}
 use Rattle.wide_monomial.specs.WideWords.{wide_bytes, WidePacked, divides_wide, over_wide}
 use Rattle.wide_monomial.proofs.Parts.{first_of, above_of, second-of, high-first, below-drop, both_below}
-use Rattle.wide_monomial.proofs.WideKeyLaws.{first-key-lt, second-key-lt, first-word-lt, second-word-lt, from-wide-key}
 use Rattle.wide_monomial.proofs.WideWordLaws.{first-tops, second-tops, divides-halves}
-
--- ---- keys of words a and b, and words of keys
-module _ (a b : ℕ) (ha : a < 2 ^ 64) (hb : b < 2 ^ 64) where
-  keys-made : (o : Order) → first_key o a b * 2 ^ 64 + second_key o a b ≡ wide_key_of o (paired a b)
-  keys-made o = ap₂ (λ (p q : ℕ). first_key o p q * 2 ^ 64 + second_key o p q) (sym (first_of a b ha)) (sym (second-of a b ha hb))
-
-  pub keys-lex : (o : Order) → o ≡ Lex → (a % 2 ^ 48 * 65536 + b / 2 ^ 48) * 2 ^ 64 + (b % 2 ^ 48 * 65536 + a / 2 ^ 48) ≡ wide_key_of o (paired a b)
-  keys-lex o e = rw e (keys-made Lex)
-
-  pub keys-deg : (o : Order) → o ≡ DegLex → a * 2 ^ 64 + b ≡ wide_key_of o (paired a b)
-  keys-deg o e = rw e (keys-made DegLex)
-
-  pub keys-rev : (o : Order) → o ≡ DegRevLex → (a / 2 ^ 48 * 2 ^ 48 + (2 ^ 64 - 1 - b) / 65536) * 2 ^ 64 + ((2 ^ 64 - 1 - b) % 65536 * 2 ^ 48 + (2 ^ 48 - 1 - a % 2 ^ 48)) ≡ wide_key_of o (paired a b)
-  keys-rev o e = rw e (keys-made DegRevLex)
-
-  pub lex-upper-fits : a % 2 ^ 48 * 65536 + b / 2 ^ 48 < 2 ^ 64
-  lex-upper-fits = first-key-lt Lex a b ha hb
-
-  pub lex-lower-fits : b % 2 ^ 48 * 65536 + a / 2 ^ 48 < 2 ^ 64
-  lex-lower-fits = second-key-lt Lex a b ha hb
-
-  words-made : (o : Order) → paired (first_word o a b) (second_word o a b) ≡ from_wide_key o (a * 2 ^ 64 + b)
-  words-made o =
-      let d = digits_div a hb in
-      ap₂ (λ (p q : ℕ). paired (first_word o p q) (second_word o p q)) (sym d) (sym (digits_mod a hb))
-      ∙ sym (from-wide-key o (a * 2 ^ 64 + b) (subst (λ (t : ℕ). t < 2 ^ 64) (sym d) ha))
-
-  pub words-lex : (o : Order) → o ≡ Lex → paired (b % 65536 * 2 ^ 48 + a / 65536) (a % 65536 * 2 ^ 48 + b / 65536) ≡ from_wide_key o (a * 2 ^ 64 + b)
-  words-lex o e = rw e (words-made Lex)
-
-  pub words-deg : (o : Order) → o ≡ DegLex → paired a b ≡ from_wide_key o (a * 2 ^ 64 + b)
-  words-deg o e = rw e (words-made DegLex)
-
-  pub words-rev : (o : Order) → o ≡ DegRevLex → paired (a / 2 ^ 48 * 2 ^ 48 + (2 ^ 48 - 1 - b % 2 ^ 48)) (2 ^ 64 - 1 - (a % 2 ^ 48 * 65536 + b / 2 ^ 48)) ≡ from_wide_key o (a * 2 ^ 64 + b)
-  words-rev o e = rw e (words-made DegRevLex)
-
-  pub lex-first-fits : b % 65536 * 2 ^ 48 + a / 65536 < 2 ^ 64
-  lex-first-fits = first-word-lt Lex a b ha hb
-
-  pub lex-second-fits : a % 65536 * 2 ^ 48 + b / 65536 < 2 ^ 64
-  lex-second-fits = second-word-lt Lex a b ha hb
-
-  pub turned-fits : a % 2 ^ 48 * 65536 + b / 2 ^ 48 ≤ 2 ^ 64 - 1
-  turned-fits = at_most (a % 2 ^ 48 * 65536 + b / 2 ^ 48) lex-upper-fits
-    where
-      at_most : (t : ℕ) → t < 2 ^ 64 → t ≤ 2 ^ 64 - 1
-      at_most t h = omega arith
 
 -- ---- word by word
 module _ (a b : ℕ) (ha : a < 2 ^ 64) (hb : b < 2 ^ 64) (p : WidePacked (paired a b)) where
@@ -92,15 +41,6 @@ module _ (a b : ℕ) (ha : a < 2 ^ 64) (hb : b < 2 ^ 64) (p : WidePacked (paired
     where
       fits : (w : ℕ) → w < 2 ^ 48 → w < 2 ^ 63
       fits w h = omega arith
-
-pub sums-fit : (a c : ℕ) → Packed a → Packed c → a + c < 2 ^ 64
-sums-fit a c p q = omega (arith, p.room, q.room)
-
-pub sums-paired : (a b c d : ℕ) → paired (a + c) (b + d) ≡ paired a b + paired c d
-sums-paired a b c d = omega arith
-
-pub differences-paired : (a b c d : ℕ) → c ≤ a → d ≤ b → paired (a - c) (b - d) ≡ paired a b - paired c d
-differences-paired a b c d h k = omega arith
 
 module _ (c d a b : ℕ) (hc : c < 2 ^ 64) (hd : d < 2 ^ 64) (ha : a < 2 ^ 64) (hb : b < 2 ^ 64) where
   both_words : divides_wide (paired c d) (paired a b) ≡ (divides_word c a && divides_word d b)
@@ -137,12 +77,6 @@ module _ (c d a b : ℕ) (hc : c < 2 ^ 64) (hd : d < 2 ^ 64) (ha : a < 2 ^ 64) (
       (both_zero (bit_and (c + a) (tops 6)) (bit_and (d + b) (tops 6))
       ∙ (ap₂ ◌&&◌ (one-clear c a (first-packed c d hc hd p) (first-packed a b ha hb q)) (one-clear d b (second-packed c d hc hd p) (second-packed a b ha hb q))
       ∙ (sym (below-append 128 (E.product (bytes 6 c) (bytes 6 a)) (E.product (bytes 6 d) (bytes 6 b))) ∙ ap (below 128) (sym products))))
-
-pub tops_fit : (u w : ℕ) → bit_and u (tops 6) + bit_and w (tops 6) < 2 ^ 64
-tops_fit u w = small (bit_and u (tops 6)) (bit_and w (tops 6)) (and_le_r u (tops 6)) (and_le_r w (tops 6))
-  where
-    small : (p q : ℕ) → p ≤ tops 6 → q ≤ tops 6 → p + q < 2 ^ 64
-    small p q h k = omega arith
 
 -- ---- the layout
 module _ (o : Order) (n : ℕ) (few : n ≤ 6) (b w : ℕ) (is : b ≡ beyond_bits o n) where
@@ -269,18 +203,9 @@ module _ (a b u v : ℕ) (ha : a < 2 ^ 64) (hb : b < 2 ^ 64) (o : Order) (n : �
               ∙ ap₂ eqb (sym (high-first (paired a b)) ∙ ap high (first_of a b ha)) (degree-sum ∙ sym (ap₂ (λ (p q : ℕ). p + q) ei ej))))
 
 -- ---- bits beyond, and words of weights
-pub beyond-few : (o : Order) (n x y : ℕ) → n ≤ 6 → x ≡ beyond_bits o n → y ≡ beyond_bits o 0 → (x ≡ beyond_bits o (in_first n)) × (y ≡ beyond_bits o (in_second n))
-beyond-few o n x y h e f = (e ∙ ap (beyond_bits o) (let k : n ≡ in_first n = omega arith in k), f ∙ ap (beyond_bits o) (let k : 0 ≡ in_second n = omega arith in k))
-
-pub beyond-many : (o : Order) (n x y : ℕ) → 6 < n → x ≡ beyond_bits o 6 → y ≡ beyond_bits o (n - 6) → (x ≡ beyond_bits o (in_first n)) × (y ≡ beyond_bits o (in_second n))
-beyond-many o n x y h e f = (e ∙ ap (beyond_bits o) (let k : 6 ≡ in_first n = omega arith in k), f)
-
 module _ (l : List ℕ) (g : WideWeights l) where
   six-left : length (drop 6 l) ≡ 6
   six-left = length-drop 6 l ∙ ap (λ (k : ℕ). k - 6) g.twelve-are
-
-  pub weights-front : WeightsFit (take 6 l)
-  weights-front = record { six-are = length-take-le 6 l (omega (arith, g.twelve-are)); bytes-are = below-take 256 6 l g.bytes-are }
 
   pub weights-back : WeightsFit (take 6 (drop 6 l))
   weights-back = record { six-are = length-take-le 6 (drop 6 l) (omega (arith, six-left)); bytes-are = below-take 256 6 (drop 6 l) (below-drop 256 6 l g.bytes-are) }

@@ -8,14 +8,14 @@ use monomial::exponents::{exponent, word_of};
 use monomial::order::Order;
 
 // The exponent of variable i, from 0, in the monomial of two words.
-pub fn wide_exponent(order: Order, first: u64, second: u64, i: u32) -> u8
+pub fn wide_exponent(order: Order, w: Pair, i: u32) -> u8
     requires { i < 12 }
-    ensures { result ≡ get_or (wide_fields order (paired first second)) i 0 }
+    ensures { result ≡ get_or (wide_fields order (paired w.first w.second)) i 0 }
 {
     if i < 6 {
-        return exponent(order, first, i);
+        return exponent(order, w.first, i);
     }
-    exponent(order, second, i - 6)
+    exponent(order, w.second, i - 6)
 }
 
 // The two words of the monomial with these exponents, and weights as `wide_weights` gives them. The degree
@@ -24,17 +24,12 @@ pub fn wide_words(order: Order, weights: Pair, exps: &[u8]) -> Pair
     requires { (length exps.now ≤ 12) × Below 18 (fields order weights.first) × Below 18 (fields order weights.second) }
     ensures { paired result.first result.second ≡ wide_of order (fields order weights.first ++ fields order weights.second) exps.now }
 {
-    let upper_weights = weights.first;
-    let lower_weights = weights.second;
     if exps.len() <= 6 {
-        let only = word_of(order, upper_weights, exps);
-        return Pair {
-            first: only,
-            second: 0,
-        };
+        let first = word_of(order, weights.first, exps);
+        return Pair { first, second: 0 };
     }
-    let upper = word_of(order, upper_weights, &exps[0..6]);
-    let lower = word_of(order, lower_weights, &exps[6..]);
+    let upper = word_of(order, weights.first, &exps[..6]);
+    let lower = word_of(order, weights.second, &exps[6..]);
     let degree = lower / 0x1_0000_0000_0000 * 0x1_0000_0000_0000;
     Pair {
         first: upper + degree,

@@ -20,10 +20,7 @@ pub fn keys(order: Order, first: u64, second: u64) -> Pair
                 second: lower,
             }
         }
-        Order::DegLex => Pair {
-            first: first,
-            second: second,
-        },
+        Order::DegLex => Pair { first, second },
         Order::DegRevLex => {
             let turned = 0xffff_ffff_ffff_ffff - second;
             let degree = first / 0x1_0000_0000_0000 * 0x1_0000_0000_0000;
@@ -51,10 +48,7 @@ pub fn words(order: Order, first: u64, second: u64) -> Pair
                 second: lower,
             }
         }
-        Order::DegLex => Pair {
-            first: first,
-            second: second,
-        },
+        Order::DegLex => Pair { first, second },
         Order::DegRevLex => {
             let degree = first / 0x1_0000_0000_0000 * 0x1_0000_0000_0000;
             let fields = 0xffff_ffff_ffff - second % 0x1_0000_0000_0000;

@@ -15,20 +15,12 @@ pub fn wide_beyond(order: Order, n: u32) -> Pair
     requires { n ≤ 12 }
     ensures { (result.first ≡ beyond_bits order (in_first n)) × (result.second ≡ beyond_bits order (in_second n)) }
 {
-    if n <= 6 {
-        let upper = beyond_bits(order, n);
-        let lower = beyond_bits(order, 0);
-        return Pair {
-            first: upper,
-            second: lower,
-        };
-    }
-    let upper = beyond_bits(order, 6);
-    let lower = beyond_bits(order, n - 6);
-    Pair {
-        first: upper,
-        second: lower,
-    }
+    let (first, second) = if n <= 6 {
+        (beyond_bits(order, n), beyond_bits(order, 0))
+    } else {
+        (beyond_bits(order, 6), beyond_bits(order, n - 6))
+    };
+    Pair { first, second }
 }
 
 // The twelve weights, x1's first, as two words: each lies where the field of its variable does.
@@ -36,11 +28,9 @@ pub fn wide_weights(order: Order, weights: &[u32]) -> Pair
     requires { WideWeights weights.now }
     ensures { fields order result.first ++ fields order result.second ≡ weights.now }
 {
-    let upper = weight_word(order, &weights[0..6]);
-    let lower = weight_word(order, &weights[6..12]);
     Pair {
-        first: upper,
-        second: lower,
+        first: weight_word(order, &weights[..6]),
+        second: weight_word(order, &weights[6..12]),
     }
 }
 
@@ -57,18 +47,18 @@ fn clear(beyond: u64, w: u64) -> bool
 
 // Whether two words are of the layout. `beyond` is what `wide_beyond` gives for the order and number of
 // variables, and `weights` what `wide_weights` gives; of others nothing is promised.
-pub fn in_wide_layout(beyond: Pair, weights: Pair, first: u64, second: u64) -> bool
-    ensures { TestsWide beyond.first beyond.second weights.first weights.second (paired first second) result }
+pub fn in_wide_layout(beyond: Pair, weights: Pair, w: Pair) -> bool
+    ensures { TestsWide beyond.first beyond.second weights.first weights.second (paired w.first w.second) result }
 {
-    if !clear(beyond.first, first) {
+    if !clear(beyond.first, w.first) {
         return false;
     }
-    if !clear(beyond.second, second) {
+    if !clear(beyond.second, w.second) {
         return false;
     }
-    if second >= 0x1_0000_0000_0000 {
+    if w.second >= 0x1_0000_0000_0000 {
         return false;
     }
-    first / 0x1_0000_0000_0000
-        == weighted_sum(weights.first, first) + weighted_sum(weights.second, second)
+    w.first / 0x1_0000_0000_0000
+        == weighted_sum(weights.first, w.first) + weighted_sum(weights.second, w.second)
 }

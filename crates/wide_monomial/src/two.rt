@@ -6,45 +6,42 @@ ghost use Rattle.wide_monomial.specs.WideWords.{WidePacked, divides_wide, over_w
 use crate::pair::Pair;
 use monomial::word::{TOPS, divides};
 
-// Whether the monomial of the words c and d divides that of a and b.
-pub fn both_divide(c: u64, d: u64, a: u64, b: u64) -> bool
-    requires { WidePacked (paired c d) × WidePacked (paired a b) }
-    ensures { result ≡ divides_wide (paired c d) (paired a b) }
+// Whether the monomial y divides x.
+pub fn both_divide(y: Pair, x: Pair) -> bool
+    requires { WidePacked (paired y.first y.second) × WidePacked (paired x.first x.second) }
+    ensures { result ≡ divides_wide (paired y.first y.second) (paired x.first x.second) }
 {
-    if !divides(c, a) {
-        return false;
-    }
-    divides(d, b)
+    divides(y.first, x.first) && divides(y.second, x.second)
 }
 
-// The monomial of a and b divided by that of c and d, which divides it: no field of either word borrows.
-pub fn quotient(a: u64, b: u64, c: u64, d: u64) -> Pair
-    requires { (c ≤ a) × (d ≤ b) }
-    ensures { paired result.first result.second ≡ paired a b - paired c d }
+// The monomial x divided by y, which divides it: no field of either word borrows.
+pub fn quotient(x: Pair, y: Pair) -> Pair
+    requires { (y.first ≤ x.first) × (y.second ≤ x.second) }
+    ensures { paired result.first result.second ≡ paired x.first x.second - paired y.first y.second }
 {
     Pair {
-        first: a - c,
-        second: b - d,
+        first: x.first - y.first,
+        second: x.second - y.second,
     }
 }
 
-// The product of the monomials of a and b, and of c and d: no field of either word carries.
-pub fn product(a: u64, b: u64, c: u64, d: u64) -> Pair
-    requires { WidePacked (paired a b) × WidePacked (paired c d) }
-    ensures { paired result.first result.second ≡ paired a b + paired c d }
+// The product of the monomials x and y: no field of either word carries.
+pub fn product(x: Pair, y: Pair) -> Pair
+    requires { WidePacked (paired x.first x.second) × WidePacked (paired y.first y.second) }
+    ensures { paired result.first result.second ≡ paired x.first x.second + paired y.first y.second }
 {
     Pair {
-        first: a + c,
-        second: b + d,
+        first: x.first + y.first,
+        second: x.second + y.second,
     }
 }
 
 // Whether that product has an exponent over 127: one of the twelve fields of the sums has its top bit set.
-pub fn over(a: u64, b: u64, c: u64, d: u64) -> bool
-    requires { WidePacked (paired a b) × WidePacked (paired c d) }
-    ensures { result ≡ over_wide (paired a b) (paired c d) }
+pub fn over(x: Pair, y: Pair) -> bool
+    requires { WidePacked (paired x.first x.second) × WidePacked (paired y.first y.second) }
+    ensures { result ≡ over_wide (paired x.first x.second) (paired y.first y.second) }
 {
-    let upper = (a + c) & TOPS;
-    let lower = (b + d) & TOPS;
+    let upper = (x.first + y.first) & TOPS;
+    let lower = (x.second + y.second) & TOPS;
     upper + lower != 0
 }

@@ -79,8 +79,9 @@ fn rattle_has_the_rows() {
     let variants = behind.split_once('}').expect("it ends").0.lines();
     let variants = variants.map(|l| l.split("//").next().unwrap_or("").trim());
     let variants = variants.filter_map(|l| l.strip_suffix(','));
-    let names = rows.iter().map(|(name, _)| &name[..]);
-    assert_eq!(variants.collect::<BTreeSet<_>>(), names.collect());
+    let variants = variants.filter_map(|l| l.split_once(" = "));
+    let variants = variants.map(|(name, n)| (name.to_string(), n.parse().expect("a number")));
+    assert_eq!(variants.collect::<BTreeSet<_>>(), rows);
 }
 
 #[test]

@@ -1,8 +1,9 @@
 -- `block::block::put_block` meets its contract.
 use Rattle.std.proofs.Common.{sym, arith}
+use Rattle.block.proofs.ByteLaws.{put_as}
 use Rattle.block.proofs.BlockLaws.{block-put}
 use Rattle.polynomial.proofs.TermLists.{length-terms}
 use Rattle.block.proofs.block.put_block.Goals as goal
 
 pub returns : goal.returns
-returns c = let e = length-terms c.args.words.now c.args.coefs.now c.requires.0 in block-put _ _ _ _ _ _ _ _ _ _ _ _ (omega (arith, e, c.requires.1)) (sym e) c.requires.2 c.put_header.ensures c.put_places.ensures c.clear.ensures c.check_of-check.ensures c.put_4.ensures
+returns c = let e = length-terms c.args.words.now c.args.coefs.now c.requires.0 in block-put _ _ _ _ _ _ _ _ _ _ _ _ (omega (arith, e, c.requires.1)) (sym e) c.requires.2 c.put.ensures c.put_places.ensures c.clear.ensures c.check_of-check.ensures (put_as _ _ _ _ _ _ c.put_number.ensures c.from.ensures)

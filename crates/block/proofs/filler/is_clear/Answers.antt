@@ -1,16 +1,15 @@
 -- `block::filler::is_clear` meets its contract.
-use Rattle.std.proofs.Common.{◌∙◌, arith}
-use Rattle.block.proofs.BlockLaws.{zero-byte, other_byte, zeros-end, zeros-start}
+use Rattle.std.proofs.Common.{◌≡◌, ℕ, ◌+◌, ◌-◌, ◌∙◌, ap, eqb, arith, rules, tests}
+use Rattle.std.proofs.lemmas.Iterator.{YieldsList-from_slice}
+use Rattle.std.proofs.lemmas.Iterator.Search.{all_from_yields_List}
+use Rattle.merge_common.specs.Lent.{part}
+use Rattle.block.specs.Block.{zeros}
+use Rattle.block.proofs.BlockLaws.{zeros-all}
 use Rattle.block.proofs.filler.is_clear.Goals as goal
 
-pub loop-i-init : goal.loop-i-init
-loop-i-init c = (omega arith, let a = c.args in zeros-start a.s.now a.at a.n)
-
-pub returns-then-s-at-ne0 : goal.returns-then-s-at-ne0
-returns-then-s-at-ne0 c = other_byte _ _ _ _ c.loop-i-test.true c.requires c.if-s-at-ne0.true ∙ c.loop-i.invariant.1
-
-pub loop-i-preserved : goal.loop-i-preserved
-loop-i-preserved c = (omega arith, zero-byte _ _ _ _ c.loop-i-test.true c.requires c.if-s-at-ne0.false ∙ c.loop-i.invariant.1)
-
 pub returns : goal.returns
-returns c = zeros-end _ _ _ _ c.loop-i-test.false ∙ c.loop-i.invariant.1
+returns c =
+    let a = c.args in
+    let e : a.at + a.n - a.at ≡ a.n = omega arith in
+    all_from_yields_List (λ (b : ℕ). eqb b 0) _ _ c.all.result c.all.ensures.ran (YieldsList-from_slice (part a.at (a.at + a.n - a.at) a.s.now) cc) (λ x b q k. search (rules, tests))
+    ∙ (zeros-all (part a.at (a.at + a.n - a.at) a.s.now) ∙ ap (λ (n : ℕ). zeros (part a.at n a.s.now)) e)

@@ -1,6 +1,18 @@
 -- `block::weights::weight_number` meets its contract.
-use Rattle.block.proofs.WeightLaws.{number-six}
+use Rattle.std.proofs.Common.{drop_of_length-le, sym, ap, le_of_eq, arith}
+use Rattle.block.specs.Block.{weight_number}
+use Rattle.block.proofs.WeightLaws.{number-next, number-room}
 use Rattle.block.proofs.weights.weight_number.Goals as goal
 
-pub returns : goal.returns
-returns c = number-six c.args.weights.now c.requires _ _ _ _ _ _ c.half-4.ensures.0 c.half-5.ensures.0 c.half-6.ensures.0 c.half.ensures.0 c.half-2.ensures.0 c.half-3.ensures.0
+pub loop-i-init : goal.loop-i-init
+unfolding weight_number
+loop-i-init c = sym (ap weight_number (drop_of_length-le c.args.weights.now (le_of_eq c.requires)))
+
+pub overflow_mul-number : goal.overflow_mul-number
+overflow_mul-number c = let k = c.loop-i in omega (arith, number-room _ k.i _ 0 c.loop-i-test.true (omega arith) c.requires k.invariant)
+
+pub overflow_add-number : goal.overflow_add-number
+overflow_add-number c = let k = c.loop-i in omega (arith, number-room _ k.i _ 0 c.loop-i-test.true (omega arith) c.requires k.invariant, c.half.ensures.1)
+
+pub loop-i-preserved : goal.loop-i-preserved
+loop-i-preserved c = let k = c.loop-i in number-next _ k.i _ _ c.loop-i-test.true (omega arith) c.requires k.invariant c.half.ensures.0

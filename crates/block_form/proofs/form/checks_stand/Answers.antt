@@ -11,13 +11,13 @@ use Rattle.block_form.proofs.form.checks_stand.Goals as goal
 
 pub loop-k-init : goal.loop-k-init
 unfolding all_below
-loop-k-init c = (omega arith, refl)
+loop-k-init c = refl
 
 pub returns-then-not-check_stands : goal.returns-then-not-check_stands
 returns-then-not-check_stands c = let a = c.args in all-fails (check_stands a.s.now) _ c.loop-k.k c.loop-k-test.true (no c.check_stands.ensures (ap not c.if-not-check_stands.true))
 
 pub loop-k-preserved : goal.loop-k-preserved
-loop-k-preserved c = let a = c.args in (omega arith, all_more (check_stands a.s.now) c.loop-k.k c.loop-k.invariant.1 (yes c.check_stands.ensures (ap not c.if-not-check_stands.false)))
+loop-k-preserved c = let a = c.args in all_more (check_stands a.s.now) c.loop-k.k c.loop-k.invariant (yes c.check_stands.ensures (ap not c.if-not-check_stands.false))
 
 pub returns : goal.returns
-returns c = let a = c.args in let e : count_in a.s.now ≡ c.loop-k.k = omega arith in sym (ap (λ (n : ℕ). all_below n (check_stands a.s.now)) e ∙ c.loop-k.invariant.1)
+returns c = let a = c.args in let e : count_in a.s.now ≡ c.loop-k.k = omega arith in sym (ap (λ (n : ℕ). all_below n (check_stands a.s.now)) e ∙ c.loop-k.invariant)

@@ -6,7 +6,4 @@ use Rattle.block_form.specs.Form.{all_below, block_stands}
 use Rattle.block_form.proofs.form.each_stands.Given as goal
 
 abbrev pub invariant-loop-k : goal.invariant-loop-k
-invariant-loop-k l = (l.k ≤ l.count) × (all_below l.k (block_stands l.s) ≡ true)
-
-abbrev pub decreases-loop-k : goal.decreases-loop-k
-decreases-loop-k l = l.count - l.k
+invariant-loop-k l = all_below l.k (block_stands l.s) ≡ true

@@ -1,6 +1,7 @@
 -- `blocks::read::content_refusal` meets its contract.
-use mathlib.Core.Path.{sym, ap, ◌∙◌}
-use lib.ListN.{length}
+use Rattle.std.proofs.Common.{refl, sym, ap, ◌∙◌, length}
+use Rattle.std.proofs.lemmas.Result.{err_from_is_err_and}
+use Rattle.refusal.proofs.TableLaws.{number-some}
 use Rattle.polynomial.specs.declared.setting.Setting.{Setting}
 use Rattle.opening.proofs.SettingLaws.{setting-testable}
 use Rattle.block.specs.Block.{number_at}
@@ -8,17 +9,23 @@ use Rattle.block.proofs.WeightLaws.{length-weights}
 use Rattle.blocks.proofs.ReadLaws.{stop-setting, stop-terms, stop-room, no_stop}
 use Rattle.blocks.proofs.read.content_refusal.Goals as goal
 
-pub returns-then-number-ne0 : goal.returns-then-number-ne0
-returns-then-number-ne0 c = let a = c.args in stop-setting a.s.now a.ow _ c.get_setting-t.ensures _ c.setting-number.ensures c.if-number-ne0.true
+pub returns-in_err-setting : goal.returns-in_err-setting
+returns-in_err-setting c =
+    let a = c.args in
+    let p = err_from_is_err_and c.from_residual.result c.from_residual.ensures.1 in
+    rw (p.1, p.2) (stop-setting a.s.now a.ow _ c.get_setting-t.ensures _ c.in_err-setting.ensures (number-some _))
 
-pub check_terms-number-requires : goal.check_terms-number-requires
-check_terms-number-requires c = let a = c.args in (setting-testable _ (sym c.setting-number.ensures ∙ c.if-number-ne0.false) (ap (λ (t : Setting). length t.weights) c.get_setting-t.ensures ∙ length-weights 6 (number_at 3 12 a.s.now)), rw c.total_in-total.ensures c.requires.lying)
+pub check_terms-requires : goal.check_terms-requires
+check_terms-requires c = let a = c.args in (setting-testable _ (sym c.in_ok-setting.ensures) (ap (λ (t : Setting). length t.weights) c.get_setting-t.ensures ∙ length-weights 6 (number_at 3 12 a.s.now)), rw c.total_in-total.ensures c.requires.lying)
 
-pub returns-then-number-ne0-2 : goal.returns-then-number-ne0-2
-returns-then-number-ne0-2 c = let a = c.args in stop-terms a.s.now a.ow _ c.get_setting-t.ensures (sym c.setting-number.ensures ∙ c.if-number-ne0.false) _ c.total_in-total.ensures _ c.check_terms-number.ensures c.if-number-ne0-2.true
+pub returns-in_err-check_terms : goal.returns-in_err-check_terms
+returns-in_err-check_terms c =
+    let a = c.args in
+    let p = err_from_is_err_and c.from_residual-in_err-check_terms.result c.from_residual-in_err-check_terms.ensures.1 in
+    rw (p.1, p.2) (stop-terms a.s.now a.ow _ c.get_setting-t.ensures (sym c.in_ok-setting.ensures) _ c.total_in-total.ensures _ c.in_err-check_terms.ensures (number-some _))
 
 pub returns-then-ow-total : goal.returns-then-ow-total
-returns-then-ow-total c = let a = c.args in stop-room a.s.now a.ow _ c.get_setting-t.ensures (sym c.setting-number.ensures ∙ c.if-number-ne0.false) _ c.total_in-total.ensures _ c.check_terms-number.ensures c.if-number-ne0-2.false c.if-ow-total.true
+returns-then-ow-total c = let a = c.args in stop-room a.s.now a.ow _ c.get_setting-t.ensures (sym c.in_ok-setting.ensures) _ c.total_in-total.ensures _ c.in_ok-check_terms.ensures refl c.if-ow-total.true
 
-pub returns-else-ow-total : goal.returns-else-ow-total
-returns-else-ow-total c = let a = c.args in no_stop a.s.now a.ow _ c.get_setting-t.ensures (sym c.setting-number.ensures ∙ c.if-number-ne0.false) _ c.total_in-total.ensures _ c.check_terms-number.ensures c.if-number-ne0-2.false c.if-ow-total.false
+pub returns : goal.returns
+returns c = let a = c.args in no_stop a.s.now a.ow _ c.get_setting-t.ensures (sym c.in_ok-setting.ensures) _ c.total_in-total.ensures _ c.in_ok-check_terms.ensures refl c.if-ow-total.false

@@ -1,17 +1,20 @@
 -- `blocks::read::read_refusal` meets its contract.
-use mathlib.Core.Path.{sym, ap, ◌∙◌}
-use Rattle.opening.proofs.Tests.{first_some}
+use Rattle.std.proofs.Common.{ℕ, sym, ap, ◌∙◌}
+use Rattle.std.proofs.lemmas.Result.{err_from_is_err_and}
+use Rattle.refusal.proofs.TableLaws.{number-some}
 use Rattle.polynomial.specs.Opening.{first}
-use Rattle.blocks.specs.Reading.{content_refusal}
-use Prim.Native.Nat.{ℕ}
+use Rattle.opening.proofs.Tests.{first_some}
 use Rattle.block_form.proofs.FormLaws.{form-passes, form-formed}
+use Rattle.blocks.specs.Reading.{content_refusal}
 use Rattle.blocks.proofs.read.read_refusal.Goals as goal
 
-pub returns-then-number-ne0 : goal.returns-then-number-ne0
-returns-then-number-ne0 c = let a = c.args in rw (← c.form_refusal-number.ensures) (first_some c.form_refusal-number.result _ c.if-number-ne0.true)
+pub returns-in_err-form_refusal : goal.returns-in_err-form_refusal
+returns-in_err-form_refusal c =
+    let p = err_from_is_err_and c.from_residual.result c.from_residual.ensures.1 in
+    rw (p.1, p.2, ← c.in_err-form_refusal.ensures) (first_some _ _ (number-some _))
 
 pub content_refusal-requires : goal.content_refusal-requires
-content_refusal-requires c = let a = c.args in form-formed a.s.now a.ow a.oc (form-passes a.s.now a.ow a.oc (sym c.form_refusal-number.ensures ∙ c.if-number-ne0.false))
+content_refusal-requires c = let a = c.args in form-formed a.s.now a.ow a.oc (form-passes a.s.now a.ow a.oc (sym c.in_ok-form_refusal.ensures))
 
 pub returns : goal.returns
-returns c = let a = c.args in c.content_refusal.ensures ∙ sym (ap (λ (r : ℕ). first r (content_refusal a.s.now a.ow)) (sym c.form_refusal-number.ensures ∙ c.if-number-ne0.false))
+returns c = let a = c.args in c.content_refusal.ensures ∙ ap (λ (r : ℕ). first r (content_refusal a.s.now a.ow)) c.in_ok-form_refusal.ensures

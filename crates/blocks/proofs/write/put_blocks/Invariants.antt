@@ -1,11 +1,7 @@
 -- `blocks::write::put_blocks` meets its contract.
-use Prim.Native.Nat.{◌-◌}
 use Rattle.polynomial.specs.Terms.{terms}
 use Rattle.blocks.proofs.WriteLaws.{Blocked}
 use Rattle.blocks.proofs.write.put_blocks.Given as goal
 
 abbrev pub invariant-loop-k : goal.invariant-loop-k
 invariant-loop-k l = Blocked l.count l.t (terms l.words l.coefs) l.initial.s l.s l.k
-
-abbrev pub decreases-loop-k : goal.decreases-loop-k
-decreases-loop-k l = l.count - l.k

@@ -1,10 +1,6 @@
 -- `buckets::sum::sum_areas` meets its contract.
-use Prim.Native.Nat.{◌-◌}
 use Rattle.buckets.proofs.SumLaws.{Sums}
 use Rattle.buckets.proofs.sum.sum_areas.Given as goal
 
 abbrev pub invariant-loop-i : goal.invariant-loop-i
 invariant-loop-i l = Sums l.p l.b l.initial.ww l.initial.wc l.ww l.wc l.from l.len l.n l.i
-
-abbrev pub decreases-loop-i : goal.decreases-loop-i
-decreases-loop-i l = 5 - l.i

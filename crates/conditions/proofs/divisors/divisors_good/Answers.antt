@@ -1,16 +1,11 @@
--- `conditions::divisors::divisors_good` meets its contract: after each turn the polynomials up to k are looked at.
-use native.Mathlib.Omega.{arith}
-use Rattle.conditions.proofs.DivisorLaws.{looked-start, looked-zero, looked-next, looked-all}
+-- `conditions::divisors::divisors_good` meets its contract.
+use Rattle.std.proofs.Common.{rules, tests, ◌∙◌, nat_lt}
+use Rattle.std.proofs.lemmas.List.Sorted.{answers_always}
+use Rattle.conditions.proofs.DivisorLaws.{no-starts, sorted-zero, behind-first}
 use Rattle.conditions.proofs.divisors.divisors_good.Goals as goal
 
-pub loop-k-init : goal.loop-k-init
-loop-k-init c = looked-start _
+pub returns-then-is_empty : goal.returns-then-is_empty
+returns-then-is_empty c = c.if-is_empty.true ∙ no-starts c.args.starts.now (search rules)
 
-pub returns-then-starts-k : goal.returns-then-starts-k
-returns-then-starts-k c = looked-zero _ _ c.loop-k.invariant (omega arith) c.if-starts-k.true
-
-pub loop-k-preserved : goal.loop-k-preserved
-loop-k-preserved c = looked-next _ _ c.loop-k.invariant (omega arith) c.if-starts-k.false
-
-pub returns : goal.returns
-returns c = looked-all _ _ c.loop-k.invariant c.loop-k-test.false
+pub returns-else-is_empty : goal.returns-else-is_empty
+returns-else-is_empty c = sorted-zero _ _ (c.is_sorted_by.ensures.cases nat_lt (answers_always _ _ _ (λ f a r f' q. search (rules, tests)))) ∙ behind-first c.args.starts.now

@@ -1,25 +1,23 @@
--- `conditions::operations::operations_good` meets its contract: the numbers before i are whole pairs, all good.
-use mathlib.Core.Path.{ap}
-use mathlib.Core.Bool.{not}
-use native.Mathlib.Omega.{arith}
-use Rattle.conditions.proofs.Tests.{yes, no}
-use Rattle.conditions.proofs.OperationLaws.{scan-start, scan-stop, scan-next, scan-ends}
+-- `conditions::operations::operations_good` meets its contract, pair by pair.
+use Rattle.std.proofs.Common.{rules, tests, arith, ap, ◌∙◌, List, ℕ, length, get_or, ◌≡◌, ◌/◌, ◌%◌, ◌+◌, ◌*◌}
+use Rattle.std.specs.List.{list_all}
+use Rattle.std.proofs.lemmas.Iterator.{YieldsList-from_slice}
+use Rattle.std.proofs.lemmas.Iterator.Search.{all_from_yields_List}
+use Rattle.conditions.specs.Operations.{operation_good}
+use Rattle.conditions.proofs.OperationLaws.{pairs-good, left-over}
 use Rattle.conditions.proofs.operations.operations_good.Goals as goal
 
-pub loop-i-init : goal.loop-i-init
-loop-i-init c = scan-start _ _
+pub returns-then-is_empty : goal.returns-then-is_empty
+returns-then-is_empty c =
+    let m = c.args.polynomials in
+    let ops = c.args.ops.now in
+    let even : length ops % 2 ≡ 0 = search rules in
+    all_from_yields_List (λ (pair : List ℕ). operation_good (get_or pair 0 0) (get_or pair 1 0) m) _ _ c.all.result c.all.ensures.ran (YieldsList-from_slice c.as_chunks.result.0.now cc) (λ x b q k. search (rules, tests))
+    ∙ (ap (list_all (λ (pair : List ℕ). operation_good (get_or pair 0 0) (get_or pair 1 0) m)) c.as_chunks.ensures.front
+    ∙ pairs-good (length ops / 2) ops m (omega arith))
 
-pub overflow_sub-ops : goal.overflow_sub-ops
-overflow_sub-ops c = omega (arith, c.loop-i.invariant.low)
-
-pub offset_bounds-ops-i : goal.offset_bounds-ops-i
-offset_bounds-ops-i c = omega (arith, c.loop-i-test.true, c.loop-i.invariant.low)
-
-pub returns-then-not-operation_good : goal.returns-then-not-operation_good
-returns-then-not-operation_good c = scan-stop _ _ _ c.loop-i.invariant c.loop-i-test.true (no c.operation_good.ensures (ap not c.if-not-operation_good.true))
-
-pub loop-i-preserved : goal.loop-i-preserved
-loop-i-preserved c = scan-next _ _ _ c.loop-i.invariant c.loop-i-test.true (yes c.operation_good.ensures (ap not c.if-not-operation_good.false))
-
-pub returns : goal.returns
-returns c = scan-ends _ _ _ c.loop-i.invariant c.loop-i-test.false
+pub returns-else-is_empty : goal.returns-else-is_empty
+returns-else-is_empty c =
+    let ops = c.args.ops.now in
+    let odd : length ops ≡ 2 * (length ops / 2) + 1 = search rules in
+    c.if-is_empty.false ∙ left-over (length ops / 2) ops c.args.polynomials odd

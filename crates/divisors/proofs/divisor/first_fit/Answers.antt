@@ -1,12 +1,10 @@
 -- `divisors::divisor::first_fit` meets its contract: none of the kept leads fits where none is found among them.
-use Rattle.divisors.proofs.DivisorLaws.{scannable, fit-kept, fit-past}
+use native.Mathlib.Omega.{arith}
+use Rattle.divisors.proofs.DivisorLaws.{fit-kept, fit-rest}
 use Rattle.divisors.proofs.divisor.first_fit.Goals as goal
 
-pub first_kept-i-requires : goal.first_kept-i-requires
-first_kept-i-requires c = scannable c.requires.0 c.requires.1 c.count_kept-n.ensures c.requires.2
-
-pub returns-then-i-n : goal.returns-then-i-n
-returns-then-i-n c = fit-kept c.requires.0 c.requires.1 c.count_kept-n.ensures c.first_kept-i.ensures c.if-i-n.true
+pub returns-in-Some : goal.returns-in-Some
+returns-in-Some c = (fit-kept c.requires.0 c.requires.1 c.count_kept-n.ensures c.in-Some.ensures.0 c.in-Some.ensures.1, omega (arith, c.in-Some.ensures.1, c.count_kept-n.ensures.high))
 
 pub returns : goal.returns
-returns c = fit-past c.requires.0 c.requires.1 c.count_kept-n.ensures c.first_kept-i.ensures c.if-i-n.false c.first_past.ensures
+returns c = fit-rest c.requires.0 c.requires.1 c.count_kept-n.ensures c.in_default.ensures _ c.first_past.ensures

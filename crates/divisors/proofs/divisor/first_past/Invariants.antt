@@ -7,6 +7,3 @@ use Rattle.divisors.proofs.divisor.first_past.Given as goal
 
 abbrev pub invariant-loop-k : goal.invariant-loop-k
 invariant-loop-k l = Scanned (lead_word l.words l.starts) l.word l.from (length l.starts - 1) l.k
-
-abbrev pub decreases-loop-k : goal.decreases-loop-k
-decreases-loop-k l = length l.starts - l.k

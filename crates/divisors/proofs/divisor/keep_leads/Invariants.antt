@@ -1,10 +1,6 @@
 -- `divisors::divisor::keep_leads` meets its contract: after each turn the leads before i are put.
-use Prim.Native.Nat.{◌-◌}
 use Rattle.divisors.proofs.DivisorLaws.{LeadsPut}
 use Rattle.divisors.proofs.divisor.keep_leads.Given as goal
 
 abbrev pub invariant-loop-i : goal.invariant-loop-i
 invariant-loop-i l = LeadsPut l.words l.starts l.n l.leads l.i
-
-abbrev pub decreases-loop-i : goal.decreases-loop-i
-decreases-loop-i l = l.n - l.i

@@ -3,17 +3,17 @@ use borrow.Author.Tests.{eq-eqb, ne_eqb}
 use Rattle.engine.proofs.RunLaws.{words-there, coefs-there, addend, one-operated}
 use Rattle.engine.proofs.run.operate.Goals as goal
 
-pub words_of-fw-requires : goal.words_of-fw-requires
-words_of-fw-requires c = words-there c.requires.0 c.if-code-eq1.true
+pub part_of-fw-requires : goal.part_of-fw-requires
+part_of-fw-requires c = words-there c.requires.0 c.if-code-eq1.true
 
-pub coefs_of-fc-requires : goal.coefs_of-fc-requires
-coefs_of-fc-requires c = coefs-there c.requires.0 c.if-code-eq1.true
+pub part_of-fc-requires : goal.part_of-fc-requires
+part_of-fc-requires c = coefs-there c.requires.0 c.if-code-eq1.true
 
 pub add_operation-requires : goal.add_operation-requires
-add_operation-requires c = (c.requires.0.counting, addend c.requires.0 c.if-code-eq1.true c.words_of-fw.ensures c.coefs_of-fc.ensures, c.requires.1, c.requires.0.more)
+add_operation-requires c = (c.requires.0.counting, addend c.requires.0 c.if-code-eq1.true c.part_of-fw.ensures c.part_of-fc.ensures, c.requires.1, c.requires.0.more)
 
 pub returns-then-code-eq1 : goal.returns-then-code-eq1
-returns-then-code-eq1 c = one-operated c.requires.0 c.if-code-eq1.true c.words_of-fw.ensures c.coefs_of-fc.ensures c.add_operation.ensures
+returns-then-code-eq1 c = one-operated c.requires.0 c.if-code-eq1.true c.part_of-fw.ensures c.part_of-fc.ensures c.add_operation.ensures
 
 pub lead_operation-requires : goal.lead_operation-requires
 lead_operation-requires c = (c.requires.0.counting, c.requires.1, c.requires.0.output, c.requires.0.more)

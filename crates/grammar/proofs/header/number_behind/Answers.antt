@@ -1,19 +1,16 @@
-use mathlib.Core.Path.{ap}
-use mathlib.Core.Bool.{not}
-use Rattle.grammar.proofs.HeaderLaws.{no_word, begins-long, behind-word}
-use Rattle.text.proofs.NumberLaws.{yes, no}
-use Rattle.merge_common.proofs.Lists.{part-from}
-use lib.ListN.{length}
+-- `grammar::header::number_behind` meets its contract.
+use mathlib.Core.Path.{sym, ap, ◌∙◌}
+use mathlib.Core.List.{List}
+use Prim.Native.Nat.{ℕ}
+use Rattle.text.specs.Numbers.{number_of, found}
+use Rattle.text.proofs.ByteLaws.{prefix-code}
+use Rattle.grammar.proofs.HeaderLaws.{no_word, behind-word}
 use Rattle.grammar.proofs.header.number_behind.Goals as goal
 
-pub returns-then-not-starts_with : goal.returns-then-not-starts_with
-returns-then-not-starts_with c = no_word _ _ (no c.starts_with.ensures (ap not c.if-not-starts_with.true))
-
-pub slice_bounds-rest-count : goal.slice_bounds-rest-count
-slice_bounds-rest-count c = begins-long c.args.word.now c.args.s.now (yes c.starts_with.ensures (ap not c.if-not-starts_with.false))
-
-pub slice_bounds-rest-start : goal.slice_bounds-rest-start
-slice_bounds-rest-start c = begins-long c.args.word.now c.args.s.now (yes c.starts_with.ensures (ap not c.if-not-starts_with.false))
+pub returns-in_err-strip_prefix : goal.returns-in_err-strip_prefix
+returns-in_err-strip_prefix c = c.from_residual.ensures ∙ no_word _ _ (sym (prefix-code c.args.word.now c.args.s.now) ∙ c.in_err-strip_prefix.ensures.cases)
 
 pub returns : goal.returns
-returns c = behind-word c.args.word.now c.args.s.now (yes c.starts_with.ensures (ap not c.if-not-starts_with.false)) _ (part-from c.args.s.now (length c.args.word.now)) _ c.read_number.ensures
+returns c =
+    let t = c.in_ok-strip_prefix.ensures.cases in
+    c.read_number.ensures ∙ (ap (λ (l : List ℕ). found (number_of l)) t.1 ∙ behind-word _ _ (sym (prefix-code c.args.word.now c.args.s.now) ∙ t.0))

@@ -1,18 +1,21 @@
+-- `grammar::header::read_header` meets its contract, return by return.
+use mathlib.Core.Path.{refl, sym}
+use lib.ListN.{length}
 use Rattle.grammar.proofs.HeaderLaws.{prime-cut, prime-bad, order-cut, order-bad, header-good}
-use Rattle.text.proofs.NumberLaws.{found-value, found-bad}
+use Rattle.text.proofs.NumberLaws.{found-some, found-none}
 use Rattle.grammar.proofs.header.read_header.Goals as goal
 
-pub returns-then-a-s : goal.returns-then-a-s
-returns-then-a-s c = prime-cut _ _ c.find-a.ensures.0 c.if-a-s.true
+pub returns-in_err-a : goal.returns-in_err-a
+returns-in_err-a c = rw c.from_residual.ensures (prime-cut _ (length c.args.s.now) (sym c.in_err-a.ensures) refl)
 
-pub returns-in_default : goal.returns-in_default
-returns-in_default c = prime-bad c.args.s.now _ c.find-a.ensures.0 (found-bad _ _ c.number_behind-p.ensures c.in_default.is)
+pub returns-in_err-prime : goal.returns-in_err-prime
+returns-in_err-prime c = rw c.from_residual-in_err-prime.ensures (prime-bad c.args.s.now _ c.in_ok-a.ensures.0 (found-none _ c.in_err-prime.ensures))
 
-pub returns-then-b-s : goal.returns-then-b-s
-returns-then-b-s c = order-cut c.args.s.now _ c.find-a.ensures.0 c.find-a.ensures.2 c.if-a-s.false _ (found-value _ _ _ c.number_behind-p.ensures c.in-Value.is) _ c.find-b.ensures.0 c.if-b-s.true
+pub returns-in_err-b : goal.returns-in_err-b
+returns-in_err-b c = rw c.from_residual-in_err-b.ensures (order-cut c.args.s.now _ c.in_ok-a.ensures.0 c.in_ok-a.ensures.2 _ (found-some _ _ c.in_ok-prime.ensures) (length c.args.s.now) (sym c.in_err-b.ensures) refl)
 
-pub returns-then-order-eq0 : goal.returns-then-order-eq0
-returns-then-order-eq0 c = order-bad c.args.s.now _ c.find-a.ensures.0 c.find-a.ensures.2 c.if-a-s.false _ (found-value _ _ _ c.number_behind-p.ensures c.in-Value.is) _ c.find-b.ensures.0 _ c.read_order-order.ensures c.if-order-eq0.true
+pub returns-in_err-order : goal.returns-in_err-order
+returns-in_err-order c = rw c.from_residual-in_err-order.ensures (order-bad c.args.s.now _ c.in_ok-a.ensures.0 c.in_ok-a.ensures.2 _ (found-some _ _ c.in_ok-prime.ensures) _ c.in_ok-b.ensures.0 c.in_err-order.ensures)
 
 pub returns : goal.returns
-returns c = header-good c.args.s.now _ c.find-a.ensures.0 c.find-a.ensures.2 c.if-a-s.false _ (found-value _ _ _ c.number_behind-p.ensures c.in-Value.is) _ c.find-b.ensures.0 _ c.read_order-order.ensures c.if-order-eq0.false c.find-b.ensures.2 c.if-b-s.false c.read_vars.ensures
+returns c = header-good c.args.s.now _ c.in_ok-a.ensures.0 c.in_ok-a.ensures.2 _ (found-some _ _ c.in_ok-prime.ensures) _ c.in_ok-b.ensures.0 _ c.in_ok-order.ensures c.in_ok-b.ensures.2 c.read_vars.ensures

@@ -5,16 +5,16 @@ use mathlib.Core.Path.{sym, ◌∙◌}
 use Rattle.listing.proofs.whole.put_ran.Goals as goal
 
 pub slice_bounds-put_answers-end : goal.slice_bounds-put_answers-end
-slice_bounds-put_answers-end c = sym (length-take-le _ _ (places-done c.requires c.in-Done.is))
+slice_bounds-put_answers-end c = sym (length-take-le _ _ (places-done c.requires c.in-Ok.is))
 
-pub slice_bounds-put_answers-end-in-Done : goal.slice_bounds-put_answers-end-in-Done
-slice_bounds-put_answers-end-in-Done c = sym (length-take-le _ _ (omega (arith, places-done c.requires c.in-Done.is, c.requires.same-long)))
+pub slice_bounds-put_answers-end-in-Ok : goal.slice_bounds-put_answers-end-in-Ok
+slice_bounds-put_answers-end-in-Ok c = sym (length-take-le _ _ (omega (arith, places-done c.requires c.in-Ok.is, c.requires.same-long)))
 
 pub put_answers-at-requires : goal.put_answers-at-requires
-put_answers-at-requires c = length-take-le _ c.args.oc.now (omega (arith, places-done c.requires c.in-Done.is, c.requires.same-long)) ∙ sym (length-take-le _ c.args.ow.now (places-done c.requires c.in-Done.is))
+put_answers-at-requires c = length-take-le _ c.args.oc.now (omega (arith, places-done c.requires c.in-Ok.is, c.requires.same-long)) ∙ sym (length-take-le _ c.args.ow.now (places-done c.requires c.in-Ok.is))
 
-pub returns-in-Done : goal.returns-in-Done
-returns-in-Done c = ran-done c.args.order c.args.n c.args.ops.now c.args.ow.now c.args.oc.now c.args.tally c.args.answer c.in-Done.is c.put_answers-at.ensures c.put_cost.ensures
+pub returns-in-Ok : goal.returns-in-Ok
+returns-in-Ok c = ran-done c.args.order c.args.n c.args.ops.now c.args.ow.now c.args.oc.now c.args.tally c.args.answer c.in-Ok.is c.put_answers-at.ensures c.put_cost.ensures
 
-pub returns-in-Refused : goal.returns-in-Refused
-returns-in-Refused c = ran-refused c.args.order c.args.n c.args.ops.now c.args.ow.now c.args.oc.now c.args.tally c.args.answer c.in-Refused.is _ c.number_of.ensures c.put_refused.ensures
+pub returns-in-Err : goal.returns-in-Err
+returns-in-Err c = ran-refused c.args.order c.args.n c.args.ops.now c.args.ow.now c.args.oc.now c.args.tally c.args.answer c.in-Err.is _ c.number_of.ensures c.put_refused.ensures

@@ -1,6 +1,13 @@
+-- `listing_lines::answers::after` meets its contract.
+use Prim.Native.Nat.{◌+◌, min}
+use native.Mathlib.Omega.{arith}
+use mathlib.Core.Path.{◌≡◌}
+use lib.ListN.{length}
+use Rattle.std.proofs.Common.{rules}
 use Rattle.listing_lines.proofs.AnswerLaws.{drop-after}
-use mathlib.Core.Path.{refl}
 use Rattle.listing_lines.proofs.answers.after.Goals as goal
 
-pub returns-else-i-ow : goal.returns-else-i-ow
-returns-else-i-ow c = (drop-after c.args.ow.now c.args.oc.now c.args.i _ c.requires.same-long c.requires.within c.if-i-ow.false refl, c.requires.within)
+pub returns : goal.returns
+returns c =
+    let e : c.min.result ≡ min (c.args.i + 1) (length c.args.ow.now) = search rules in
+    (rw e (drop-after c.args.ow.now c.args.oc.now c.args.i c.requires.same-long), omega arith)

@@ -1,11 +1,7 @@
 -- `listing_lines::answers::put_answers` meets its contract: the lines put so far, before those of what is left, are all lines.
-use Prim.Native.Nat.{◌-◌}
-use lib.ListN.{length}
+use Prim.Native.Nat.{◌*◌}
 use Rattle.listing_lines.proofs.AnswerLaws.{Answering}
 use Rattle.listing_lines.proofs.answers.put_answers.Given as goal
 
 abbrev pub invariant-loop-k : goal.invariant-loop-k
-invariant-loop-k l = Answering l.order l.n l.ops l.ow l.oc l.initial.out l.out l.next.place l.next.at l.k
-
-abbrev pub decreases-loop-k : goal.decreases-loop-k
-decreases-loop-k l = length l.ops - l.k
+invariant-loop-k l = Answering l.order l.n l.ops l.ow l.oc l.initial.out l.out l.next.place l.next.at (2 * l.k)

@@ -1,26 +1,20 @@
 -- `listing_lines::answers::put_terms` meets its contract, term by term.
 use native.Mathlib.Omega.{arith}
-use Rattle.listing_lines.proofs.PutLaws.{put-long, put-within}
+use Rattle.listing_lines.proofs.PutLaws.{put-within}
 use Rattle.listing_lines.proofs.AnswerLaws.{putting-start, putting-end, putting-zero, putting-more}
 use Rattle.listing_lines.proofs.answers.put_terms.Goals as goal
 
 pub loop-place-init : goal.loop-place-init
-loop-place-init c = (c.requires.within, putting-start _ _ _ _ _ _ _ c.requires.room)
-
-pub shape_of-out-then-c-eq0 : goal.shape_of-out-then-c-eq0
-shape_of-out-then-c-eq0 c = put-long c.loop-place.invariant.1.text
+loop-place-init c = putting-start _ _ _ _ _ _ _ c.requires.room
 
 pub returns-then-c-eq0 : goal.returns-then-c-eq0
-returns-then-c-eq0 c = putting-zero c.loop-place.invariant.1 c.requires.same-long c.loop-place-test.true c.if-c-eq0.true
+returns-then-c-eq0 c = putting-zero c.loop-place.invariant c.requires.same-long c.loop-place-test.true c.if-c-eq0.true
 
 pub put_term-to-requires : goal.put_term-to-requires
-put_term-to-requires c = put-within c.loop-place.invariant.1.text
+put_term-to-requires c = put-within c.loop-place.invariant.text
 
 pub loop-place-preserved : goal.loop-place-preserved
-loop-place-preserved c = (omega arith, putting-more c.loop-place.invariant.1 c.requires.same-long c.loop-place-test.true c.if-c-eq0.false c.put_term-to.ensures)
-
-pub shape_of-out : goal.shape_of-out
-shape_of-out c = put-long c.loop-place.invariant.1.text
+loop-place-preserved c = putting-more c.loop-place.invariant c.requires.same-long c.loop-place-test.true c.if-c-eq0.false c.put_term-to.ensures
 
 pub returns : goal.returns
-returns c = putting-end c.loop-place.invariant.1 c.requires.same-long c.loop-place.invariant.0 c.loop-place-test.false
+returns c = putting-end c.loop-place.invariant c.requires.same-long (omega (arith, c.requires.within)) c.loop-place-test.false

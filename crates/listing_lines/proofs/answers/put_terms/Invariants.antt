@@ -1,11 +1,6 @@
 -- `listing_lines::answers::put_terms` meets its contract, term by term.
-use Prim.Native.Nat.{◌-◌, ◌≤◌}
-use lib.ListN.{length}
 use Rattle.listing_lines.proofs.AnswerLaws.{Putting}
 use Rattle.listing_lines.proofs.answers.put_terms.Given as goal
 
 abbrev pub invariant-loop-place : goal.invariant-loop-place
-invariant-loop-place l = (l.place ≤ length l.ow) × Putting l.order l.n l.i l.ow l.oc l.at l.initial.out l.out l.place l.to
-
-abbrev pub decreases-loop-place : goal.decreases-loop-place
-decreases-loop-place l = length l.ow - l.place
+invariant-loop-place l = Putting l.order l.n l.i l.ow l.oc l.at l.initial.out l.out l.place l.to

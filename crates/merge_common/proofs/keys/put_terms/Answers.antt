@@ -1,32 +1,25 @@
 -- `merge_common::keys::put_terms` meets its contract: after i turns the first i are put.
-use mathlib.Core.Path.{refl, sym, ◌∙◌}
-use native.Mathlib.Omega.{arith}
-use lib.ListN.{length-map}
-use Rattle.monomial.specs.Words.{key_of}
-use Rattle.merge_common.proofs.Lists.{begun-none, begun_more, begun_all, get_d-each}
-use Rattle.merge_common.proofs.Steps.{keys-back}
+use Rattle.std.proofs.Common.{◌<◌, length, refl, arith}
+use Rattle.wide_monomial.specs.Wide.{paired}
+use Rattle.place.specs.Numbers.{keyed, word_numbers, key_by}
+use Rattle.place.proofs.WidthLaws.{numbers-alike}
+use Rattle.merge_common.proofs.Lists.{begun_more, begun_all}
+use Rattle.merge_common.proofs.Steps.{each-back}
+use Rattle.merge_common.proofs.Turns.{made-on, made-all}
 use Rattle.merge_common.proofs.keys.put_terms.Goals as goal
 
-pub loop-i-init : goal.loop-i-init
-loop-i-init c = (begun-none _ _ _, begun-none _ _ _)
+pub at-requires : goal.at-requires
+at-requires g c = omega (arith, c.requires.0, c.loop-i-test.true, numbers-alike keyed paired g.K.Key.width c.args.fw.now)
 
 pub loop-i-preserved : goal.loop-i-preserved
-loop-i-preserved c =
-    let a = c.args in (
-      begun_more _ _ _ _ _ _ c.loop-i.invariant.0 (omega (arith, length-map a.fw.now (key_of a.order))) (c.key.ensures ∙ sym (get_d-each (key_of a.order) a.fw.now c.loop-i.i (omega arith))),
-      begun_more _ _ _ _ _ _ c.loop-i.invariant.1 (omega (arith, c.requires.0)) refl,
-    )
-
-pub shape_of-ww : goal.shape_of-ww
-shape_of-ww c = c.loop-i.invariant.0.long
-
-pub shape_of-wc : goal.shape_of-wc
-shape_of-wc c = c.loop-i.invariant.1.long
+loop-i-preserved g c =
+    let w = g.K.Key.width in
+    let s = word_numbers w c.args.fw.now in
+    let i : c.loop-i.i < length s = omega (arith, c.requires.0, c.loop-i-test.true) in
+    (made-on (key_by w c.args.order) s _ _ c.loop-i.invariant.0 i c.at.ensures.1 c.key.ensures c.put.ensures.0, begun_more _ _ _ _ _ _ c.loop-i.invariant.1 c.loop-i-test.true refl)
 
 pub returns : goal.returns
-returns c =
-    let a = c.args in (
-      begun_all _ _ _ _ _ c.loop-i.invariant.0 (omega (arith, length-map a.fw.now (key_of a.order))),
-      begun_all _ _ _ _ _ c.loop-i.invariant.1 (omega (arith, c.requires.0)),
-      keys-back a.order a.fw.now (λ i. (c.shared_slice_known-1.given i).fits),
-    )
+returns g c =
+    let w = g.K.Key.width in
+    let s = word_numbers w c.args.fw.now in
+    (made-all (key_by w c.args.order) s _ _ c.loop-i.invariant.0 (omega (arith, c.requires.0, c.loop-i-test.false)), begun_all _ _ _ _ _ c.loop-i.invariant.1 c.loop-i-test.false, each-back w c.args.order c.args.fw.now (λ i. (c.type_inv.fw i).fits))

@@ -1,15 +1,12 @@
 -- `merge_common::merging::join` meets its contract.
-use Rattle.merge_common.proofs.Joins.{Flags, one_at_most, joined_is}
-use Rattle.merge_common.proofs.merging.join.Goals.{After-larger-m}
+use Rattle.merge_common.proofs.Joins.{flags_as, chosen-as, joined_is}
 use Rattle.merge_common.proofs.merging.join.Goals as goal
 
-flags : (c : After-larger-m) → let a = c.args in Flags a.x a.y c.larger-l.result c.larger-m.result
-flags c = record { x-larger = c.larger-l.ensures.0; y-larger = c.larger-m.ensures.0 }
-
-pub choose_coef-coef-requires : goal.choose_coef-coef-requires
-choose_coef-coef-requires c = one_at_most (flags (goal.at.choose_coef-coef-requires c).After-larger-m)
-
 pub returns : goal.returns
-returns c =
+returns g c =
     let a = c.args in
-    joined_is a.x a.c a.y a.d a.p (flags (goal.at.returns c).After-larger-m) c.add-sum.ensures c.choose_coef-coef.ensures c.not_zero.ensures.0 c.choose_coef.ensures c.choose_word.ensures
+    let number = g.K.Key.number in
+    let x = number a.x in
+    let y = number a.y in
+    let f = flags_as _ _ x y c.deciding-by.ensures c.larger-l.ensures.0 c.larger-m.ensures.0 in
+    joined_is x a.c y a.d a.p f c.add-sum.ensures c.choose-coef.ensures c.not_zero.ensures.0 c.choose.ensures (chosen-as number _ a.y a.x c.choose-2.ensures)

@@ -4,12 +4,9 @@ use Prim.Native.Nat.{◌+◌}
 use native.Mathlib.Omega.{arith}
 use lib.ListN.{length-map}
 use Rattle.monomial.specs.Words.{key_of}
-use Rattle.merge_common.proofs.Lists.{begun-none, begun_more, begun_all, get_d-each}
+use Rattle.merge_common.proofs.Lists.{begun_more, get_d-each}
 use Rattle.multiple.proofs.ProductLaws.{packed-at}
 use Rattle.multiple.proofs.multiple.put_products.Goals as goal
-
-pub loop-i-init : goal.loop-i-init
-loop-i-init c = begun-none _ _ _
 
 pub overflow_add-q : goal.overflow_add-q
 overflow_add-q c =
@@ -20,11 +17,3 @@ loop-i-preserved c =
     let a = c.args in
     begun_more _ _ _ _ _ _ c.loop-i.invariant (omega (arith, length-map a.words.now (λ w. key_of a.order (a.q + w))))
     (c.key.ensures ∙ sym (get_d-each (λ w. key_of a.order (a.q + w)) a.words.now c.loop-i.i (omega arith)))
-
-pub shape_of-ow : goal.shape_of-ow
-shape_of-ow c = c.loop-i.invariant.long
-
-pub returns : goal.returns
-returns c =
-    let a = c.args in
-    begun_all _ _ _ _ _ c.loop-i.invariant (omega (arith, length-map a.words.now (λ w. key_of a.order (a.q + w))))

@@ -3,12 +3,9 @@ use mathlib.Core.Path.{sym, ◌∙◌}
 use native.Mathlib.Omega.{arith}
 use lib.ListN.{length-map}
 use Rattle.residue.specs.Modular.{product}
-use Rattle.merge_common.proofs.Lists.{begun-none, begun_more, begun_all, get_d-each}
+use Rattle.merge_common.proofs.Lists.{begun_more, get_d-each}
 use Rattle.multiple.proofs.ProductLaws.{below_at}
 use Rattle.multiple.proofs.multiple.put_scaled.Goals as goal
-
-pub loop-j-init : goal.loop-j-init
-loop-j-init c = begun-none _ _ _
 
 pub times-requires : goal.times-requires
 times-requires c =
@@ -19,11 +16,3 @@ loop-j-preserved c =
     let a = c.args in
     begun_more _ _ _ _ _ _ c.loop-j.invariant (omega (arith, length-map a.coefs.now (λ v. product a.factor.prime a.factor.value v)))
     (c.times.ensures ∙ sym (get_d-each (λ v. product a.factor.prime a.factor.value v) a.coefs.now c.loop-j.j (omega arith)))
-
-pub shape_of-oc : goal.shape_of-oc
-shape_of-oc c = c.loop-j.invariant.long
-
-pub returns : goal.returns
-returns c =
-    let a = c.args in
-    begun_all _ _ _ _ _ c.loop-j.invariant (omega (arith, length-map a.coefs.now (λ v. product a.factor.prime a.factor.value v)))

@@ -1,11 +1,6 @@
 -- `opening::polynomials::polynomials_refusal` meets its contract: after k turns no polynomial below k is refused.
-use Prim.Native.Nat.{◌-◌}
-use lib.ListN.{length}
 use Rattle.opening.proofs.PolynomialLaws.{Checked}
 use Rattle.opening.proofs.polynomials.polynomials_refusal.Given as goal
 
 abbrev pub invariant-loop-k : goal.invariant-loop-k
 invariant-loop-k l = Checked l.t l.words l.coefs l.starts l.k
-
-abbrev pub decreases-loop-k : goal.decreases-loop-k
-decreases-loop-k l = length l.starts - l.k

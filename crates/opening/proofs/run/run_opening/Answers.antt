@@ -1,6 +1,9 @@
 -- `opening::run::run_opening` meets its contract, check by check.
 use mathlib.Core.Bool.{not}
-use mathlib.Core.Path.{sym, ap, ◌∙◌, subst}
+use mathlib.Core.Path.{◌≡◌, sym, ap, ◌∙◌, subst}
+use Rattle.std.proofs.Common.{rules}
+use Rattle.refusal.specs.Table.{refusal_in, number_of}
+use Rattle.refusal.proofs.TableLaws.{number-some}
 use Rattle.polynomial.specs.declared.setting.Setting.{Setting}
 use Rattle.polynomial.specs.Settings.{Testable}
 use Rattle.opening.specs.Run.{polynomials_refusal, run_refusal}
@@ -11,19 +14,21 @@ use Rattle.opening.proofs.ShapeLaws.{shape-passes}
 use Rattle.opening.proofs.RunLaws.{stop-setting}
 use Rattle.opening.proofs.run.run_opening.Goals as goal
 
-pub returns-then-number-ne0 : goal.returns-then-number-ne0
-returns-then-number-ne0 c = stop-setting _ _ _ _ _ _ _ _ _ _ _ _ c.setting-number.ensures c.if-number-ne0.true
+pub returns-in_err-setting : goal.returns-in_err-setting
+returns-in_err-setting c =
+    let e : refusal_in c.from_residual.result ≡ number_of c.in_err-setting.field-0.0 = search rules in
+    e ∙ stop-setting _ _ _ _ _ _ _ _ _ _ _ _ c.in_err-setting.ensures (number-some _)
 
 pub returns-then-not-shape_good : goal.returns-then-not-shape_good
 unfolding run_refusal
-returns-then-not-shape_good c = simp (sym c.setting-number.ensures ∙ c.if-number-ne0.false, no c.shape_good.ensures (ap not c.if-not-shape_good.true))
+returns-then-not-shape_good c = simp (sym c.in_ok-setting.ensures, no c.shape_good.ensures (ap not c.if-not-shape_good.true))
 
 pub overflow_sub-starts : goal.overflow_sub-starts
 overflow_sub-starts c = let s = shape-passes (yes c.shape_good.ensures (ap not c.if-not-shape_good.false)) in some-starts _ _ s.starts
 
 pub returns-then-not-operations_good : goal.returns-then-not-operations_good
 unfolding run_refusal
-returns-then-not-operations_good c = simp (sym c.setting-number.ensures ∙ c.if-number-ne0.false, yes c.shape_good.ensures (ap not c.if-not-shape_good.false), no c.operations_good.ensures (ap not c.if-not-operations_good.true))
+returns-then-not-operations_good c = simp (sym c.in_ok-setting.ensures, yes c.shape_good.ensures (ap not c.if-not-shape_good.false), no c.operations_good.ensures (ap not c.if-not-operations_good.true))
 
 pub setting_of-t-requires : goal.setting_of-t-requires
 setting_of-t-requires c = (shape-passes (yes c.shape_good.ensures (ap not c.if-not-shape_good.false))).weights-six
@@ -31,10 +36,10 @@ setting_of-t-requires c = (shape-passes (yes c.shape_good.ensures (ap not c.if-n
 pub polynomials_refusal-requires : goal.polynomials_refusal-requires
 polynomials_refusal-requires c =
     let s = shape-passes (yes c.shape_good.ensures (ap not c.if-not-shape_good.false)) in
-    (subst Testable (sym c.setting_of-t.ensures) (setting-testable _ (sym c.setting-number.ensures ∙ c.if-number-ne0.false) s.weights-six), s.lent, s.starts)
+    (subst Testable (sym c.setting_of-t.ensures) (setting-testable _ (sym c.in_ok-setting.ensures) s.weights-six), s.lent, s.starts)
 
 pub returns : goal.returns
 unfolding run_refusal
 returns c =
     let a = c.args in
-    simp (sym c.setting-number.ensures ∙ c.if-number-ne0.false, yes c.shape_good.ensures (ap not c.if-not-shape_good.false), yes c.operations_good.ensures (ap not c.if-not-operations_good.false), c.polynomials_refusal.ensures ∙ ap (λ (t : Setting). polynomials_refusal t a.words.now a.coefs.now a.starts.now) c.setting_of-t.ensures)
+    simp (sym c.in_ok-setting.ensures, yes c.shape_good.ensures (ap not c.if-not-shape_good.false), yes c.operations_good.ensures (ap not c.if-not-operations_good.false), c.polynomials_refusal.ensures ∙ ap (λ (t : Setting). polynomials_refusal t a.words.now a.coefs.now a.starts.now) c.setting_of-t.ensures)

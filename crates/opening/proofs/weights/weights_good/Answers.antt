@@ -1,22 +1,14 @@
--- `opening::weights::weights_good` meets its contract: after i turns the first i weights are in their ranges.
-use mathlib.Core.Bool.{not}
-use mathlib.Core.Path.{refl, ap}
-use Rattle.opening.proofs.Tests.{yes, no}
-use Rattle.opening.proofs.WeightsJudged.{weigh-start, weigh-stop, weigh-next, weigh-ends}
+-- `opening::weights::weights_good` meets its contract, weight by weight.
+use Rattle.std.proofs.Common.{rules, tests, ℕ, ltb, ◌∙◌}
+use Rattle.std.proofs.lemmas.Iterator.{YieldsList-from_slice}
+use Rattle.std.proofs.lemmas.Iterator.Consumers.{YieldsList-from_enumerate}
+use Rattle.std.proofs.lemmas.Iterator.Search.{all_from_yields_List}
+use Rattle.opening.specs.Run.{weight_good}
+use Rattle.opening.proofs.WeightsJudged.{weigh_all}
 use Rattle.opening.proofs.weights.weights_good.Goals as goal
 
-pub loop-i-init : goal.loop-i-init
-loop-i-init c = weigh-start _ _
-
-pub returns-then-not-weight_good : goal.returns-then-not-weight_good
-returns-then-not-weight_good c =
-    let h = c.loop-i in
-    weigh-stop _ _ h.i h.invariant c.loop-i-test.true _ refl (no c.weight_good.ensures (ap not c.if-not-weight_good.true))
-
-pub loop-i-preserved : goal.loop-i-preserved
-loop-i-preserved c =
-    let h = c.loop-i in
-    weigh-next _ _ h.i h.invariant c.loop-i-test.true _ refl (yes c.weight_good.ensures (ap not c.if-not-weight_good.false))
-
 pub returns : goal.returns
-returns c = weigh-ends _ _ c.loop-i.i c.loop-i.invariant c.loop-i-test.false
+returns c =
+    let n = c.args.n in
+    all_from_yields_List (λ (p : ℕ × ℕ). weight_good (ltb p.0 n) p.1) _ _ c.all.result c.all.ensures.ran (YieldsList-from_enumerate (YieldsList-from_slice c.args.weights.now cc) cc) (λ x b q k. search (rules, tests))
+    ∙ weigh_all n c.args.weights.now

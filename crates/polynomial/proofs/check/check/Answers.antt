@@ -1,19 +1,17 @@
 -- `polynomial::check::check` meets its contract: it is the check carried on over the whole.
-use mathlib.Core.Path.{ap, ◌∙◌}
-use Prim.Native.Nat.{ℕ}
-use Rattle.monomial.specs.Exponents.{order_of}
-use Rattle.monomial.specs.Words.{compare_words}
+use mathlib.Core.Path.{sym, ◌∙◌}
 use Rattle.polynomial.specs.Terms.{terms}
-use Rattle.polynomial.specs.Opening.{term_refusal}
-use Rattle.polynomial.specs.Checking.{Carried, verdict, polynomial_on}
-use Rattle.polynomial.proofs.CheckingLaws.{carry-whole}
+use Rattle.polynomial.proofs.CheckingLaws.{whole, polynomial-listed}
 use Rattle.polynomial.proofs.check.check.Goals as goal
 
-pub returns : goal.returns
-returns c =
+pub refusal_of-requires : goal.refusal_of-requires
+refusal_of-requires c =
     let a = c.args in
-    let t = a.t in
-    let ts = terms a.words.now a.coefs.now in
-    c.verdict.ensures
-    ∙ (ap (λ (s : Carried ℕ). verdict s) (c.check_on.ensures ∙ ap (λ (s : Carried ℕ). polynomial_on t s ts) c.unseen.ensures)
-    ∙ carry-whole (term_refusal (order_of t.order) t.n t.weights t.p) (compare_words (order_of t.order)) 0 ts)
+    let e = whole a.t a.words.now a.coefs.now c.unseen.ensures c.check_on.ensures c.verdict-number.ensures in
+    rw e (polynomial-listed a.t (terms a.words.now a.coefs.now) (λ z. c.if-number-eq0.false (e ∙ z)))
+
+pub returns-then-number-eq0 : goal.returns-then-number-eq0
+returns-then-number-eq0 c = let a = c.args in sym c.if-number-eq0.true ∙ whole a.t a.words.now a.coefs.now c.unseen.ensures c.check_on.ensures c.verdict-number.ensures
+
+pub returns-else-number-eq0 : goal.returns-else-number-eq0
+returns-else-number-eq0 c = let a = c.args in c.refusal_of.ensures ∙ whole a.t a.words.now a.coefs.now c.unseen.ensures c.check_on.ensures c.verdict-number.ensures

@@ -1,37 +1,36 @@
 -- `polynomial::check::check_on` meets its contract: after i turns no term of the first i is bad, and the numbers are at hand.
-use mathlib.Core.Path.{ap, ◌∙◌}
+use mathlib.Core.Path.{sym, ap, ◌∙◌}
 use Prim.Native.Nat.{ℕ}
 use native.Mathlib.Omega.{arith}
+use Rattle.refusal.specs.Table.{refusal_in}
+use Rattle.refusal.proofs.TableLaws.{number-some}
 use Rattle.monomial.specs.Layout.{fields}
 use Rattle.monomial.specs.Words.{compare_words}
 use Rattle.polynomial.specs.Terms.{terms}
 use Rattle.polynomial.specs.Opening.{term_refusal}
 use Rattle.polynomial.specs.Checking.{Carried, carry_on, carried_by}
 use Rattle.polynomial.proofs.TermLists.{length-terms, lead-at}
-use Rattle.polynomial.proofs.CheckingLaws.{look-start, look_stop, look-next, look-ends, stays-stopped, good-is}
+use Rattle.polynomial.proofs.CheckingLaws.{look_stop, look-next, look-ends, stays-stopped, good-is}
 use Rattle.polynomial.proofs.check.check_on.Goals as goal
 
 pub returns-then-from-ne0 : goal.returns-then-from-ne0
 returns-then-from-ne0 c = stays-stopped _ _ _ _ c.if-from-ne0.true
 
-pub loop-i-init : goal.loop-i-init
-loop-i-init c = look-start _ _ _ _ _ _
-
-pub returns-then-stop-ne0 : goal.returns-then-stop-ne0
-returns-then-stop-ne0 c =
+pub returns-in-Err : goal.returns-in-Err
+returns-in-Err c =
     let o = c.order_of-order in
     let a = c.args in
     let v = c.weight_word-weights in
     let judge = term_refusal o.result a.t.n (fields o.result v.result) a.t.p in
     rw
     (← o.ensures, ← v.ensures)
-    (look_stop judge (compare_words o.result) _ _ c.loop-i.i c.loop-i.late c.loop-i.seen c.loop-i.last c.loop-i.invariant (omega (arith, length-terms a.words.now a.coefs.now c.requires.1)) _ (lead-at a.words.now a.coefs.now c.loop-i.i c.requires.1 c.loop-i-test.true) _ _ (c.check_term-stop.ensures c.order_of-order.result a.t.n c.requires.0.few c.beyond_bits-beyond.ensures) c.check_fall-late.ensures c.if-stop-ne0.true
+    (look_stop judge (compare_words o.result) _ _ c.loop-i.i c.loop-i.late c.loop-i.seen c.loop-i.last c.loop-i.invariant (omega (arith, length-terms a.words.now a.coefs.now c.requires.1)) _ (lead-at a.words.now a.coefs.now c.loop-i.i c.requires.1 c.loop-i-test.true) _ _ (c.number_of-stop.ensures ∙ sym (ap refusal_in c.in-Err.is) ∙ c.check_term.ensures c.order_of-order.result a.t.n c.requires.0.few c.beyond_bits-beyond.ensures) c.check_fall-late.ensures (λ z. number-some _ (sym c.number_of-stop.ensures ∙ z))
     ∙ ap (λ (s : Carried ℕ). carry_on judge (compare_words o.result) s (terms a.words.now a.coefs.now)) (good-is (carried_by a.from) c.if-from-ne0.false))
 
 pub loop-i-preserved : goal.loop-i-preserved
 loop-i-preserved c =
     let a = c.args in
-    look-next _ _ _ _ c.loop-i.i c.loop-i.late c.loop-i.seen c.loop-i.last c.loop-i.invariant (omega (arith, length-terms a.words.now a.coefs.now c.requires.1)) _ (lead-at a.words.now a.coefs.now c.loop-i.i c.requires.1 c.loop-i-test.true) _ _ (c.check_term-stop.ensures c.order_of-order.result a.t.n c.requires.0.few c.beyond_bits-beyond.ensures) c.check_fall-late.ensures c.if-stop-ne0.false
+    look-next _ _ _ _ c.loop-i.i c.loop-i.late c.loop-i.seen c.loop-i.last c.loop-i.invariant (omega (arith, length-terms a.words.now a.coefs.now c.requires.1)) _ (lead-at a.words.now a.coefs.now c.loop-i.i c.requires.1 c.loop-i-test.true) _ _ (c.check_term.ensures c.order_of-order.result a.t.n c.requires.0.few c.beyond_bits-beyond.ensures) c.check_fall-late.ensures (ap refusal_in c.in_default.is)
 
 pub returns : goal.returns
 returns c =

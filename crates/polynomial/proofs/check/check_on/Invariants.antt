@@ -1,6 +1,4 @@
 -- `polynomial::check::check_on` meets its contract: after i turns no term of the first i is bad, and the numbers are at hand.
-use Prim.Native.Nat.{◌-◌}
-use lib.ListN.{length}
 use Rattle.monomial.specs.Layout.{fields}
 use Rattle.monomial.specs.Words.{compare_words}
 use Rattle.polynomial.specs.Terms.{terms}
@@ -10,6 +8,3 @@ use Rattle.polynomial.proofs.check.check_on.Given as goal
 
 abbrev pub invariant-loop-i : goal.invariant-loop-i
 invariant-loop-i l = Looked (term_refusal l.order l.n (fields l.order l.weights) l.p) (compare_words l.order) (good l.initial.late l.initial.seen l.initial.last) (terms l.words l.coefs) l.i l.late l.seen l.last
-
-abbrev pub decreases-loop-i : goal.decreases-loop-i
-decreases-loop-i l = length l.words - l.i

@@ -1,6 +1,7 @@
 -- `probe::geobuckets::probe_buckets_lead` meets its contract.
+use mathlib.Core.Path.{◌∙◌}
 use Rattle.probe.proofs.Counts.{found-count}
 use Rattle.probe.proofs.geobuckets.probe_buckets_lead.Goals as goal
 
 pub returns : goal.returns
-returns c = rw (← c.order_of.ensures) (found-count c.find_lead-c.ensures)
+returns c = c.put_lead.ensures ∙ rw (← c.order_of.ensures) (found-count c.find_lead-c.ensures)

@@ -1,6 +1,7 @@
 -- `probe_check` is `check` for at most 6 variables, six weights up to 16, and as many coefficients as words.
 use mathlib.Core.Bool.{not}
-use mathlib.Core.Path.{◌∙◌, ap}
+use mathlib.Core.Path.{sym, ◌∙◌, ap}
+use Rattle.refusal.specs.Table.{refusal_in}
 use Rattle.polynomial.specs.declared.setting.Setting.{Setting}
 use Rattle.polynomial.specs.Terms.{terms}
 use Rattle.polynomial.specs.Opening.{polynomial_refusal}
@@ -17,8 +18,14 @@ setting_of-requires c = six-weights _ _ _ _ (yes c.is_checkable.ensures (ap not 
 pub check-requires : goal.check-requires
 check-requires c = checks _ _ _ _ (yes c.is_checkable.ensures (ap not c.if-not-is_checkable.false)) _ _ _ c.setting_of.ensures
 
-pub returns : goal.returns
-returns c =
+pub returns-in-Ok : goal.returns-in-Ok
+returns-in-Ok c =
     let a = c.args in
     held _ (yes c.is_checkable.ensures (ap not c.if-not-is_checkable.false))
-    (c.check.ensures ∙ ap (λ (t : Setting). polynomial_refusal t (terms a.words.now a.coefs.now)) c.setting_of.ensures)
+    (sym (ap refusal_in c.in-Ok.is) ∙ (c.check.ensures ∙ ap (λ (t : Setting). polynomial_refusal t (terms a.words.now a.coefs.now)) c.setting_of.ensures))
+
+pub returns-in-Err : goal.returns-in-Err
+returns-in-Err c =
+    let a = c.args in
+    held _ (yes c.is_checkable.ensures (ap not c.if-not-is_checkable.false))
+    (c.number_of.ensures ∙ (sym (ap refusal_in c.in-Err.is) ∙ (c.check.ensures ∙ ap (λ (t : Setting). polynomial_refusal t (terms a.words.now a.coefs.now)) c.setting_of.ensures)))

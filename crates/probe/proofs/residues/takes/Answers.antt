@@ -1,15 +1,13 @@
--- `takes` is the test of its definition.
-use Rattle.probe.proofs.Moduli.{too-low, too-high, not-below, by_last}
+-- `takes` is the test of its definition, part by part.
+use native.Mathlib.Omega.{arith}
+use Rattle.std.proofs.lemmas.Bool.Decides.{nat_tests}
+use Rattle.probe.specs.Answers.{able}
 use Rattle.probe.proofs.residues.takes.Goals as goal
 
-pub returns-then-p-lt2 : goal.returns-then-p-lt2
-returns-then-p-lt2 c = too-low _ _ _ c.if-p-lt2.true
-
-pub returns-then-p-gt2147483647 : goal.returns-then-p-gt2147483647
-returns-then-p-gt2147483647 c = too-high _ _ _ c.if-p-lt2.false c.if-p-gt2147483647.true
-
 pub returns-then-a-p : goal.returns-then-a-p
-returns-then-a-p c = not-below _ _ _ c.if-p-lt2.false c.if-p-gt2147483647.false c.if-a-p.true
+unfolding able
+returns-then-a-p c = grind (arith, nat_tests)
 
-pub returns : goal.returns
-returns c = by_last _ _ _ c.if-p-lt2.false c.if-p-gt2147483647.false c.if-a-p.false
+pub returns-else-a-p : goal.returns-else-a-p
+unfolding able
+returns-else-a-p c = grind (arith, nat_tests)

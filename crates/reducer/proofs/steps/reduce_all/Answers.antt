@@ -13,17 +13,17 @@ slice_bounds-keep_leads-end c = sym (length-replicate {A = ℕ} 1024 0)
 pub keep_leads-requires : goal.keep_leads-requires
 keep_leads-requires c = (leads-there c.requires.0.checked, length-replicate {A = ℕ} 1024 0)
 
-pub words_of-fw-requires : goal.words_of-fw-requires
-words_of-fw-requires c = first-words c.requires.0
+pub part_of-fw-requires : goal.part_of-fw-requires
+part_of-fw-requires c = first-words c.requires.0
 
-pub coefs_of-fc-requires : goal.coefs_of-fc-requires
-coefs_of-fc-requires c = first-coefs c.requires.0
+pub part_of-fc-requires : goal.part_of-fc-requires
+part_of-fc-requires c = first-coefs c.requires.0
 
 pub begin-s-requires : goal.begin-s-requires
-begin-s-requires c = (addend c.requires.0 c.words_of-fw.ensures c.coefs_of-fc.ensures, beginning c.requires.0 c.words_of-fw.ensures c.coefs_of-fc.ensures c.requires.1, c.requires.1.slices)
+begin-s-requires c = (addend c.requires.0 c.part_of-fw.ensures c.part_of-fc.ensures, beginning c.requires.0 c.part_of-fw.ensures c.part_of-fc.ensures c.requires.1, c.requires.1.slices)
 
 pub loop-order-init : goal.loop-order-init
-loop-order-init c = turn-start c.requires.0 c.words_of-fw.ensures c.coefs_of-fc.ensures c.requires.1 (none_kept _ _ _ _) (let q = c.requires.1.slices in record { work-words = c.begin-s.auto.ww ∙ q.work-words; work-coefs = c.begin-s.auto.wc ∙ q.work-coefs; words_long = c.begin-s.auto.bw ∙ q.words_long; coefs-long = c.begin-s.auto.bc ∙ q.coefs-long }) c.begin-s.ensures
+loop-order-init c = turn-start c.requires.0 c.part_of-fw.ensures c.part_of-fc.ensures c.requires.1 (none_kept _ _ _ _) (let q = c.requires.1.slices in record { work-words = c.begin-s.auto.ww ∙ q.work-words; work-coefs = c.begin-s.auto.wc ∙ q.work-coefs; words_long = c.begin-s.auto.bw ∙ q.words_long; coefs-long = c.begin-s.auto.bc ∙ q.coefs-long }) c.begin-s.ensures
 
 pub slice_bounds-step-end : goal.slice_bounds-step-end
 slice_bounds-step-end c = sym c.keep_leads.ensures.long

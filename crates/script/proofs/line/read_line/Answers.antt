@@ -1,10 +1,10 @@
-use mathlib.Core.Path.{ap}
-use mathlib.Core.Bool.{not}
+-- `script::line::read_line` meets its contract, return by return.
+use mathlib.Core.Path.{sym, ◌∙◌}
+use native.Mathlib.Omega.{arith}
+use Rattle.text.proofs.ByteLaws.{prefix-code}
+use Rattle.grammar.specs.Grammar.{add-word}
 use Rattle.grammar.proofs.Prefix.{so}
 use Rattle.script.proofs.LineLaws.{is-lead, is_sum, is_none, is-add, lead-long, sum-long, add-long, pair-room, few-pairs, add-room}
-use Rattle.merge_common.proofs.Lists.{part-from}
-use Rattle.text.proofs.NumberLaws.{yes, no}
-use native.Mathlib.Omega.{arith}
 use Rattle.script.proofs.line.read_line.Goals as goal
 
 pub put_pair-requires : goal.put_pair-requires
@@ -25,17 +25,11 @@ plain-requires-then-is_word-2 c = few-pairs _ _ _ c.requires.pairs-fit (omega (a
 pub returns-then-is_word-2 : goal.returns-then-is_word-2
 returns-then-is_word-2 c = is_sum (so c.is_word.ensures c.if-is_word.false) (so c.is_word-2.ensures c.if-is_word-2.true) c.put_pair-then-is_word-2.ensures c.plain-then-is_word-2.ensures
 
-pub returns-then-not-starts_with : goal.returns-then-not-starts_with
-returns-then-not-starts_with c = is_none (so c.is_word.ensures c.if-is_word.false) (so c.is_word-2.ensures c.if-is_word-2.false) (no c.starts_with.ensures (ap not c.if-not-starts_with.true))
-
-pub slice_bounds-terms-count : goal.slice_bounds-terms-count
-slice_bounds-terms-count c = omega (arith, add-long c.args.s.now (yes c.starts_with.ensures (ap not c.if-not-starts_with.false)))
-
-pub slice_bounds-terms-start : goal.slice_bounds-terms-start
-slice_bounds-terms-start c = omega (arith, add-long c.args.s.now (yes c.starts_with.ensures (ap not c.if-not-starts_with.false)))
+pub returns-in_err-terms : goal.returns-in_err-terms
+returns-in_err-terms c = rw c.from_residual.ensures (is_none (so c.is_word.ensures c.if-is_word.false) (so c.is_word-2.ensures c.if-is_word-2.false) (sym (prefix-code add-word c.args.s.now) ∙ c.in_err-terms.ensures.cases))
 
 pub read_add-requires : goal.read_add-requires
-read_add-requires c = add-room c.args.s.now _ (part-from c.args.s.now 3) (add-long c.args.s.now (yes c.starts_with.ensures (ap not c.if-not-starts_with.false))) c.requires
+read_add-requires c = add-room c.args.s.now _ c.in_ok-terms.ensures.cases.1 (add-long c.args.s.now (sym (prefix-code add-word c.args.s.now) ∙ c.in_ok-terms.ensures.cases.0)) c.requires
 
 pub returns : goal.returns
-returns c = is-add (so c.is_word.ensures c.if-is_word.false) (so c.is_word-2.ensures c.if-is_word-2.false) (yes c.starts_with.ensures (ap not c.if-not-starts_with.false)) _ (part-from c.args.s.now 3) c.read_add.ensures
+returns c = is-add (so c.is_word.ensures c.if-is_word.false) (so c.is_word-2.ensures c.if-is_word-2.false) (sym (prefix-code add-word c.args.s.now) ∙ c.in_ok-terms.ensures.cases.0) _ c.in_ok-terms.ensures.cases.1 c.read_add.ensures

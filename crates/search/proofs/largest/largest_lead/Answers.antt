@@ -8,15 +8,6 @@ use Rattle.search.proofs.largest.largest_lead.Goals as goal
 pub loop-i-init : goal.loop-i-init
 loop-i-init c = looks-none _ _
 
-pub len_of-requires : goal.len_of-requires
-len_of-requires c = (c.requires.0.eighteen, c.loop-i-test.true)
-
-pub lead_key-requires : goal.lead_key-requires
-lead_key-requires c = (c.requires.0, c.loop-i-test.true, omega (arith, c.len_of.ensures, c.if-len_of-ne0.true), c.requires.1, c.requires.2)
-
-pub meet-t-requires : goal.meet-t-requires
-meet-t-requires c = let v = c.loop-i.invariant in (omega (arith, v.most, v.few), omega (arith, v.most, v.few-like))
-
 pub loop-i-preserved : goal.loop-i-preserved
 loop-i-preserved c =
     elim c.if-len_of-ne0.branch [

@@ -1,11 +1,8 @@
 -- `search::lead::first_held` meets its contract.
 use mathlib.Core.Path.{◌≡◌}
-use Prim.Native.Nat.{ℕ, ◌-◌, ◌<◌, ◌≤◌}
+use Prim.Native.Nat.{ℕ, ◌<◌}
 use Rattle.space.specs.Space.{len_at}
 use Rattle.search.proofs.lead.first_held.Given as goal
 
 abbrev pub invariant-loop-i : goal.invariant-loop-i
-invariant-loop-i l = (l.i ≤ 6) × ((j : ℕ) → j < l.i → len_at l.b j ≡ 0)
-
-abbrev pub decreases-loop-i : goal.decreases-loop-i
-decreases-loop-i l = 6 - l.i
+invariant-loop-i l = (j : ℕ) → j < l.i → len_at l.b j ≡ 0

@@ -4,8 +4,7 @@ use Prim.Native.Nat.{ℕ, ◌-◌, ◌<◌}
 use native.Mathlib.Omega.{arith}
 use Rattle.monomial.proofs.OrderLaws.{numbers-order}
 use Rattle.space.specs.Space.{len_at}
-use Rattle.search.specs.declared.candidate.Candidate.{Candidate}
-use Rattle.search.proofs.SeekState.{slices-kept, seeks-start, seeks-end, own-six, own-some, own-head, joined-six, joined-some, on-empty, lead-some, removal-asks, lead-small, on-past, on-like, on-up}
+use Rattle.search.proofs.SeekState.{slices-kept, seeks-start, seeks-end, on-empty, lead-some, lead-small, on-past, on-like, on-up}
 use Rattle.search.proofs.lead.seek.Goals.{Else-len-eq0, then-key-c, else-key-c+then-larger-eq1, else-key-c+else-larger-eq1}
 use Rattle.search.proofs.lead.seek.Goals as goal
 
@@ -16,44 +15,11 @@ some_in c = lead-some c.loop-i.invariant.0 c.loop-i-test.true c.len_of-len.ensur
 pub loop-i-init : goal.loop-i-init
 loop-i-init c = (seeks-start c.requires.0, c.requires.1)
 
-pub len_of-len-requires : goal.len_of-len-requires
-len_of-len-requires c = (c.loop-i.invariant.0.laid.eighteen, c.loop-i-test.true)
-
 pub loop-i-preserved-then-len-eq0 : goal.loop-i-preserved-then-len-eq0
 loop-i-preserved-then-len-eq0 c = (on-empty c.loop-i.invariant.0 c.loop-i-test.true (sym c.len_of-len.ensures ∙ c.if-len-eq0.true), c.loop-i.invariant.1)
 
-pub lead_key-key-requires : goal.lead_key-key-requires
-lead_key-key-requires c = (c.loop-i.invariant.0.laid, c.loop-i-test.true, some_in (goal.at.lead_key-key-requires c).Else-len-eq0, c.loop-i.invariant.1.work-words, c.loop-i.invariant.1.words_long)
-
-pub lead_coef-requires : goal.lead_coef-requires
-lead_coef-requires c = (c.loop-i.invariant.0.laid, c.loop-i-test.true, some_in (goal.at.lead_coef-requires c).Else-len-eq0, c.loop-i.invariant.1.work-coefs, c.loop-i.invariant.1.coefs-long)
-
 pub join-c-requires : goal.join-c-requires
 join-c-requires c = (c.loop-i.invariant.0.modulus, c.loop-i.invariant.0.small, lead-small c.loop-i.invariant.0 c.loop-i-test.true (some_in (goal.at.join-c-requires c).Else-len-eq0) c.lead_coef.ensures, omega (arith, c.loop-i.invariant.0.few))
-
-pub put_lead_coef-requires : goal.put_lead_coef-requires
-put_lead_coef-requires c = (c.loop-i.invariant.0.laid, joined-six c.loop-i.invariant.0 (ap (λ (d : Candidate). d.bucket) c.join-c.ensures), joined-some c.loop-i.invariant.0 (ap (λ (d : Candidate). d.bucket) c.join-c.ensures), c.loop-i.invariant.1.work-coefs, c.loop-i.invariant.1.coefs-long)
-
-pub remove_lead-requires : goal.remove_lead-requires
-remove_lead-requires c = removal-asks c.loop-i.invariant.0 c.loop-i-test.true (some_in (goal.at.remove_lead-requires c).Else-len-eq0)
-
-pub head_of-head-requires : goal.head_of-head-requires
-head_of-head-requires c = (c.loop-i.invariant.0.laid.eighteen, own-six c.loop-i.invariant.0)
-
-pub len_of-left-requires : goal.len_of-left-requires
-len_of-left-requires c = (c.loop-i.invariant.0.laid.eighteen, own-six c.loop-i.invariant.0)
-
-pub lead_coef-requires-then-larger-eq1 : goal.lead_coef-requires-then-larger-eq1
-lead_coef-requires-then-larger-eq1 c = (c.loop-i.invariant.0.laid, c.loop-i-test.true, some_in (goal.at.lead_coef-requires-then-larger-eq1 c).Else-len-eq0, c.loop-i.invariant.1.work-coefs, c.loop-i.invariant.1.coefs-long)
-
-pub overflow_add-head : goal.overflow_add-head
-overflow_add-head c = omega (arith, c.head_of-head.ensures, own-head c.loop-i.invariant.0, c.not_zero-gone.ensures.1)
-
-pub overflow_sub-left : goal.overflow_sub-left
-overflow_sub-left c = omega (arith, c.len_of-left.ensures, own-some c.loop-i.invariant.0, c.not_zero-gone.ensures.1)
-
-pub place-requires : goal.place-requires
-place-requires c = (c.loop-i.invariant.0.laid.eighteen, own-six c.loop-i.invariant.0)
 
 pub loop-i-preserved : goal.loop-i-preserved
 loop-i-preserved c =
@@ -67,15 +33,6 @@ loop-i-preserved c =
       | else-key-c+else-larger-eq1 w ↦
           rw (w.b-is, w.sc-is, w.wc-is, w.c-is) (on-past v.0 c.loop-i-test.true some numbers-order c.lead_key-key.ensures _ w.larger.ensures.0 w.if-larger-eq1.false w.if-key-c.false w.pass_by-c.ensures, v.1)
     ]
-
-pub shape_of-b : goal.shape_of-b
-shape_of-b c = c.loop-i.invariant.0.laid.eighteen ∙ sym c.requires.0.laid.eighteen
-
-pub shape_of-sc : goal.shape_of-sc
-shape_of-sc c = c.loop-i.invariant.1.coefs-long ∙ sym c.requires.1.coefs-long
-
-pub shape_of-wc : goal.shape_of-wc
-shape_of-wc c = c.loop-i.invariant.1.work-coefs ∙ sym c.requires.1.work-coefs
 
 pub returns : goal.returns
 returns c = seeks-end c.requires.0 c.loop-i.invariant.0 c.loop-i-test.false

@@ -34,9 +34,6 @@ lead_coef-coef-requires c = (c.requires.0.laid, inside (goal.at.lead_coef-coef-r
 pub remove_lead-requires : goal.remove_lead-requires
 remove_lead-requires c = removal (goal.at.remove_lead-requires c).Then-t-lt6
 
-pub candidate-requires : goal.candidate-requires
-candidate-requires c = (looked (goal.at.candidate-requires c).Then-t-lt6).0
-
 pub returns-then-t-lt6 : goal.returns-then-t-lt6
 returns-then-t-lt6 c =
     rw (c.in_words.ensures, c.candidate.ensures, c.lead_coef-coef.ensures) (taken-words c.args.order c.requires.0 (take-lead numbers-order (stands-canon c.requires.0) (from-long _ 0 6) (looked (goal.at.returns-then-t-lt6 c).Then-t-lt6).1 (found (goal.at.returns-then-t-lt6 c).Then-t-lt6) c.remove_lead.ensures))

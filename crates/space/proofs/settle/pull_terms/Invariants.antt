@@ -1,13 +1,9 @@
 -- `space::settle::pull_terms` meets its contract: after i turns the first i are put.
-use mathlib.Core.List.{map}
-use Prim.Native.Nat.{◌-◌}
-use Rattle.monomial.specs.Words.{from_key}
-use Rattle.merge_common.specs.Lent.{part}
-use Rattle.merge_common.proofs.Lists.{Begun}
+use Rattle.place.specs.Numbers.{key_numbers, word_numbers, from_key_by}
+use Rattle.space.proofs.PullLaws.{Pulled}
 use Rattle.space.proofs.settle.pull_terms.Given as goal
 
 abbrev pub invariant-loop-i : goal.invariant-loop-i
-invariant-loop-i l = Begun (map (from_key l.order) (part l.from l.n l.initial.sw)) l.initial.sw l.to l.sw l.i × Begun (map (λ c. c) (part l.from l.n l.initial.sc)) l.initial.sc l.to l.sc l.i
-
-abbrev pub decreases-loop-i : goal.decreases-loop-i
-decreases-loop-i l = l.n - l.i
+invariant-loop-i g l =
+    let w = g.K.Key.width in
+    Pulled (from_key_by w l.order) (key_numbers w l.initial.sw) (word_numbers w l.initial.sw) l.from l.to l.n (key_numbers w l.sw) (word_numbers w l.sw) l.i × Pulled (λ c. c) l.initial.sc l.initial.sc l.from l.to l.n l.sc l.sc l.i

@@ -1,12 +1,7 @@
-use Rattle.text.specs.Bytes.{same}
-use borrow.Author.Tests.{eq-eqb, ne_eqb}
+-- `text::bytes::is_word` meets its contract, by that of slices' `==`.
+use mathlib.Core.Path.{◌∙◌}
+use Rattle.text.proofs.ByteLaws.{same-code}
 use Rattle.text.proofs.bytes.is_word.Goals as goal
 
--- `text::bytes::is_word` meets its contract. Assumes nothing.
-pub returns-then-s-w : goal.returns-then-s-w
-unfolding same
-returns-then-s-w c = simp (ne_eqb _ _ c.if-s-w.true)
-
 pub returns : goal.returns
-unfolding same
-returns c = simp (eq-eqb _ _ c.if-s-w.false, c.starts_with.ensures)
+returns c = c.eq.ensures ∙ same-code c.args.w.now c.args.s.now

@@ -1,6 +1,6 @@
 -- `divide_odd` meets its contract: no number below d divides p but 1 and p, and once d * d is above p no other number does.
 use mathlib.Core.Path.{sym}
-use native.Mathlib.Nat.{mul-le-mul, mul-le-mul_right}
+use native.Mathlib.Nat.{mul-le-mul_right}
 use native.Mathlib.Omega.{arith}
 use Rattle.residue.proofs.Primality.{divisor-false}
 use Rattle.trial_division.proofs.TrialDivision.{at-root}
@@ -10,16 +10,10 @@ use Rattle.trial_division.proofs.divide_odd.divide_odd.Goals as goal
 pub loop-d-init : goal.loop-d-init
 loop-d-init c = odd-start _ _ c.requires.0 c.requires.1
 
-pub overflow_mul-d : goal.overflow_mul-d
-overflow_mul-d c = let l = c.loop-d.invariant.odd.small in omega (arith, mul-le-mul l l)
-
 pub returns-then-p-d-eq0 : goal.returns-then-p-d-eq0
 returns-then-p-d-eq0 c =
     let k = c.loop-d in
     sym (divisor-false _ _ (omega arith) (omega (arith, mul-le-mul_right k.d k.invariant.odd.three)) c.if-p-d-eq0.true)
-
-pub loop-d-smaller : goal.loop-d-smaller
-loop-d-smaller c = omega (arith, root-small c.loop-d.d c.args.p (omega arith) c.loop-d-test.true)
 
 pub loop-d-preserved : goal.loop-d-preserved
 loop-d-preserved c =

@@ -1,14 +1,9 @@
 -- `search::largest::Largest::meet` meets its contract.
 use mathlib.Core.Path.{◌∙◌}
-use native.Mathlib.Omega.{arith}
-use lib.Dec.{eqb}
-use Rattle.merge_common.proofs.Steps.{flag_small, chosen-one, chosen_none}
+use Rattle.merge_common.proofs.Steps.{chosen-one, chosen_none}
 use Rattle.search.proofs.LargestLaws.{met-is}
 use Rattle.search.proofs.largest.Largest.meet.Goals.{then-l-eq1, else-l-eq1}
 use Rattle.search.proofs.largest.Largest.meet.Goals as goal
-
-pub overflow_add-result-2 : goal.overflow_add-result-2
-overflow_add-result-2 c = omega (arith, c.requires.1, flag_small (eqb c.args.key c.args.self.key))
 
 pub returns : goal.returns
 returns c =
@@ -16,4 +11,4 @@ returns c =
     let a = c.args in
     met-is a.self a.bucket a.key l.ensures.0
     (elim c.if-l-eq1.branch [ then-l-eq1 w ↦ w.result-is ∙ chosen-one l.result a.bucket a.self.bucket w.if-l-eq1.true | else-l-eq1 w ↦ w.result-is ∙ chosen_none l.result a.bucket a.self.bucket l.ensures.1 w.if-l-eq1.false ])
-    c.choose_word.ensures
+    c.choose.ensures

@@ -1,0 +1,7 @@
+-- `block::places::put_places` meets its contract.
+use Rattle.polynomial.specs.Terms.{terms}
+use Rattle.block.proofs.BlockLaws.{Placed}
+use Rattle.block.proofs.places.put_places.Given as goal
+
+abbrev pub invariant-loop-i : goal.invariant-loop-i
+invariant-loop-i l = Placed (terms l.words l.coefs) l.initial.s l.at l.s l.i

@@ -1,9 +1,0 @@
--- `block_file::show::terms` meets its contract.
-use Rattle.std.proofs.Common.{◌-◌, ◌≤◌, length}
-use Rattle.block_file.proofs.show.terms.Given as goal
-
-abbrev pub invariant-loop-i : goal.invariant-loop-i
-invariant-loop-i g l = l.i ≤ length l.words
-
-abbrev pub decreases-loop-i : goal.decreases-loop-i
-decreases-loop-i g l = length l.words - l.i

@@ -1,9 +1,0 @@
--- `opening::setting::is_between` meets its contract, bound by bound.
-use borrow.Author.Tests.{le-leb, lt-leb}
-use Rattle.opening.proofs.setting.is_between.Goals as goal
-
-pub returns-then-x-low : goal.returns-then-x-low
-returns-then-x-low c = simp (lt-leb _ _ c.if-x-low.true)
-
-pub returns : goal.returns
-returns c = simp (le-leb _ _ c.if-x-low.false)

@@ -1,9 +1,0 @@
--- `back` goes through the n variables, at most 6: the measure is how many are left.
-use Rattle.std.proofs.Common.{◌-◌, ◌≤◌}
-use Rattle.samples.proofs.words.back.Given as goal
-
-abbrev pub invariant-loop-i : goal.invariant-loop-i
-invariant-loop-i g l = l.i ≤ l.n
-
-abbrev pub decreases-loop-i : goal.decreases-loop-i
-decreases-loop-i g l = l.n - l.i

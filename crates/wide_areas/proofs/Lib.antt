@@ -1,2 +1,0 @@
-pub mod StoredTwo
-pub mod RestTwo

@@ -1,2 +1,0 @@
-mod TwoKeys
-mod TwoPlaces

@@ -1,4 +1,0 @@
-pub mod Pulls
-pub mod WideLeads
-pub mod WideSettle
-pub mod WideInWords
