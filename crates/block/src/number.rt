@@ -28,8 +28,7 @@ pub fn get_number<const N: usize>(s: &[u8], at: usize) -> u64
     x
 }
 
-// The number of the 8 bytes from place `at` on.
-// Kept: by halves: the compiler makes one load of each. By one loop, reading took 1.4 times as long.
+// The number of the 8 bytes from place `at` on, by halves.
 pub fn get_word(s: &[u8], at: usize) -> u64
     requires { at + 8 ≤ length s.now }
     ensures { result ≡ number_at 8 at s.now }
