@@ -33,7 +33,7 @@ impl From<Answer> for RunAnswer {
                 places: done.places,
             },
             Err(stopped) => RunAnswer {
-                refusal: number_of(stopped.refusal) as u64,
+                refusal: u64::from(number_of(stopped.refusal)),
                 finished: stopped.finished,
                 places: stopped.places,
             },

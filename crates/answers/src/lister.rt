@@ -24,7 +24,7 @@ impl From<Listed> for ListingAnswer {
                 length: length as u64,
             },
             Err(refused) => ListingAnswer {
-                refusal: number_of(refused.refusal) as u64,
+                refusal: u64::from(number_of(refused.refusal)),
                 finished: refused.finished,
                 length: 0,
             },

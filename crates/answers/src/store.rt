@@ -39,7 +39,7 @@ impl From<Writing> for WriteAnswer {
                 blocks: written.blocks,
             },
             Err(refused) => WriteAnswer {
-                refusal: number_of(refused.refusal) as u64,
+                refusal: u64::from(number_of(refused.refusal)),
                 finished: refused.finished,
                 blocks: 0,
             },
@@ -55,14 +55,14 @@ impl From<Reading> for ReadAnswer {
             Ok(read) => ReadAnswer {
                 refusal: 0,
                 finished: 0,
-                p: read.p as u64,
-                order: read.order as u64,
-                n: read.n as u64,
+                p: u64::from(read.p),
+                order: u64::from(read.order),
+                n: u64::from(read.n),
                 weights: read.weights,
                 terms: read.terms,
             },
             Err(refused) => ReadAnswer {
-                refusal: number_of(refused.refusal) as u64,
+                refusal: u64::from(number_of(refused.refusal)),
                 finished: refused.finished,
                 p: 0,
                 order: 0,

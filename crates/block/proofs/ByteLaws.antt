@@ -1,12 +1,13 @@
 -- Bytes in a list: numbers put and got, and parts that are put one after the other. Assumes nothing.
-use Rattle.std.proofs.Common.{◌≡◌, ℕ, zero, suc, ◌+◌, ◌-◌, pow-suc, lit<, ◌*◌, ◌/◌, ◌%◌, ◌^◌, ◌<◌, ◌≤◌, List, [], ◌∷◌, ◌++◌, length, get_or, take, drop, set, sym, refl, ap, ◌∙◌, ap₂, append_assoc, add-zero, mul-zero, add-one, arith, length-take-le, length-drop, drop-cons, take-take, drop-drop, take_at, take-add, drop_at}
-use Rattle.std.proofs.Math.Nat.{pow-le-pow_right}
+use Rattle.std.proofs.Common.{◌≡◌, ℕ, zero, suc, ◌+◌, ◌-◌, pow-suc, w64, ◌*◌, ◌/◌, ◌%◌, ◌^◌, ◌<◌, ◌≤◌, List, [], ◌∷◌, ◌++◌, length, get_or, take, drop, replicate, slice_index, sym, refl, ap, ◌∙◌, ap₂, append_assoc, add-zero, mul-zero, add-one, le_of_lt, le_of_eq, arith, length-append, length-take-le, length-drop, drop-cons, take_all, take-suc, take-take, drop-drop, take_at, take-add, drop_at}
+use Rattle.std.proofs.Math.Nat.{div-div-eq-div-mul}
+use Rattle.std.specs.Int.{byte_at, byte_worth, bytes_low_first, sum_through, to_le_bytes, from_le_bytes}
 use lib.Seq.{sets, sets-eq}
 use Rattle.monomial.specs.Layout.{bytes, of_bytes}
 use Rattle.monomial.proofs.ByteLaws.{length-bytes, bytes_below, of_bytes_bytes, bytes_of}
 use Rattle.monomial.proofs.FieldLaws.{of_bytes-append}
 use Rattle.merge_common.specs.Lent.{part}
-use Rattle.merge_common.proofs.Lists.{sets-append}
+use Rattle.merge_common.proofs.Lists.{sets-append, length_part}
 use Rattle.block.specs.Block.{number_at}
 
 -- ---- parts
@@ -44,13 +45,20 @@ bytes_cut k x =
     ap (bytes k) e ∙ bytes_of k (bytes k x) 0 (length-bytes k x) (bytes_below k x)
 
 -- ---- numbers put
--- what is left to put at a byte, n of them, and after it
-pub put_byte : (s : List ℕ) (at i n x : ℕ) → i < n → sets (set s (at + i) (x % 256)) (at + (i + 1)) (bytes (n - (i + 1)) (x / 256)) ≡ sets s (at + i) (bytes (n - i) x)
+-- the library's bytes of a number from byte i on, and the first of them
+low_bytes : (k m i x : ℕ) → k ≤ m → take k (bytes_low_first i m x) ≡ bytes k (x / 256 ^ i)
 unfolding bytes
-put_byte s at i n x l =
-    let e : n - i ≡ suc (n - (i + 1)) = omega arith in
-    let f : at + (i + 1) ≡ suc (at + i) = omega arith in
-    rw (e, f)
+low_bytes zero m i x h = refl
+low_bytes (suc k) zero i x h = absurd (let z : ⊥ = omega arith in z)
+low_bytes (suc k) (suc m) i x h =
+    ap₂ ◌∷◌ (byte i) (low_bytes k m (suc i) x (omega arith) ∙ ap (bytes k) (ap (λ (n : ℕ). x / n) (pow-suc 256 i) ∙ sym (div-div-eq-div-mul x (256 ^ i) 256)))
+  where
+    byte : (i : ℕ) → byte_at i x ≡ x / 256 ^ i % 256
+    byte zero = omega arith
+    byte (suc i) = refl
+
+pub bytes_put : (k x : ℕ) → k ≤ 8 → take k (to_le_bytes w64 x) ≡ bytes k x
+bytes_put k x h = low_bytes k 8 0 x h ∙ ap (bytes k) (let e : x / 256 ^ 0 ≡ x = omega arith in e)
 
 -- a number that is another is put as that
 pub put_as : (s s1 : List ℕ) (at k x y : ℕ) → s1 ≡ sets s at (bytes k x) → x ≡ y → s1 ≡ sets s at (bytes k y)
@@ -61,26 +69,34 @@ pub joined : (s s1 s2 : List ℕ) (at : ℕ) (us vs : List ℕ) (k : ℕ) → at
 joined s s1 s2 at us vs k e f g = g ∙ (ap₂ (λ (l : List ℕ) (n : ℕ). sets l n vs) f (sym e) ∙ sym (sets-append s at us vs))
 
 -- ---- numbers got
--- the number of the bytes from the one before i on, by that of those from i on
-module _ (s : List ℕ) (at n i x b : ℕ) (l : 0 < i) (m : i ≤ n) (r : at + n ≤ length s) (e : b ≡ get_or s (at + (i - 1)) 0) where
-  pub number_more : x ≡ number_at (n - i) (at + i) s → 256 * x + b ≡ number_at (n - (i - 1)) (at + (i - 1)) s
-  number_more h =
-      let f : n - (i - 1) ≡ suc (n - i) = omega arith in
-      let o : at + (i - 1) + 1 ≡ at + i = omega arith in
-      let k = ap (λ (j : ℕ). number_at j (at + (i - 1)) s) f ∙ ap of_bytes (part-cons s (at + (i - 1)) (n - i) (omega arith)) in
-      let q = ap (λ (j : ℕ). number_at (n - i) j s) o in
-      omega (arith, k, q, h, e)
+-- the library's number of the first bytes
+first_bytes : (bs : List ℕ) (k : ℕ) → k < length bs → sum_through (λ (i : ℕ). byte_worth i (slice_index bs i)) k ≡ of_bytes (take (suc k) bs)
+first_bytes [] zero h = elim h [ ]
+first_bytes (b ∷ bs) zero h = omega arith
+first_bytes bs (suc k) h =
+    ap (λ (n : ℕ). n + get_or bs (suc k) 0 * 256 ^ suc k) (first_bytes bs k (omega arith))
+    ∙ (let e : of_bytes (take (suc k) bs) + get_or bs (suc k) 0 * 256 ^ suc k ≡ of_bytes (take (suc k) bs) + 256 ^ suc k * (get_or bs (suc k) 0 + 256 * 0) = omega arith in e)
+    ∙ sym (ap of_bytes (take-suc bs (suc k) 0 h) ∙ (of_bytes-append (take (suc k) bs) (get_or bs (suc k) 0 ∷ []) ∙ ap (λ (n : ℕ). of_bytes (take (suc k) bs) + 256 ^ n * (get_or bs (suc k) 0 + 256 * 0)) (length-take-le (suc k) bs (le_of_lt h))))
 
-  pub number_below : b < 256 → x < 256 ^ (n - i) → 256 * x + b < 256 ^ (n - (i - 1))
-  number_below u h =
-      let f : n - (i - 1) ≡ suc (n - i) = omega arith in
-      omega (arith, h, u, ap (λ (j : ℕ). 256 ^ j) f, pow-suc 256 (n - i))
+no_bytes : (n m : ℕ) → of_bytes (drop n (replicate m 0)) ≡ 0
+no_bytes zero zero = refl
+no_bytes zero (suc m) = omega (arith, no_bytes zero m)
+no_bytes (suc n) zero = refl
+no_bytes (suc n) (suc m) = no_bytes n m
 
--- of at most 8 bytes, with a byte more
-pub number_room : (n i x : ℕ) → 0 < i → i ≤ n → n ≤ 8 → x < 256 ^ (n - i) → 256 * x + 255 < 2 ^ 64
-number_room n i x l m v h =
-    let j : n - i ≤ 7 = omega arith in
-    omega (arith, h, pow-le-pow_right {n = 256} (lit< tt) j)
+-- the library's number of n bytes that were copied over the first of eight zeros
+module _ (s : List ℕ) (at n : ℕ) (ys : List ℕ) (l : n ≤ 8) (r : at + n ≤ length s) (e : ys ≡ part at (at + n - at) s) where
+  pub number_got : from_le_bytes w64 (ys ++ drop n (replicate 8 0)) ≡ number_at n at s
+  number_got =
+      let all = ys ++ drop n (replicate 8 0) in
+      let k : at + n - at ≡ n = omega arith in
+      let is = e ∙ ap (λ (j : ℕ). part at j s) k in
+      let m : length all ≡ 8 = omega (arith, length-append ys (drop n (replicate 8 0)), length-drop {A = ℕ} n (replicate 8 0), ap length is, length_part at n s r) in
+      first_bytes all 7 (omega arith)
+      ∙ (ap of_bytes (take_all 8 all (le_of_eq m))
+      ∙ (of_bytes-append ys (drop n (replicate 8 0))
+      ∙ (ap (λ (k : ℕ). of_bytes ys + 256 ^ length ys * k) (no_bytes n 8)
+      ∙ (ap (λ (k : ℕ). of_bytes ys + k) (mul-zero (256 ^ length ys)) ∙ (add-zero (of_bytes ys) ∙ ap of_bytes is)))))
 
 -- ---- bytes by place
 module _ (s : List ℕ) (at : ℕ) where
@@ -99,9 +115,3 @@ module _ (s : List ℕ) (at : ℕ) where
 
   pub number-2 : at + 2 ≤ length s → number_at 2 at s ≡ get_or s at 0 + 256 * get_or s (at + 1) 0
   number-2 h = ap of_bytes (part-2 h) ∙ (let e : get_or s at 0 + 256 * (get_or s (at + 1) 0 + 256 * 0) ≡ get_or s at 0 + 256 * get_or s (at + 1) 0 = omega arith in e)
-
-  pub number-8 : at + 8 ≤ length s → number_at 8 at s ≡ number_at 4 at s + 4294967296 * number_at 4 (at + 4) s
-  number-8 h =
-      ap of_bytes (part-append at 4 4 s)
-      ∙ (of_bytes-append (part at 4 s) (part (at + 4) 4 s)
-      ∙ ap (λ (n : ℕ). number_at 4 at s + 256 ^ n * number_at 4 (at + 4) s) (length-take-le 4 (drop at s) (omega (arith, length-drop at s))))

@@ -12,6 +12,8 @@ use crate::places::put_places;
 use polynomial::setting::Setting;
 
 // Puts block `number` of `count`, which holds these terms, from place `at` on.
+// Kept: the words and coefficients are two parameters. A struct of both would be taken apart for each clause,
+// `terms words coefs`, and again for `put_places`.
 pub fn put_block(
     words: &[u64],
     coefs: &[u32],

@@ -35,6 +35,7 @@ impl Header {
         requires { at + 16 ≤ length s.now }
         ensures { result ≡ same (part at 16 s.now) (header self.number self.count self.here self.setting) }
     {
+        // Kept: fixed memory, as the project has no heap: a header is sixteen bytes.
         let mut bytes = [0u8; 16];
         self.put(&mut bytes, 0);
         s[at..at + 16] == bytes[..]

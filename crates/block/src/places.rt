@@ -7,6 +7,8 @@ ghost use Rattle.block.specs.Block.{places};
 use crate::number::put_number;
 
 // Puts the terms into 12 bytes each, from place `at` on.
+// Kept: the words and coefficients are two parameters. A struct of both would be taken apart for each clause,
+// `terms words coefs`, and for the loop, which goes through the words.
 pub fn put_places(words: &[u64], coefs: &[u32], s: &mut [u8], at: usize)
     requires { (length coefs.now ≡ length words.now) × (at + 12 * length words.now ≤ length s.old) }
     ensures { s.new ≡ sets s.old at (places (terms words.now coefs.now)) }

@@ -1,10 +1,10 @@
 // The weights of x1 to x6 as one number of 24 bits: weight minus 1 in four bits each, x1's lowest.
-ghost use Rattle.std.specs.Prelude.{◌≡◌, ◌+◌, ◌%◌, ◌<◌, length};
+ghost use Rattle.std.specs.Prelude.{◌≡◌, ◌+◌, ◌%◌, ◌<◌};
 ghost use Rattle.block.specs.Block.{weight_number, weights_of};
 
 // The number of the weights.
-pub fn weight_number(weights: &[u32]) -> u32
-    requires { length weights.now ≡ 6 }
+// Kept: no type has four bits, so the halves are put and taken by arithmetic, here and below.
+pub fn weight_number(weights: &[u32; 6]) -> u32
     ensures { result ≡ weight_number weights.now }
 {
     let mut number = 0;

@@ -62,6 +62,8 @@ fn kept(
     words: &[u64],
     coefs: &[u32],
 ) -> io::Result<()> {
+    // Kept: fixed arrays, here and below, as the lengths are known (one block, two, the terms of one): each `Vec`
+    // would add an allocation that can fail.
     let mut bytes = [0u8; 512];
     match write_blocks(7, 3, 2, weights, words, coefs, &mut bytes) {
         Ok(written) => {

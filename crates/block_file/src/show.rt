@@ -1,6 +1,7 @@
 // What is written to standard output.
 ghost use Rattle.std.specs.Prelude.{◌≡◌, length};
 
+use block::weights::weights_of;
 use std::{fmt, io};
 
 // Bytes as text: two hexadecimal digits each, a space before each.
@@ -18,14 +19,13 @@ impl fmt::Display for Bytes<'_> {
 
 // The weights of x1 to x6, by their number in a header, where they are not all 1.
 pub fn weights(rt: &impl Print, number: u64) -> io::Result<()> {
+    // Kept: no Option: 0 is the number of six weights of 1, and no sign that there are none.
     if number == 0 {
         return Ok(());
     }
     print!(rt; "weights")?;
-    let mut left = number;
-    for _ in 0..6 {
-        print!(rt; " {}", left % 16 + 1)?;
-        left /= 16;
+    for weight in weights_of((number % 0x100_0000) as u32) {
+        print!(rt; " {weight}")?;
     }
     println!(rt)
 }
@@ -42,6 +42,7 @@ pub fn block(rt: &impl Print, bytes: &[u8]) -> io::Result<()>
 }
 
 // The first terms, a coefficient and a word to a line.
+// Kept: the length beside the slices: `take` cuts both at once; cut by the caller, each would have a range to prove.
 pub fn terms(rt: &impl Print, words: &[u64], coefs: &[u32], len: u64) -> io::Result<()> {
     for (word, coef) in words.iter().zip(coefs).take(len as usize) {
         println!(rt; "term {coef} {word:016x}")?;

@@ -31,7 +31,8 @@ pub fn load(rt: &(impl Files + Eprint + AllocGlobal), bytes: &mut [u8]) -> io::R
 }
 
 // Reads until bytes is full or the file ends, and answers how many bytes it put at the start of bytes.
-// Kept: no plainer: `read_exact` fails on a file that ends before, and `read_to_end` needs a heap.
+// Kept: a loop: `read_exact` fails where the file ends before bytes is full; `read_to_end` fills a `Vec`, no lent
+// slice. `read_input` of `bucketlist` promises more, of what is left unread, and so would one for both.
 fn read_full(file: &mut impl Read, bytes: &mut [u8]) -> io::Result<usize>
     ensures { ReadsAtMost result bytes.new }
 {
@@ -46,8 +47,9 @@ fn read_full(file: &mut impl Read, bytes: &mut [u8]) -> io::Result<usize>
     Ok(done)
 }
 
-// Kept: no plainer: `bucketlist` has the same, and a crate for one function of two programs would be more.
 // Says on standard error why the file cannot be opened, in the system's words without their number.
+// Kept: `bucketlist` has these lines too. To share them the two programs would need a third crate, a folder and
+// an entry of crates.txt with its own imports, for a function of five lines.
 fn fail(rt: &(impl Eprint + AllocGlobal), error: Error) -> io::Result<()> {
     let text = format!(in rt.alloc(); "{error}")?;
     if let Some((words, _)) = text.as_str().split_once(" (os error ") {

@@ -1,11 +1,6 @@
 -- The form of blocks of the first kind and of today's. Where p fits 16 bits and all weights are 1 they are the same; what else has today's form gets 16 from "a reader of the first kind". Assumes nothing.
-use mathlib.Core.Path.{◌≡◌, refl, sym, ap, ap₂, ◌∙◌}
-use mathlib.Core.Bool.{Bool, true, false, ◌&&◌, and-false}
-use mathlib.Core.List.{List, ◌++◌}
-use Prim.Native.Nat.{ℕ, zero, suc, ◌+◌, ◌/◌, ◌<◌, ◌≤◌}
-use native.Mathlib.Omega.{arith}
-use lib.Dec.{leb, eqb}
-use lib.ListN.{replicate}
+use Rattle.std.proofs.Common.{◌≡◌, refl, sym, ap, ap₂, ◌∙◌, Bool, true, false, ◌&&◌, List, ◌++◌, ℕ, zero, suc, ◌+◌, ◌/◌, ◌<◌, ◌≤◌, arith, leb, eqb, replicate}
+use mathlib.Core.Bool.{and-false}
 use Rattle.limits.specs.Limits.{most_terms}
 use Rattle.monomial.specs.Exponents.{ones}
 use Rattle.monomial.specs.Layout.{bytes, of_bytes, Below}

@@ -1,14 +1,8 @@
 -- Tests over all blocks, and what bytes that have the form of blocks are. Assumes nothing.
-use mathlib.Core.Path.{◌≡◌, refl, sym, ap, ap₂, ◌∙◌}
-use mathlib.Core.Bool.{Bool, true, false, ◌&&◌, and-false}
-use mathlib.Core.List.{List}
-use Prim.Native.Nat.{ℕ, zero, suc, ◌+◌, ◌*◌, ◌%◌, ◌<◌, ◌≤◌}
+use Rattle.std.proofs.Common.{◌≡◌, refl, sym, ap, ap₂, ◌∙◌, Bool, true, false, ◌&&◌, List, ℕ, zero, suc, ◌+◌, ◌*◌, ◌%◌, ◌<◌, ◌≤◌, add-one, arith, eqb-true, leb-true, eq-eqb, ne_eqb, le-leb, leb, eqb, length}
+use mathlib.Core.Bool.{and-false}
 use native.Mathlib.Decide.{dec_le}
-use native.Mathlib.Numerals.{add-one}
-use native.Mathlib.Omega.{arith}
-use borrow.Author.Tests.{eqb-true, leb-true, eq-eqb, ne_eqb, le-leb, lt-leb}
-use lib.Dec.{leb, eqb}
-use lib.ListN.{length}
+use borrow.Author.Tests.{lt-leb}
 use Rattle.limits.specs.Limits.{most_terms}
 use Rattle.monomial.proofs.Places.{and_both}
 use Rattle.polynomial.specs.Opening.{first}
@@ -68,22 +62,6 @@ module _ (s : List ℕ) (k count total here : ℕ) (t : Setting) (q : Counted s 
   by-filler r z w = w ∙ (filler-is ∙ sym (ap (λ (b : Bool). b && unused_clear s k (here_of (total_in s) k)) (sym header_is ∙ z)))
 
 -- ---- whole blocks
-module _ (len : ℕ) where
-  pub not-whole : (len % 512 ≡ 0 → ⊥) → false ≡ whole_blocks len
-  unfolding whole_blocks
-  not-whole h = sym (ap (λ (b : Bool). b && between 512 51200 len) (ne_eqb (len % 512) 0 h))
-
-  module _ (w : len % 512 ≡ 0) where
-    whole_by : (a b : Bool) → leb 512 len ≡ a → leb len 51200 ≡ b → (a && b) ≡ whole_blocks len
-    unfolding whole_blocks
-    whole_by a b e f = sym (ap₂ ◌&&◌ (eq-eqb (len % 512) 0 w) (ap₂ ◌&&◌ e f))
-
-    pub too_short : len < 512 → false ≡ whole_blocks len
-    too_short h = whole_by false (leb len 51200) (lt-leb 512 len h) refl
-
-    pub long-enough : 512 ≤ len → leb len 51200 ≡ whole_blocks len
-    long-enough h = whole_by true (leb len 51200) (le-leb 512 len h) refl
-
 pub record Whole (len : ℕ) : Type 0 where
   pub whole : len % 512 ≡ 0
   pub some : 512 ≤ len

@@ -1,14 +1,6 @@
 -- Demand 1 for the form of blocks: the refusal is the number of the first of document 01's conditions that does not hold. Bytes are below 256, as they come. Assumes nothing.
-use mathlib.Core.Path.{◌≡◌, refl, sym, ap, ap₂, ◌∙◌}
-use mathlib.Core.Bool.{true, ◌&&◌}
-use mathlib.Core.List.{List, [], ◌∷◌}
-use Prim.Native.Nat.{ℕ, zero, suc, ◌+◌, ◌-◌, ◌*◌, ◌/◌, ◌%◌, ◌^◌, ◌<◌, ◌≤◌}
+use Rattle.std.proofs.Common.{◌≡◌, refl, sym, ap, ap₂, ◌∙◌, true, ◌&&◌, List, [], ◌∷◌, ℕ, zero, suc, ◌+◌, ◌-◌, ◌*◌, ◌/◌, ◌%◌, ◌^◌, ◌<◌, ◌≤◌, add_comm, arith, eqb-true, eq-eqb, le-leb, eqb, length, get_or, drop, replicate}
 use native.Mathlib.Decide.{dec_le}
-use native.Mathlib.Nat.{add_comm}
-use native.Mathlib.Omega.{arith}
-use borrow.Author.Tests.{eqb-true, eq-eqb, le-leb}
-use lib.Dec.{eqb}
-use lib.ListN.{length, get_or, drop, replicate}
 use Rattle.monomial.specs.Layout.{Below}
 use Rattle.monomial.proofs.Places.{and_both, below_true, true_below}
 use Rattle.merge_common.specs.Lent.{part}

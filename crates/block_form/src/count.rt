@@ -9,10 +9,7 @@ use block::number::get_number;
 pub fn block_count(terms: usize) -> usize
     ensures { result ≡ block_count terms }
 {
-    if terms == 0 {
-        return 1;
-    }
-    (terms - 1) / 41 + 1
+    terms.div_ceil(41).max(1)
 }
 
 // How many of the terms go into block k.
@@ -20,21 +17,15 @@ pub fn here_of(total: usize, k: usize) -> usize
     requires { 41 * k ≤ total }
     ensures { result ≡ here_of total k }
 {
-    let left = total - 41 * k;
-    if left < 41 { left } else { 41 }
+    (total - 41 * k).min(41)
 }
 
 // Whether a slice of this length is 1 to 100 whole blocks.
+#[tactic(auto, unfolding(crate::specs::Form::whole_blocks))]
 pub fn whole_blocks(len: usize) -> bool
     ensures { result ≡ whole_blocks len }
 {
-    if len % 512 != 0 {
-        return false;
-    }
-    if len < 512 {
-        return false;
-    }
-    len <= 51200
+    len % 512 == 0 && (512..=51200).contains(&len)
 }
 
 // The terms in the blocks, by the last one.

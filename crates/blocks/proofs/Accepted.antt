@@ -1,12 +1,7 @@
 -- Bytes that reading accepts are the blocks of the polynomial that it gives. Assumes nothing.
-use mathlib.Core.Path.{◌≡◌, refl, sym, ap, ap₂, ◌∙◌}
-use mathlib.Core.Bool.{true}
-use mathlib.Core.List.{List, [], ◌∷◌, ◌++◌, append-nil}
-use Prim.Native.Nat.{ℕ, zero, suc, ◌+◌, ◌-◌, ◌*◌, ◌<◌, ◌≤◌}
-use native.Mathlib.Omega.{arith}
-use borrow.Author.Tests.{eqb-true}
-use lib.ListN.{length, get_or, take, drop, replicate, length-map}
-use lib.Seq.{take_all, take-suc, take-add, take-length, get_or-take, get_or-drop}
+use Rattle.std.proofs.Common.{◌≡◌, refl, sym, ap, ap₂, ◌∙◌, true, List, [], ◌∷◌, ◌++◌, append-nil, ℕ, zero, suc, ◌+◌, ◌-◌, ◌*◌, ◌<◌, ◌≤◌, arith, eqb-true, length, get_or, take, drop, replicate, take_all, take-suc, take-add, get_or-take, get_or-drop}
+use lib.ListN.{length-map}
+use lib.Seq.{take-length}
 use Rattle.monomial.specs.Layout.{bytes, Below}
 use Rattle.monomial.proofs.Places.{and_both, true_below}
 use Rattle.monomial.proofs.Places as M

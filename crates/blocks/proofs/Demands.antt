@@ -1,10 +1,6 @@
 -- The customer's demands, for the block store: what holds of every call that writes or reads blocks, by its defined outcome (`write_outcome`, `read_outcome`). Bytes are below 256, as they come. Assumes nothing.
-use mathlib.Core.Path.{◌≡◌, refl, sym, ap, ap₂, ◌∙◌, subst}
-use mathlib.Core.List.{List, [], ◌∷◌, ◌++◌, append-nil}
-use Prim.Native.Nat.{ℕ, zero, suc, ◌*◌, ◌≤◌}
-use native.Mathlib.Omega.{arith}
-use lib.ListN.{length, take, drop, length-map, drop_of_length-le}
-use lib.Seq.{take_at}
+use Rattle.std.proofs.Common.{◌≡◌, refl, sym, ap, ap₂, ◌∙◌, subst, List, [], ◌∷◌, ◌++◌, append-nil, ℕ, zero, suc, ◌*◌, ◌≤◌, arith, length, take, drop, drop_of_length-le, take_at}
+use lib.ListN.{length-map}
 use Rattle.monomial.specs.Layout.{Below}
 use Rattle.refusal.specs.Judgement.{Judged, OneOf}
 use Rattle.polynomial.specs.Terms.{Term, terms, words, coefs}

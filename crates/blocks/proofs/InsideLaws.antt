@@ -1,11 +1,8 @@
 -- What lies where in the blocks of a polynomial. Assumes nothing.
-use mathlib.Core.Path.{◌≡◌, refl, sym, ap, ◌∙◌}
-use mathlib.Core.List.{List, [], ◌∷◌, ◌++◌}
-use Prim.Native.Nat.{ℕ, zero, suc, ◌+◌, ◌-◌, ◌*◌, ◌<◌, ◌≤◌}
+use Rattle.std.proofs.Common.{◌≡◌, refl, sym, ap, ◌∙◌, List, [], ◌∷◌, ◌++◌, ℕ, zero, suc, ◌+◌, ◌-◌, ◌*◌, ◌<◌, ◌≤◌, arith, length, get_or, take, drop, length-drop, take_all}
 use native.Mathlib.Decide.{dec_le}
-use native.Mathlib.Omega.{arith}
-use lib.ListN.{length, get_or, take, drop, length-replicate, length-drop}
-use lib.Seq.{take_all, take-append-le, drop-append-le, drop-append-add}
+use lib.ListN.{length-replicate}
+use lib.Seq.{take-append-le, drop-append-le, drop-append-add}
 use Rattle.monomial.specs.Layout.{bytes}
 use Rattle.monomial.proofs.ByteLaws.{length-bytes}
 use Rattle.polynomial.specs.Terms.{Term, term}

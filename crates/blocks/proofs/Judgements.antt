@@ -1,12 +1,5 @@
 -- The refusals of writing and of reading blocks are those that the documents' conditions come to, and which numbers can come at all. Assumes nothing.
-use mathlib.Core.Path.{◌≡◌, refl, sym, ap, ap₂, ◌∙◌}
-use mathlib.Core.Bool.{true, ◌&&◌}
-use mathlib.Core.List.{List, [], ◌∷◌, ◌++◌}
-use Prim.Native.Nat.{ℕ, ◌*◌, ◌≤◌}
-use native.Mathlib.Omega.{arith}
-use borrow.Author.Tests.{eqb-true, leb-true, eq-eqb, le-leb}
-use lib.Dec.{leb, eqb}
-use lib.ListN.{length}
+use Rattle.std.proofs.Common.{◌≡◌, refl, sym, ap, ap₂, ◌∙◌, true, ◌&&◌, List, [], ◌∷◌, ◌++◌, ℕ, ◌*◌, ◌≤◌, arith, eqb-true, leb-true, eq-eqb, le-leb, leb, eqb, length}
 use Rattle.limits.specs.Limits.{most_terms, weight_count}
 use Rattle.monomial.specs.Layout.{Below}
 use Rattle.monomial.proofs.Places.{and_both}

@@ -1,13 +1,7 @@
 -- Document 02, "Larger primes.", for the block store: where p lies in the blocks, and what the entries of the first kind (`first_kind_written`, `first_kind_read`) make of it. Assumes nothing.
-use mathlib.Core.Path.{◌≡◌, refl, sym, ap, ap₂, ◌∙◌}
-use mathlib.Core.Bool.{Bool, true, false, ◌&&◌}
-use mathlib.Core.List.{List, [], ◌∷◌, ◌++◌}
-use Prim.Native.Nat.{ℕ, suc, ◌+◌, ◌*◌, ◌/◌, ◌%◌, ◌<◌, ◌≤◌}
+use Rattle.std.proofs.Common.{◌≡◌, refl, sym, ap, ap₂, ◌∙◌, Bool, true, false, ◌&&◌, List, [], ◌∷◌, ◌++◌, ℕ, suc, ◌+◌, ◌*◌, ◌/◌, ◌%◌, ◌<◌, ◌≤◌, arith, eqb-true, leb-true, ltb-true, le-leb, leb, ltb, eqb, length, get_or, take, drop, length-append}
 use native.Mathlib.Decide.{dec_le}
-use native.Mathlib.Omega.{arith}
-use borrow.Author.Tests.{eqb-true, leb-true, ltb-true, le-leb, lt-leb}
-use lib.Dec.{leb, ltb, eqb}
-use lib.ListN.{length, get_or, take, drop, length-append}
+use borrow.Author.Tests.{lt-leb}
 use Rattle.residue.specs.Prime.{Prime, is_prime}
 use Rattle.residue.proofs.Primality.{prime-none, true-prime}
 use Rattle.monomial.specs.Exponents.{ones}

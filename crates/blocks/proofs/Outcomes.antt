@@ -1,8 +1,5 @@
 -- Outcomes on named calls, worked out from the definitions: wrong programs differ from them there. Assumes nothing.
-use mathlib.Core.Path.{◌≡◌, refl}
-use mathlib.Core.List.{List, [], ◌∷◌, ◌++◌}
-use Prim.Native.Nat.{ℕ, zero, suc, ◌+◌, ◌*◌, ◌/◌, ◌%◌, ◌^◌}
-use lib.ListN.{replicate}
+use Rattle.std.proofs.Common.{◌≡◌, refl, List, [], ◌∷◌, ◌++◌, ℕ, zero, suc, ◌+◌, ◌*◌, ◌/◌, ◌%◌, ◌^◌, replicate}
 use Rattle.refusal.specs.declared.Refusal.TheVariants.{BadShape, TooManyTerms, NotBlocks, BadCheck, BadWeight}
 use Rattle.residue.specs.Prime.{is_prime, no_divisor}
 use Rattle.monomial.specs.Exponents.{ones}

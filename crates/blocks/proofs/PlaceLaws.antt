@@ -1,15 +1,10 @@
 -- The terms in blocks, place by place. Assumes nothing.
-use mathlib.Core.Path.{◌≡◌, refl, sym, ap, ap₂, ◌∙◌}
-use mathlib.Core.Bool.{Bool, true, false}
-use mathlib.Core.List.{List, [], ◌∷◌, ◌++◌, map, map-append}
-use Prim.Native.Nat.{ℕ, zero, suc, ◌+◌, ◌*◌, ◌/◌, ◌%◌, ◌<◌, ◌≤◌}
+use Rattle.std.proofs.Common.{◌≡◌, refl, sym, ap, ap₂, ◌∙◌, Bool, true, false, List, [], ◌∷◌, ◌++◌, map, ℕ, zero, suc, ◌+◌, ◌*◌, ◌/◌, ◌%◌, ◌<◌, ◌≤◌, mod-eq_of_lt, add-one, arith, eq-eqb, ne_eqb, length, get_or, set, drop, length-append, length-set, drop-cons}
+use mathlib.Core.List.{map-append}
 use native.Mathlib.Decide.{dec_le}
-use native.Mathlib.Nat.{mul-add-mod_self_left, mod-eq_of_lt}
-use native.Mathlib.Numerals.{add-one}
-use native.Mathlib.Omega.{arith}
-use borrow.Author.Tests.{eq-eqb, ne_eqb}
-use lib.ListN.{length, get_or, set, drop, length-append, length-map, length-set, get_or-append}
-use lib.Seq.{sets, get_or_at, drop-cons}
+use native.Mathlib.Nat.{mul-add-mod_self_left}
+use lib.ListN.{length-map, get_or-append}
+use lib.Seq.{sets, get_or_at}
 use Rattle.monomial.specs.declared.order.Order.{Order}
 use Rattle.monomial.specs.Words.{compare_words}
 use Rattle.polynomial.specs.Terms.{Term, term, words, coefs}

@@ -1,11 +1,7 @@
 -- The outcome of reading, at each of its returns. Assumes nothing.
-use mathlib.Core.Path.{◌≡◌, refl, sym, ap, ap₂, ◌∙◌}
-use mathlib.Core.List.{List, ◌++◌}
-use Prim.Native.Nat.{ℕ, zero, suc, ◌+◌, ◌<◌, ◌≤◌}
-use native.Mathlib.Omega.{arith}
-use borrow.Author.Tests.{leb-true, le-leb, lt-leb}
-use lib.Dec.{leb, eqb}
-use lib.ListN.{length, drop, length-map}
+use Rattle.std.proofs.Common.{◌≡◌, refl, sym, ap, ap₂, ◌∙◌, List, ◌++◌, ℕ, zero, suc, ◌+◌, ◌<◌, ◌≤◌, arith, leb-true, le-leb, leb, eqb, length, drop}
+use borrow.Author.Tests.{lt-leb}
+use lib.ListN.{length-map}
 use lib.Seq.{sets, sets-eq}
 use Rattle.refusal.specs.Table.{listed}
 use Rattle.polynomial.specs.Terms.{Term, words, coefs}

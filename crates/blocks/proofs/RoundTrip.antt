@@ -1,14 +1,5 @@
 -- Reading what was written gives the same setting and polynomial. Assumes nothing.
-use mathlib.Core.Path.{◌≡◌, sym, ap, ap₂, ◌∙◌}
-use mathlib.Core.Bool.{true, ◌&&◌}
-use mathlib.Core.List.{List, [], ◌∷◌, ◌++◌}
-use Prim.Native.Nat.{ℕ, zero, suc, ◌+◌, ◌-◌, ◌*◌, ◌/◌, ◌%◌, ◌^◌, ◌<◌, ◌≤◌}
-use native.Mathlib.Nat.{mod-lt}
-use native.Mathlib.Omega.{arith}
-use borrow.Author.Tests.{eq-eqb, le-leb}
-use lib.Dec.{lit<, leb}
-use lib.ListN.{length, get_or, drop}
-use lib.Seq.{ext_get_or, get_or-take, get_or-drop}
+use Rattle.std.proofs.Common.{◌≡◌, sym, ap, ap₂, ◌∙◌, true, ◌&&◌, List, [], ◌∷◌, ◌++◌, ℕ, zero, suc, ◌+◌, ◌-◌, ◌*◌, ◌/◌, ◌%◌, ◌^◌, ◌<◌, ◌≤◌, mod-lt, arith, eq-eqb, le-leb, lit<, leb, length, get_or, drop, ext_get_or, get_or-take, get_or-drop}
 use Rattle.limits.specs.Limits.{largest_prime, most_terms}
 use Rattle.monomial.specs.Exponents.{order_of, Positive}
 use Rattle.monomial.specs.Layout.{bytes, of_bytes, Below, Layout}

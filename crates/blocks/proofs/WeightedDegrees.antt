@@ -1,10 +1,5 @@
 -- Document 02, "Weighted degrees.", for the block store: where the weights lie in the blocks, what a reader of the first kind makes of them, and 24 in reading. Assumes nothing.
-use mathlib.Core.Path.{◌≡◌, refl, sym, ap, ◌∙◌}
-use mathlib.Core.Bool.{Bool, true, false}
-use mathlib.Core.List.{List, ◌++◌}
-use Prim.Native.Nat.{ℕ, ◌+◌, ◌-◌, ◌*◌, ◌<◌, ◌≤◌}
-use native.Mathlib.Omega.{arith}
-use lib.ListN.{length, get_or, take, drop, length-append}
+use Rattle.std.proofs.Common.{◌≡◌, refl, sym, ap, ◌∙◌, Bool, true, false, List, ◌++◌, ℕ, ◌+◌, ◌-◌, ◌*◌, ◌<◌, ◌≤◌, arith, length, get_or, take, drop, length-append}
 use Rattle.limits.specs.Limits.{most_variables}
 use Rattle.refusal.specs.declared.Refusal.TheVariants.{BadWeight}
 use Rattle.residue.proofs.Primality.{prime-true}

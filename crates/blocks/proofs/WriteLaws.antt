@@ -1,15 +1,8 @@
 -- Blocks put one after the other, and the outcome of writing at each of its returns. Assumes nothing.
-use mathlib.Core.Path.{◌≡◌, refl, sym, ap, ap₂, ◌∙◌}
-use mathlib.Core.Bool.{true, ◌&&◌}
-use mathlib.Core.List.{List, ◌++◌}
-use Prim.Native.Nat.{ℕ, zero, suc, ◌+◌, ◌-◌, ◌*◌, ◌<◌, ◌≤◌, min}
+use Rattle.std.proofs.Common.{◌≡◌, refl, sym, ap, ap₂, ◌∙◌, true, ◌&&◌, List, ◌++◌, ℕ, zero, suc, ◌+◌, ◌-◌, ◌*◌, ◌<◌, ◌≤◌, min, add-one, arith, eqb-true, leb-true, eq-eqb, ne_eqb, le-leb, leb, eqb, length, take, drop, length-append, length-take, length-drop, take_all}
 use native.Mathlib.Decide.{dec_le}
-use native.Mathlib.Numerals.{add-one}
-use native.Mathlib.Omega.{arith}
-use borrow.Author.Tests.{eqb-true, leb-true, eq-eqb, ne_eqb, le-leb, lt-leb}
-use lib.Dec.{leb, eqb}
-use lib.ListN.{length, take, drop, length-append, length-take, length-drop}
-use lib.Seq.{sets, sets-eq, length-sets, take_all}
+use borrow.Author.Tests.{lt-leb}
+use lib.Seq.{sets, sets-eq, length-sets}
 use Rattle.limits.specs.Limits.{most_terms, weight_count}
 use Rattle.refusal.specs.Table.{listed}
 use Rattle.monomial.proofs.Places.{and_both}

@@ -14,6 +14,7 @@ use opening::setting::setting;
 use refusal::{Refusal, Refused};
 
 // What was read: the setting, with the weights as one number as a header has them, and how many terms.
+// Kept: may not change: `read_outcome` states the order and the weights of the answer as these numbers.
 #[derive(Clone, Copy, Debug, PartialEq, Eq)]
 pub struct Read {
     pub p: u32,
@@ -42,7 +43,7 @@ pub fn read_blocks(s: &[u8], words: &mut [u64], coefs: &mut [u32]) -> Reading
         p: t.p,
         order: t.order,
         n: t.n,
-        weights: weight_number(&weights) as u64,
+        weights: u64::from(weight_number(&weights)),
         terms: total as u64,
     })
 }

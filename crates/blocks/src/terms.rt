@@ -8,7 +8,7 @@ ghost use Rattle.polynomial.specs.Opening.{polynomial_refusal};
 ghost use Rattle.block_form.specs.Form.{Lying};
 ghost use Rattle.blocks.specs.Reading.{next_place, first_terms};
 
-use block::number::{get_number, get_word};
+use block::number::get_number;
 use monomial::exponents::weight_word;
 use monomial::layout::beyond_bits;
 use monomial::order::order_of;
@@ -30,7 +30,8 @@ fn next_place(at: usize) -> usize
 
 // Checks the terms as a polynomial in a setting: the first place with 4 or 5, and else 6 where they do
 // not fall. One pass over the places.
-// Kept: what may not change: `check_fall` takes and gives the number in `late`, 0 or 6.
+// Kept: `seen` and `last` apart, and a number in `late`, 0 or 6, since `check_fall` takes and gives them so.
+// Kept: `Testable t` is asked, and no type has it: a `Setting` is also what a header says before it is tested.
 pub fn check_terms(t: Setting, s: &[u8], total: usize) -> Result<(), Refusal>
     requires { Testable t × Lying s.now total }
     ensures { refusal_in result ≡ polynomial_refusal t (first_terms s.now total) }
@@ -45,8 +46,8 @@ pub fn check_terms(t: Setting, s: &[u8], total: usize) -> Result<(), Refusal>
     let mut seen = false;
     let mut last = 0;
     let mut at = 16;
-    for i in 0..total {
-        let word = get_word(s, at);
+    for _i in 0..total {
+        let word = get_number::<8>(s, at);
         late = check_fall(order, seen, last, word, late);
         seen = true;
         last = word;
@@ -68,7 +69,7 @@ pub fn get_terms(s: &[u8], total: usize, ow: &mut [u64], oc: &mut [u32])
 {
     let mut at = 16;
     for i in 0..total {
-        ow[i] = get_word(s, at);
+        ow[i] = get_number::<8>(s, at);
         oc[i] = get_number::<4>(s, at + 8) as u32;
         at = next_place(at);
     }

@@ -80,6 +80,8 @@ fn write_refusal(
 }
 
 // Puts all blocks of the polynomial from place 0 on.
+// Kept: the words and coefficients are two parameters. A struct of both would be taken apart for each clause,
+// `terms words coefs`, and made anew for the part that each block gets.
 fn put_blocks(t: Setting, words: &[u64], coefs: &[u32], count: usize, s: &mut [u8])
     requires { (length coefs.now ≡ length words.now) × (length words.now ≤ most_terms) × (count ≡ block_count (length words.now)) × (512 * count ≤ length s.old) }
     ensures { s.new ≡ sets s.old 0 (first_blocks count t (terms words.now coefs.now) count) }

@@ -12,6 +12,8 @@ use std::io::{Error, Read};
 
 // One byte more than the longest script: a longer input is not of the form, and is not cut.
 fn main(rt: HostRuntime) -> io::Result<()> {
+    // Kept: two buffers of a fixed size, as scripts and listings have a longest length: each `Vec` would add
+    // an allocation that can fail.
     let mut script = [0u8; 16385];
     let bytes = match read_input(&mut rt.stdin(), &mut script) {
         Ok(bytes) => bytes,
@@ -35,8 +37,8 @@ fn read_input<R: Read>(input: &mut R, bytes: &mut [u8]) -> io::Result<usize>
     ensures end { IfOk result (λ n. n < 16385 → IsAtEnd (R.remaining input.new)) }
 {
     let mut done: usize = 0;
-    // Kept: the loop counts the bytes, since `read_exact` takes no shorter input, and the other methods of
-    // `Read` fill no lent slice.
+    // Kept: the loop counts the bytes: `read_exact` takes no shorter input, and the methods that read to the
+    // end fill a `Vec` or a `String`, no lent slice.
     while done < bytes.len() {
         let more = input.read(&mut bytes[done..])?;
         if more == 0 {
@@ -47,20 +49,22 @@ fn read_input<R: Read>(input: &mut R, bytes: &mut [u8]) -> io::Result<usize>
     Ok(done)
 }
 
+// Kept: the length beside the buffer: `get` tests it here, once; cut by the caller, the same test stands in `main`.
 fn write_listing(
     rt: &(impl Print + Eprint + AllocGlobal),
     out: &[u8],
     length: usize,
 ) -> io::Result<()> {
-    if length <= out.len() {
-        if let Err(error) = rt.write_all(&out[..length]) {
-            return fail(rt, "standard output", error);
-        }
-    }
-    Ok(())
+    let Some(text) = out.get(..length) else {
+        return Ok(());
+    };
+    rt.write_all(text)
+        .or_else(|error| fail(rt, "standard output", error))
 }
 
 // Says on standard error what failed and why, in the system's words without their number.
+// Kept: `block_file` has nearly the same, and `read_full` for `read_input`: a crate for the two would cost
+// each program a dependency.
 fn fail(rt: &(impl Eprint + AllocGlobal), what: &str, error: Error) -> io::Result<()> {
     let text = format!(in rt.alloc(); "{error}")?;
     if let Some((words, _)) = text.as_str().split_once(" (os error ") {

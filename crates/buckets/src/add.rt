@@ -13,7 +13,7 @@ use crate::level::{Level, level_for};
 use crate::up::{merge_up, other_area};
 use limits::MOST_TERMS;
 use merge_common::keys::{put_keys, put_terms};
-use monomial::order::Order;
+use polynomial::ring::Ring;
 use space::state::{head_of, place, side_of, turn};
 
 // Past the areas, the work space has room for a polynomial that is small: one of buckets 0 to 4 takes it.
@@ -22,9 +22,11 @@ pub const FREE: usize = 5456;
 pub const MOST_SMALL: usize = 1024;
 
 // Adds the polynomial f, and gives the comparisons.
+// Kept: the lent slices as parameters of their own, and `WordAddition`, `Slices` and `Addition` on all of them at
+// once, here and below: as fields of a struct of `&mut` slices, a contract would name each one before and after,
+// and say of each that it is still the slice that was lent, which a parameter says of itself.
 pub fn add_polynomial(
-    order: Order,
-    p: u32,
+    ring: Ring,
     b: &mut [usize],
     fw: &[u64],
     fc: &[u32],
@@ -33,42 +35,18 @@ pub fn add_polynomial(
     ww: &mut [u64],
     wc: &mut [u32],
 ) -> u64
-    requires { WordAddition order p (spaces b.old ww.old wc.old sw.old sc.old) fw.now fc.now × Slices ww.old wc.old sw.old sc.old }
-    ensures { Added order p (spaces b.old ww.old wc.old sw.old sc.old) (terms fw.now fc.now) (spaces b.new ww.new wc.new sw.new sc.new) result }
+    requires { WordAddition ring.order ring.p (spaces b.old ww.old wc.old sw.old sc.old) fw.now fc.now × Slices ww.old wc.old sw.old sc.old }
+    ensures { Added ring.order ring.p (spaces b.old ww.old wc.old sw.old sc.old) (terms fw.now fc.now) (spaces b.new ww.new wc.new sw.new sc.new) result }
 {
     if fw.len() > MOST_SMALL {
-        return add_large(order, p, b, fw, fc, sw, sc);
+        return add_large(ring, b, fw, fc, sw, sc);
     }
-    put_and_add(order, p, b, fw, fc, sw, sc, ww, wc)
-}
-
-// The same where polynomials are mostly small, as in runs. A large one is handed on, so that the array for
-// its keys is not in this function's frame, of which each page is touched at each call.
-// Kept: no twin of add_polynomial, since where the large array stands is all that it is for.
-pub fn add_mostly_small(
-    order: Order,
-    p: u32,
-    b: &mut [usize],
-    fw: &[u64],
-    fc: &[u32],
-    sw: &mut [u64],
-    sc: &mut [u32],
-    ww: &mut [u64],
-    wc: &mut [u32],
-) -> u64
-    requires { WordAddition order p (spaces b.old ww.old wc.old sw.old sc.old) fw.now fc.now × Slices ww.old wc.old sw.old sc.old }
-    ensures { Added order p (spaces b.old ww.old wc.old sw.old sc.old) (terms fw.now fc.now) (spaces b.new ww.new wc.new sw.new sc.new) result }
-{
-    if fw.len() > MOST_SMALL {
-        return add_polynomial(order, p, b, fw, fc, sw, sc, ww, wc);
-    }
-    put_and_add(order, p, b, fw, fc, sw, sc, ww, wc)
+    put_and_add(ring, b, fw, fc, sw, sc, ww, wc)
 }
 
 // A small polynomial is put past the areas of the work space, with keys for words, and added from there.
 fn put_and_add(
-    order: Order,
-    p: u32,
+    ring: Ring,
     b: &mut [usize],
     fw: &[u64],
     fc: &[u32],
@@ -77,30 +55,32 @@ fn put_and_add(
     ww: &mut [u64],
     wc: &mut [u32],
 ) -> u64
-    requires { WordAddition order p (spaces b.old ww.old wc.old sw.old sc.old) fw.now fc.now × Slices ww.old wc.old sw.old sc.old × (length fw.now ≤ most_small) }
-    ensures { Added order p (spaces b.old ww.old wc.old sw.old sc.old) (terms fw.now fc.now) (spaces b.new ww.new wc.new sw.new sc.new) result }
+    requires { WordAddition ring.order ring.p (spaces b.old ww.old wc.old sw.old sc.old) fw.now fc.now × Slices ww.old wc.old sw.old sc.old × (length fw.now ≤ most_small) }
+    ensures { Added ring.order ring.p (spaces b.old ww.old wc.old sw.old sc.old) (terms fw.now fc.now) (spaces b.new ww.new wc.new sw.new sc.new) result }
 {
-    put_terms::<u64>(order, fw, fc, ww, wc, FREE);
-    add_small(p, b, fw.len(), sw, sc, ww, wc)
+    put_terms::<u64>(ring.order, fw, fc, ww, wc, FREE);
+    add_small(ring.p, b, fw.len(), sw, sc, ww, wc)
 }
 
-// A polynomial that is not small goes to the last bucket.
+// A polynomial that is not small goes to the last bucket. Its local array of 32 KiB is to be made only where it
+// is called: each page of a frame is touched at each call, and the additions of a run are mostly small.
+// Kept: a fixed array of the most terms, as the engine has no heap.
+#[inline(never)]
 fn add_large(
-    order: Order,
-    p: u32,
+    ring: Ring,
     b: &mut [usize],
     fw: &[u64],
     fc: &[u32],
     sw: &mut [u64],
     sc: &mut [u32],
 ) -> u64
-    requires { Large order p b.old fw.now fc.now sw.old sc.old }
-    ensures { LastMerged p b.old (terms (map (key_of order) fw.now) fc.now) (last_at b.old sw.old sc.old) sw.new sc.new b.new result × (map (from_key order) (map (key_of order) fw.now) ≡ fw.now) }
+    requires { Large ring.order ring.p b.old fw.now fc.now sw.old sc.old }
+    ensures { LastMerged ring.p b.old (terms (map (key_of ring.order) fw.now) fc.now) (last_at b.old sw.old sc.old) sw.new sc.new b.new result × (map (from_key ring.order) (map (key_of ring.order) fw.now) ≡ fw.now) }
 {
     let mut keys = [0u64; MOST_TERMS];
-    put_keys::<u64>(order, fw, &mut keys, 0);
+    put_keys::<u64>(ring.order, fw, &mut keys, 0);
     let n = fw.len();
-    merge_last(p, b, &keys[0..n], fc, sw, sc)
+    merge_last(ring.p, b, &keys[0..n], fc, sw, sc)
 }
 
 // Adds the polynomial f of n terms that lies, with keys for words, past the areas of the work space, and
@@ -126,6 +106,8 @@ pub fn add_small(
 
 // Merges so many terms at `first` with the lowest bucket, to its free area. While the result is larger than the
 // bucket, the bucket is emptied, and the result merged with the next one; the last one takes what comes.
+// Kept: `while`: a Level goes on by `next`, with its zone and its capacity. Over `l.bucket..5` a number that is
+// not read would be counted beside it, and the invariant would have to say that it is the Level's.
 fn carry(
     p: u32,
     b: &mut [usize],

@@ -26,6 +26,7 @@ impl Level {
 }
 
 // The lowest bucket whose capacity is at least n.
+// Kept: `while`: no index is counted, since how many turns are made is what is looked for.
 pub fn level_for(n: usize) -> Level
     requires { n ≤ most_terms }
     ensures { LevelFor n result }

@@ -8,6 +8,8 @@ use merge_areas::merge_areas;
 use space::state::{clear, head_of, len_of, side_of};
 
 // Where a full sum lies in the bucket space, and the comparisons.
+// Kept: beside `Placed`: that is where a merge ends in its room (`PlacedIn`), and this a sum that no bucket holds
+// any more (`SumDone`, and on the way `AreasSummed`); the head of a bucket is what `head` names elsewhere.
 #[derive(Clone, Copy)]
 pub struct Summed {
     pub from: usize,

@@ -1,13 +1,15 @@
 -- The list of operations: its test, pair by pair. Assumes nothing.
 use mathlib.Core.Path.{◌≡◌, refl, sym, ap, ◌∙◌}
-use mathlib.Core.Bool.{Bool, false, ◌&&◌, and-false}
+use mathlib.Core.Bool.{Bool, true, false, ◌&&◌, and-false}
 use mathlib.Core.List.{List, [], ◌∷◌}
 use Prim.Native.Nat.{ℕ, zero, suc, ◌+◌, ◌*◌}
 use native.Mathlib.Omega.{arith}
 use lib.ListN.{length, get_or}
 use Rattle.std.specs.List.{list_all}
 use Rattle.std.specs.Simd.{first_chunks}
-use Rattle.conditions.specs.Operations.{operation_good, operations_good}
+use borrow.Author.Tests.{eqb-true}
+use lib.Dec.{eqb}
+use Rattle.conditions.specs.Operations.{operation_good, operations_good, code_of, index_of, operation_from, operation}
 
 -- a list of whole pairs is good where each pair is
 pub pairs-good : (k : ℕ) (ops : List ℕ) (m : ℕ) → length ops ≡ 2 * k → list_all (λ (pair : List ℕ). operation_good (get_or pair 0 0) (get_or pair 1 0) m) (first_chunks 2 k ops) ≡ operations_good ops m
@@ -25,3 +27,12 @@ left-over k [] m h = absurd (let z : ⊥ = omega arith in z)
 left-over k (a ∷ []) m h = refl
 left-over zero (a ∷ (b ∷ ops)) m h = absurd (let z : ⊥ = omega arith in z)
 left-over (suc k) (a ∷ (b ∷ ops)) m h = sym (and-false (operation_good a b m)) ∙ ap (λ (r : Bool). operation_good a b m && r) (left-over k ops m (omega arith))
+
+-- one that is read as an addition has code 1, and adds polynomial k
+pub adds-pair : (code k : ℕ) → code_of (operation code k) ≡ 1 → (code ≡ 1) × (index_of (operation code k) ≡ k)
+adds-pair code k = by (eqb code 1) (eqb code 2) refl
+  where
+    by : (one two : Bool) → eqb code 1 ≡ one → code_of (operation_from one two k) ≡ 1 → (code ≡ 1) × (index_of (operation_from one two k) ≡ k)
+    by true two f e = (eqb-true code 1 f, refl)
+    by false true f e = absurd (let z : ⊥ = omega (arith, e) in z)
+    by false false f e = absurd (let z : ⊥ = omega (arith, e) in z)

@@ -8,7 +8,7 @@ use native.Mathlib.Omega.{arith}
 use borrow.Author.Tests.{lt-ltb, ltb-true, eq-eqb, ne_eqb, eqb-true}
 use lib.Dec.{eqb}
 use Rattle.monomial.proofs.Places.{and_both}
-use Rattle.conditions.specs.Operations.{operation_by, operation_good, operations_good, GoodOperation, GoodOperations}
+use Rattle.conditions.specs.Operations.{operation_by, operation_good, operations_good, GoodOperation, GoodOperations, pair_of, operation}
 use Rattle.conditions.proofs.Tests.{both, clash}
 
 operation-good : (code k n : ℕ) → operation_good code k n ≡ true → GoodOperation code k n
@@ -44,3 +44,10 @@ unfolding operations_good
 good-operations [] n g = refl
 good-operations (code ∷ []) n g = absurd g
 good-operations (code ∷ (k ∷ ops)) n g = both (operation_good code k n) (operations_good ops n) (good-operation code k n g.0) (good-operations ops n g.1)
+
+-- a good pair has the numbers of its operation
+pub pair-back : (code k n : ℕ) → operation_good code k n ≡ true → pair_of (operation code k) ≡ code ∷ (k ∷ [])
+pair-back code k n e = ⊎_elim (λ a. at 1 k a.0 refl refl) (λ a. ⊎_elim (λ two. at 2 0 two a.0 refl) (λ three. at 3 0 three a.0 refl) a.1) (operation-good code k n e)
+  where
+    at : (c j : ℕ) → code ≡ c → k ≡ j → pair_of (operation c j) ≡ c ∷ (j ∷ []) → pair_of (operation code k) ≡ code ∷ (k ∷ [])
+    at c j f g h = rw (f, g) h

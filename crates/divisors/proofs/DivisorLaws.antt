@@ -1,21 +1,16 @@
 -- The search for a fitting divisor. Assumes nothing.
-use mathlib.Core.Path.{◌≡◌, subst}
+use mathlib.Core.Path.{◌≡◌, ◌∙◌, subst}
 use mathlib.Core.Bool.{true, false}
 use mathlib.Core.List.{List}
 use mathlib.Core.Logic.{◌⊎◌, inl, inr}
 use Prim.Native.Nat.{ℕ, ◌+◌, ◌-◌, ◌<◌, ◌≤◌}
 use native.Mathlib.Decide.{dec_le}
 use native.Mathlib.Omega.{arith}
-use lib.ListN.{length, get_or}
+use lib.ListN.{length, take, get_or}
+use lib.Seq.{get_or-take, length-take-le}
 use Rattle.std.specs.Prelude.{Option, Some, None, MatchOption}
 use Rattle.monomial.specs.Words.{divides_word}
 use Rattle.divisors.specs.Divisors.{lead_word, Leads, FirstFit, FirstOf, KeptLeads, KeptCount}
-
--- ---- the leads from `from` on and before k do not divide α
-pub record Scanned (lead : ℕ → ℕ) (α from past k : ℕ) : Type 0 where
-  pub low : from ≤ k
-  pub high : k ≤ past
-  pub before : (j : ℕ) → from ≤ j → j < k → divides_word (lead j) α ≡ false
 
 -- ---- the leads that are kept
 pub same_or_not : (j k : ℕ) → (j ≡ k) ⊎ (j ≡ k → ⊥)
@@ -34,22 +29,29 @@ pub record LeadsPut (words starts : List ℕ) (n : ℕ) (leads : List ℕ) (i : 
 
 -- ---- the first that fits, of those kept and then of the others
 module _ {words starts leads : List ℕ} {n : ℕ} (l : Leads words starts) (k : KeptLeads words starts leads) (c : KeptCount (length starts) n) where
-  kept_at : (j : ℕ) → j < n → get_or leads j 0 ≡ lead_word words starts (j + 1)
-  kept_at j h = k.each j (omega (arith, c.few)) (omega (arith, c.high))
+  taken_at : (j : ℕ) → j < n → get_or (take n leads) j 0 ≡ lead_word words starts (j + 1)
+  taken_at j h = get_or-take n leads j 0 h ∙ k.each j (omega (arith, c.few)) (omega (arith, c.high))
 
-  module _ {α i : ℕ} (f : FirstOf (λ j. get_or leads j 0) α 0 n i) where
+  many : length (take n leads) ≡ n
+  many = length-take-le n leads (omega (arith, k.long, c.few))
+
+  -- the search among those that are kept is over the first n
+  module _ {α i : ℕ} (f : FirstOf (λ j. get_or (take n leads) j 0) α 0 (length (take n leads)) i) where
     unfit-kept : (j : ℕ) → 1 ≤ j → j < i + 1 → divides_word (lead_word words starts j) α ≡ false
     unfit-kept j a b =
         subst (λ (x : ℕ). divides_word (lead_word words starts x) α ≡ false) (let z : j - 1 + 1 ≡ j = omega arith in z)
-        (subst (λ (x : ℕ). divides_word x α ≡ false) (kept_at (j - 1) (omega (arith, f.high))) (f.before (j - 1) (omega arith) (omega arith)))
+        (subst (λ (x : ℕ). divides_word x α ≡ false) (taken_at (j - 1) (omega (arith, f.high, many))) (f.before (j - 1) (omega arith) (omega arith)))
 
-    pub fit-kept : i < n → FirstFit words starts α (i + 1)
-    fit-kept h = record {
-      low = omega arith;
-      high = omega (arith, c.high);
-      before = unfit-kept;
-      here = λ q. subst (λ (x : ℕ). divides_word x α ≡ true) (kept_at i h) (f.here h);
-    }
+    pub fit-kept : i < length (take n leads) → FirstFit words starts α (i + 1) × (i + 1 + 1 < length starts)
+    fit-kept h = let q : i < n = omega (arith, many) in (
+      record {
+        low = omega arith;
+        high = omega (arith, c.high);
+        before = unfit-kept;
+        here = λ r. subst (λ (x : ℕ). divides_word x α ≡ true) (taken_at i q) (f.here h);
+      },
+      omega (arith, c.high),
+    )
 
     fit-past : n ≤ i → {r : ℕ} → FirstOf (lead_word words starts) α (n + 1) (length starts - 1) r → FirstFit words starts α r
     fit-past h {r} g = record {
@@ -64,6 +66,6 @@ module _ {words starts leads : List ℕ} {n : ℕ} (l : Leads words starts) (k :
         by j a b (no q) = unfit-kept j a (omega arith)
 
   -- what the search past those that are kept gives, where none of these fits
-  pub fit-rest : {α : ℕ} → FirstOf (λ j. get_or leads j 0) α 0 n n → (r : Option ℕ) → MatchOption r (FirstOf (lead_word words starts) α (n + 1) (length starts - 1) (length starts - 1)) (λ i. FirstOf (lead_word words starts) α (n + 1) (length starts - 1) i × (i + 1 < length starts)) → MatchOption r (FirstFit words starts α (length starts - 1)) (λ i. FirstFit words starts α i × (i + 1 < length starts))
-  fit-rest f None g = fit-past f (omega arith) g
-  fit-rest f (Some i) g = (fit-past f (omega arith) g.0, g.1)
+  pub fit-rest : {α : ℕ} → FirstOf (λ j. get_or (take n leads) j 0) α 0 (length (take n leads)) (length (take n leads)) → (r : Option ℕ) → MatchOption r (FirstOf (lead_word words starts) α (n + 1) (length starts - 1) (length starts - 1)) (λ i. FirstOf (lead_word words starts) α (n + 1) (length starts - 1) i × (i + 1 < length starts)) → MatchOption r (FirstFit words starts α (length starts - 1)) (λ i. FirstFit words starts α i × (i + 1 < length starts))
+  fit-rest f None g = fit-past f (omega (arith, many)) g
+  fit-rest f (Some i) g = (fit-past f (omega (arith, many)) g.0, g.1)

@@ -48,10 +48,9 @@ pub record KeptCount (m n : ℕ) : Type 0 where
   pub high : n + 2 ≤ m
   pub all : n < 1024 → n + 2 ≡ m
 
--- n words, and one that they may divide
-pub record Scannable (leads : List ℕ) (n α : ℕ) : Type 0 where
-  pub there : n ≤ length leads
-  pub packed : (j : ℕ) → j < n → Packed (get_or leads j 0)
+-- words, and one that they may divide
+pub record Scannable (leads : List ℕ) (α : ℕ) : Type 0 where
+  pub packed : (j d : ℕ) → j < length leads → Packed (get_or leads j d)
   pub word : Packed α
 
 -- a number below p is kept in one number of 64 bits with its share of p above it: in the low 16 bits, with the share in parts of 2 ^ 48, where p is at most 2 ^ 16, and else in the low 32 bits, with the share in parts of 2 ^ 32

@@ -8,19 +8,26 @@ ghost use Rattle.residue.specs.Share.{FactorOf};
 ghost use Rattle.divisors.specs.Divisors.{lead_coef, in_one, inverse_in, PutOrNot, Inverting, Multiplying};
 
 use crate::kept::kept_or;
+use polynomial::part::Polynomials;
 use residue::factor::Factor;
 use residue::inverse::invert;
 
-const HALF: u64 = 65536;
+// The largest p for which the low 16 bits hold a number below p.
+const SMALL: u32 = 65536;
 
-const WORD: u64 = 4294967296;
+// 2^16, 2^32 and 2^48
+const HALF: u64 = 0x1_0000;
+
+const WORD: u64 = 0x1_0000_0000;
+
+const PARTS: u64 = 0x1_0000_0000_0000;
 
 // The inverse of the lead coefficient of divisor k, in one number, which is kept.
-pub fn lead_inverse(p: u32, coefs: &[u32], starts: &[usize], k: usize, kept: &mut [u64]) -> u64
-    requires { Inverting p coefs.now starts.now k kept.old }
-    ensures { (result ≡ in_one p (inverse_of p (lead_coef coefs.now starts.now k))) × PutOrNot k (k - 1) result kept.old kept.new }
+pub fn lead_inverse(p: u32, ps: Polynomials, k: usize, kept: &mut [u64]) -> u64
+    requires { Inverting p ps.coefs.now ps.starts.now k kept.old }
+    ensures { (result ≡ in_one p (inverse_of p (lead_coef ps.entry.coefs.now ps.entry.starts.now k))) × PutOrNot k (k - 1) result kept.old kept.new }
 {
-    let c = coefs[starts[k]];
+    let c = ps.coefs[ps.starts[k]];
     kept_or(kept, 0, k, || inverse_in_one(c, p))
 }
 
@@ -32,57 +39,43 @@ fn inverse_in_one(c: u32, p: u32) -> u64
     in_one(invert(c, p), p)
 }
 
-// The factor x times the inverse that is kept.
+// The factor x times the inverse that is kept. For a large p the inverse is a factor itself, and its product with
+// x makes a new one. For a small p, with the inverse's share in parts of 2^48, one product gives the quotient and
+// the factor's share at once.
 pub fn factor_by(p: u32, x: u32, kept: u64) -> Factor
     requires { Multiplying p x kept }
     ensures { FactorOf p (product p x (inverse_in p kept)) result }
 {
-    if p > 65536 {
-        factor_of_32(p, x, kept)
-    } else {
-        factor_of_16(p, x, kept)
+    if p > SMALL {
+        let inverse = Factor {
+            value: (kept % WORD) as u32,
+            share: (kept / WORD) as u32,
+            prime: p,
+        };
+        return Factor::new(inverse.times(x), p);
     }
-}
-
-// Kept: factor_of_16 and factor_of_32 have only the contract in common, so one for both is no plainer.
-// The same for a p of at most 2^16. With the inverse's share in parts of 2^48 one product gives the
-// quotient and the factor's share at once.
-fn factor_of_16(p: u32, x: u32, kept: u64) -> Factor
-    requires { Multiplying p x kept × (p ≤ 65536) }
-    ensures { FactorOf p (product p x (inverse_in p kept)) result }
-{
-    let whole = x as u64 * (kept % HALF);
-    let estimate = kept / HALF * x as u64 / HALF;
-    let share = correct(whole * WORD, estimate, p as u64);
+    let whole = u64::from(x) * (kept % HALF);
+    let estimate = kept / HALF * u64::from(x) / HALF;
+    let share = correct(whole * WORD, estimate, u64::from(p));
     Factor {
-        value: (whole - share / WORD * p as u64) as u32,
+        value: (whole - share / WORD * u64::from(p)) as u32,
         share: (share % WORD) as u32,
         prime: p,
     }
 }
 
-// The same for a larger p: the inverse is a factor itself, and its product with x makes a new one.
-fn factor_of_32(p: u32, x: u32, kept: u64) -> Factor
-    requires { Multiplying p x kept × (65536 < p) }
-    ensures { FactorOf p (product p x (inverse_in p kept)) result }
-{
-    let inverse = Factor {
-        value: (kept % WORD) as u32,
-        share: (kept / WORD) as u32,
-        prime: p,
-    };
-    Factor::new(inverse.times(x), p)
-}
-
 // A number below p in one number with its share: the one division.
+// Kept: a value and its share in one number. A struct would take 16 bytes for each of 1,024 inverses on the stack,
+// since for a small p the share has 48 bits; and 0 could not stand for one that was not asked for.
 fn in_one(value: u32, p: u32) -> u64
     requires { Modulus p × (value < p) }
     ensures { result ≡ in_one p value }
 {
-    if p <= 65536 {
-        value as u64 * 281474976710656 / p as u64 * HALF + value as u64
+    let v = u64::from(value);
+    if p <= SMALL {
+        v * PARTS / u64::from(p) * HALF + v
     } else {
-        value as u64 * WORD / p as u64 * WORD + value as u64
+        v * WORD / u64::from(p) * WORD + v
     }
 }
 

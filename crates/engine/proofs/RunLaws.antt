@@ -3,50 +3,48 @@ use mathlib.Core.Path.{◌≡◌, refl, sym, ap, ap₂, ◌∙◌, subst}
 use mathlib.Core.Bool.{Bool, true, false}
 use mathlib.Core.List.{List, [], ◌∷◌}
 use mathlib.Core.Logic.{◌⊎◌, ⊎_elim}
-use Prim.Native.Nat.{ℕ, suc, ◌+◌, ◌-◌, ◌*◌, ◌<◌, ◌≤◌, Ordering}
+use Prim.Native.Nat.{ℕ, zero, suc, ◌+◌, ◌-◌, ◌*◌, ◌/◌, ◌<◌, ◌≤◌, Ordering}
 use native.Mathlib.Numerals.{add-one}
 use native.Mathlib.Omega.{arith}
-use borrow.Author.Tests.{eq-eqb}
 use lib.Dec.{eqb}
 use lib.ListN.{length, drop, get_or, drop_of_length-le}
 use lib.Seq.{drop-cons, drop-drop}
+use Rattle.std.specs.Simd.{first_chunks}
 use Rattle.monomial.specs.declared.order.Order.{Order}
 use Rattle.monomial.specs.Words.{compare_words}
 use Rattle.polynomial.specs.Terms.{terms}
-use Rattle.polynomial.specs.Opening.{part_of, Within}
-use Rattle.polynomial.proofs.StartLaws.{part-long}
+use Rattle.polynomial.specs.Opening.{part_of}
 use Rattle.geobucket.specs.Buckets.{held}
 use Rattle.space.specs.Space.{Buckets, Spaces, spaces, Slices}
 use Rattle.space.proofs.InWords.{words-none}
 use Rattle.call.specs.declared.state.State.{State}
 use Rattle.call.specs.States as C
 use Rattle.call.specs.States.{goes_on}
-use Rattle.call.specs.Lending.{polynomial, Output, Addend, Lent}
+use Rattle.call.specs.Lending.{polynomial, Output, Lent}
 use Rattle.call.proofs.StandLaws.{none-stands}
+use Rattle.conditions.specs.declared.operations.Operation.{Operation as Asked}
+use Rattle.conditions.specs.declared.operations.Operation.TheVariants.{Add}
+use Rattle.conditions.specs.Operations.{code_of, index_of, operation_from, operation}
+use Rattle.conditions.proofs.OperationLaws.{adds-pair}
 use Rattle.run_outcome.specs.Runs.{Operation, adds, Running, begun, operate, operate_all, operation_by, operation_of, operations_of}
 use Rattle.operations.specs.States.{StandsFor, Counting, Operated, AddOperated}
 use Rattle.engine.specs.States.{Operable, Loaded, RanAll}
 
--- ---- the part that is polynomial k
-module _ {o : Order} {p : ℕ} {words coefs starts : List ℕ} {code k : ℕ} {s : State} {x : Spaces} {ow oc : List ℕ} (a : Operable o p words coefs starts code k s x ow oc) where
-  module _ (one : code ≡ 1) where
-    pub words-there : Within starts k (length words)
-    words-there = (a.there one).0
+-- ---- an operation as a value: an addition is of polynomial k, and one that was read is that of its pair
+module _ (words coefs starts : List ℕ) where
+  abbrev named : Asked → Operation
+  named q = operation_of words coefs starts (code_of q) (index_of q)
 
-    pub coefs-there : Within starts k (length coefs)
-    coefs-there = subst (Within starts k) (sym a.long) words-there
+  pub one-operated : {o : Order} {p k : ℕ} {s s' : State} {x x' : Spaces} {ow oc fw fc : List ℕ} {q : Asked} → q ≡ Add k → fw ≡ part_of starts k words → fc ≡ part_of starts k coefs → Output s.places ow oc → AddOperated o p (terms fw fc) s x s' x' → Operated o p (named q) s x ow oc s' x' ow oc
+  one-operated {o} {p} {k} {s} {s'} {x} {x'} {ow} {oc} is ew ec a d = subst (λ (r : Operation). Operated o p r s x ow oc s' x' ow oc) (ap₂ (λ (l m : List ℕ). adds (terms l m)) ew ec ∙ sym (ap named is)) (d.done ow oc a)
 
-    module _ {fw fc : List ℕ} (ew : fw ≡ part_of starts k words) (ec : fc ≡ part_of starts k coefs) where
-      pub addend : Addend (compare_words o) p fw fc
-      addend = record {
-        long = ap length ec ∙ (part-long starts k coefs coefs-there ∙ sym (ap length ew ∙ part-long starts k words words-there));
-        canonical = rw (ew, ec) (a.there one).1;
-      }
-
-      pub one-operated : {s' : State} {x' : Spaces} → AddOperated o p (terms fw fc) s x s' x' → Operated o p (operation_of words coefs starts code k) s x ow oc s' x' ow oc
-      one-operated {s'} {x'} d =
-          let e : adds (terms fw fc) ≡ operation_of words coefs starts code k = ap₂ (λ (l m : List ℕ). adds (terms l m)) ew ec ∙ sym (ap (λ (y : Bool). operation_by y (eqb code 2) (polynomial words coefs starts k)) (eq-eqb code 1 one)) in
-          subst (λ (q : Operation). Operated o p q s x ow oc s' x' ow oc) e (d.done ow oc a.output)
+  named-read : (code k : ℕ) → named (operation code k) ≡ operation_of words coefs starts code k
+  named-read code k = by (eqb code 1) (eqb code 2)
+    where
+      by : (one two : Bool) → named (operation_from one two k) ≡ operation_by one two (polynomial words coefs starts k)
+      by true two = refl
+      by false true = refl
+      by false false = refl
 
 -- ---- the rest of a list, from a state that may be stopped
 module _ (cmp : ℕ → ℕ → Ordering) (p places : ℕ) where
@@ -68,6 +66,21 @@ module _ (cmp : ℕ → ℕ → Ordering) (p places : ℕ) where
   resume-stopped : (os : List Operation) (t : Running) → eqb t.stop 0 ≡ false → resume os t ≡ t
   unfolding resume
   resume-stopped os t e = rw (e, resume) refl
+
+-- ---- pair j of a list of whole pairs
+pair-at : (k j : ℕ) (ops : List ℕ) → j < k → length ops ≡ 2 * k → (get_or (get_or (first_chunks 2 k ops) j []) 0 0 ≡ get_or ops (2 * j) 0) × (get_or (get_or (first_chunks 2 k ops) j []) 1 0 ≡ get_or ops (2 * j + 1) 0)
+pair-at zero j ops h e = absurd (let z : ⊥ = omega arith in z)
+pair-at (suc k) j [] h e = absurd (let z : ⊥ = omega arith in z)
+pair-at (suc k) j (a ∷ []) h e = absurd (let z : ⊥ = omega arith in z)
+pair-at (suc k) zero (a ∷ (b ∷ ops)) h e = (refl, refl)
+pair-at (suc k) (suc j) (a ∷ (b ∷ ops)) h e =
+    let r = pair-at k j ops (omega arith) (omega arith) in
+    (r.0 ∙ ap (λ (n : ℕ). get_or (a ∷ (b ∷ ops)) n 0) (let z : suc (suc (2 * j)) ≡ 2 * suc j = omega arith in z), r.1 ∙ ap (λ (n : ℕ). get_or (a ∷ (b ∷ ops)) n 0) (let z : suc (suc (2 * j + 1)) ≡ 2 * suc j + 1 = omega arith in z))
+
+pub asked-at : {q : Asked} {ps : List (List ℕ)} (ops : List ℕ) (j : ℕ) → ps ≡ first_chunks 2 (length ops / 2) ops → j < length ops / 2 → length ops ≡ 2 * (length ops / 2) → q ≡ operation (get_or (get_or ps j []) 0 0) (get_or (get_or ps j []) 1 0) → q ≡ operation (get_or ops (2 * j) 0) (get_or ops (2 * j + 1) 0)
+asked-at ops j front h e is =
+    let r = pair-at (length ops / 2) j ops h e in
+    is ∙ (ap (λ (ps : List (List ℕ)). operation (get_or (get_or ps j []) 0 0) (get_or (get_or ps j []) 1 0)) front ∙ ap₂ operation r.0 r.1)
 
 -- ---- the loop: the next operation is pair j, at place i
 pub record Going (o : Order) (p : ℕ) (words coefs starts ops ow₀ oc₀ : List ℕ) (x : Spaces) (ww wc bw bc ow oc : List ℕ) (s : State) (i : ℕ) : Type 0 where
@@ -129,6 +142,18 @@ module _ {o : Order} {p : ℕ} {words coefs starts ops : List ℕ} (l : Loaded o
       pub second : i + 1 < length ops
       second = omega (arith, in_pairs, g.at, l.whole)
 
+      pub operable : {q : Asked} → q ≡ operation (get_or ops i 0) (get_or ops (i + 1) 0) → Operable o p words coefs starts (code_of q) (index_of q) s x ow oc
+      operable is = rw is (record {
+        counting = g.counting;
+        output = g.output;
+        more = omega (arith, in_pairs, g.few, l.most);
+        long = l.long;
+        there = λ one.
+            let a = adds-pair (get_or ops i 0) (get_or ops (i + 1) 0) one in
+            let k : get_or ops (i + 1) 0 + 1 < length starts = subst (λ (n : ℕ). get_or ops (n + 1) 0 + 1 < length starts) (sym g.at) (l.there g.pair in_pairs (ap (λ (n : ℕ). get_or ops n 0) (sym g.at) ∙ a.0)) in
+            rw a.1 (l.parts (get_or ops (i + 1) 0) k, l.canonical (get_or ops (i + 1) 0) k);
+      })
+
       next-ops : operations_of words coefs starts (drop i ops) ≡ operation_of words coefs starts (get_or ops i 0) (get_or ops (i + 1) 0) ∷ operations_of words coefs starts (drop (i + 2) ops)
       unfolding operations_of
       next-ops =
@@ -141,10 +166,11 @@ module _ {o : Order} {p : ℕ} {words coefs starts ops : List ℕ} (l : Loaded o
           let z : a + (b - a) ≡ b = omega arith in
           ap (λ (n : ℕ). drop n k) (sym z) ∙ (sym (drop-drop (b - a) a k) ∙ (ap (drop (b - a)) e ∙ (drop-drop (b - a) a l ∙ ap (λ (n : ℕ). drop n l) z)))
 
-      pub going_on : {s' : State} {x' : Spaces} {ww' wc' bw' bc' ow' oc' : List ℕ} → Operated o p (operation_of words coefs starts (get_or ops i 0) (get_or ops (i + 1) 0)) s x ow oc s' x' ow' oc' → length ww' ≡ length ww → length wc' ≡ length wc → length bw' ≡ length bw → length bc' ≡ length bc → length ow' ≡ length ow → length oc' ≡ length oc
+      pub going_on : {s' : State} {x' : Spaces} {ww' wc' bw' bc' ow' oc' : List ℕ} {asked : Asked} → asked ≡ operation (get_or ops i 0) (get_or ops (i + 1) 0) → Operated o p (named words coefs starts asked) s x ow oc s' x' ow' oc' → length ww' ≡ length ww → length wc' ≡ length wc → length bw' ≡ length bw → length bc' ≡ length bc → length ow' ≡ length ow → length oc' ≡ length oc
           → Going o p words coefs starts ops ow₀ oc₀ x' ww' wc' bw' bc' ow' oc' s' (i + 2)
-      going_on {s'} {x'} {ww'} {wc'} {bw'} {bc'} {ow'} {oc'} d lw lc lbw lbc low loc =
+      going_on {s'} {x'} {ww'} {wc'} {bw'} {bc'} {ow'} {oc'} is done lw lc lbw lbc low loc =
           let q = operation_of words coefs starts (get_or ops i 0) (get_or ops (i + 1) 0) in
+          let d : Operated o p q s x ow oc s' x' ow' oc' = subst (λ (r : Operation). Operated o p r s x ow oc s' x' ow' oc') (ap (named words coefs starts) is ∙ named-read words coefs starts (get_or ops i 0) (get_or ops (i + 1) 0)) done in
           let t = g.running in
           let rest = operations_of words coefs starts (drop (i + 2) ops) in
           record {

@@ -48,25 +48,25 @@ first-six exps exps' es h e =
         sets-out (sets exps 0 (take 6 (map capped es))) (0 + length (take 6 (map capped es))) (drop 6 (map capped es)) (omega (arith, length-sets exps 0 (take 6 (map capped es)), length-take 6 (map capped es)))
 
 -- ---- the term, return by return
-module _ (o : Order) (vs : List ℕ) (n : ℕ) (s : List ℕ) (k : ℕ) (is : k ≡ 0 + index_of 58 s) where
-  pub no-colon : k ≡ length s → None ≡ parsed o vs (entry_of n s)
+module _ (o : Order) (vs : List ℕ) (n : ℕ) (s : List ℕ) where
+  pub no-colon : index_of 58 s ≡ length s → None ≡ parsed o vs (entry_of n s)
   unfolding entry_of
   no-colon e = sym (ap (λ (b : Bool). parsed o vs (entry_by b n (index_of 58 s) s)) (le-ltb (index_of 58 s) (length s) (omega arith)))
 
-  module _ (l : k < length s) where
-    colon : entry_of n s ≡ entry_at n k s
-    colon = entry-at n k s (omega arith) (omega arith)
+  module _ {l r : List ℕ} (x : (index_of 58 s < length s) × (l ≡ take (index_of 58 s) s) × (r ≡ drop (index_of 58 s + 1) s)) where
+    colon : entry_of n s ≡ entry_at n (index_of 58 s) s
+    colon = entry-at n (index_of 58 s) s refl x.0
 
-    pub no-coef : number_of (take k s) ≡ none → None ≡ parsed o vs (entry_of n s)
+    pub no-coef : number_of l ≡ none → None ≡ parsed o vs (entry_of n s)
     unfolding and_then
-    no-coef e = sym (ap (parsed o vs) (colon ∙ ap (λ (y : Option ℕ). and_then y (λ v. and_then (exponents_of n (drop (suc k) s)) (λ es. some (record { coef = v; exps = es })))) e))
+    no-coef e = sym (ap (parsed o vs) (colon ∙ ap (λ (y : Option ℕ). and_then y (λ v. and_then (exponents_of n (drop (suc (index_of 58 s)) s)) (λ es. some (record { coef = v; exps = es })))) (ap number_of (sym x.1) ∙ e)))
 
-    module _ (c : ℕ) (e : number_of (take k s) ≡ some c) (r : List ℕ) (d : r ≡ drop (k + 1) s) where
-      exps-at : (x : Option (List ℕ)) → exponents_of n r ≡ x → entry_of n s ≡ and_then x (λ es. some (record { coef = c; exps = es }))
+    module _ {c : ℕ} (e : number_of l ≡ some c) where
+      exps-at : (y : Option (List ℕ)) → exponents_of n r ≡ y → entry_of n s ≡ and_then y (λ es. some (record { coef = c; exps = es }))
       unfolding and_then
-      exps-at x q =
-          let z : drop (suc k) s ≡ r = ap (λ (i : ℕ). drop i s) (sym (add-one k)) ∙ sym d in
-          colon ∙ (ap (λ (y : Option ℕ). and_then y (λ v. and_then (exponents_of n (drop (suc k) s)) (λ es. some (record { coef = v; exps = es })))) e ∙ (ap (λ (y : List ℕ). and_then (exponents_of n y) (λ es. some (record { coef = c; exps = es }))) z ∙ ap (λ (y : Option (List ℕ)). and_then y (λ es. some (record { coef = c; exps = es }))) q))
+      exps-at y q =
+          let z : drop (suc (index_of 58 s)) s ≡ r = ap (λ (i : ℕ). drop i s) (sym (add-one (index_of 58 s))) ∙ sym x.2 in
+          colon ∙ (ap (λ (y : Option ℕ). and_then y (λ v. and_then (exponents_of n (drop (suc (index_of 58 s)) s)) (λ es. some (record { coef = v; exps = es })))) (ap number_of (sym x.1) ∙ e) ∙ (ap (λ (y : List ℕ). and_then (exponents_of n y) (λ es. some (record { coef = c; exps = es }))) z ∙ ap (λ (y : Option (List ℕ)). and_then y (λ es. some (record { coef = c; exps = es }))) q))
 
       pub no-exps : numbers_of (parts 46 r) ≡ none → None ≡ parsed o vs (entry_of n s)
       unfolding and_then
@@ -78,7 +78,7 @@ module _ (o : Order) (vs : List ℕ) (n : ℕ) (s : List ℕ) (k : ℕ) (is : k 
 
       pub is-term : {exps exps' : List ℕ} {m : ℕ} → Stored (numbers_of (parts 46 r)) exps exps' m → length exps ≡ 6 → m ≡ n → (most : ℕ) → most ≡ min m 6 → (w : ℕ) → w ≡ word_of o vs (take most exps') → Some (w, c) ≡ parsed o vs (entry_of n s)
       unfolding and_then
-      is-term {exps} {exps'} {m} t six q most x w y =
+      is-term {exps} {exps'} {m} t six q most u w y =
           let z : entry_of n s ≡ some (record { coef = c; exps = t.es }) = exps-at (some t.es) (ap (λ (u : Option (List ℕ)). and_then u (λ es. only_if (eqb (length es) n) es)) t.is ∙ ap (λ (b : Bool). only_if b t.es) (eq-eqb (length t.es) n (t.long ∙ q))) in
-          let f : take most exps' ≡ map capped (take 6 t.es) = ap (λ (i : ℕ). take i exps') (x ∙ ap (λ (i : ℕ). min i 6) (sym t.long)) ∙ first-six exps exps' t.es six t.stored in
+          let f : take most exps' ≡ map capped (take 6 t.es) = ap (λ (i : ℕ). take i exps') (u ∙ ap (λ (i : ℕ). min i 6) (sym t.long)) ∙ first-six exps exps' t.es six t.stored in
           ap (λ (v : ℕ). Some (v, c)) (y ∙ ap (word_of o vs) f) ∙ ap (parsed o vs) (sym z)

@@ -1,25 +1,22 @@
 -- The weights of a script as the code reads them, return by return. Assumes nothing.
 use Rattle.std.specs.Prelude.{Some, None, Option as Answered}
-use Prim.Native.Nat.{ℕ, zero, suc, ◌-◌}
+use Prim.Native.Nat.{ℕ, zero, suc, ◌-◌, ◌<◌}
 use native.Mathlib.Omega.{arith}
 use mathlib.Core.Path.{◌≡◌, refl, sym, ap, ◌∙◌}
-use mathlib.Core.Bool.{Bool}
+use mathlib.Core.Bool.{Bool, true, false, and-true}
 use mathlib.Core.List.{List, [], ◌∷◌, ◌++◌, map}
 use mathlib.Core.Option.{Option, none, some}
 use borrow.Author.Tests.{eq-eqb, ne_eqb}
 use lib.Dec.{eqb}
 use lib.ListN.{length, get_or, take, drop, replicate, length-append, length-map, length-take, length-replicate}
 use lib.Seq.{sets}
-use Rattle.monomial.specs.declared.order.Order.TheVariants.{DegRevLex}
-use Rattle.monomial.specs.Layout.{of_bytes, fields, Below, WeightsFit}
-use Rattle.monomial.proofs.LayoutLaws.{length_fields}
-use Rattle.monomial.proofs.CodeLaws.{six-list, fields_lying}
+use Rattle.monomial.specs.Layout.{Below, WeightsFit}
 use Rattle.monomial.proofs.Places.{Below-more}
-use Rattle.text.specs.Bytes.{parts}
+use Rattle.text.specs.Bytes.{begins, parts}
 use Rattle.text.specs.Numbers.{and_then, only_if}
-use Rattle.text.proofs.ByteLaws.{parts-some}
+use Rattle.text.proofs.ByteLaws.{cons, parts-some}
 use Rattle.grammar.specs.Reading.{numbers_of, spaced_of, weights_of}
-use Rattle.grammar.specs.Parts.{capped, capped_weight, six_weights, packed_weights, ReadNumbers, ReadSpaced, packed}
+use Rattle.grammar.specs.Parts.{capped, capped_weight, six_weights, ReadNumbers, ReadSpaced, weights_found}
 use Rattle.grammar.proofs.Prefix.{sets-out}
 use Rattle.grammar.proofs.NumbersLaws.{none-counted, all-counted, Stored}
 
@@ -29,23 +26,23 @@ unfolding parts numbers_of
 spaced-none [] bytes e = record { is = (refl, refl) }
 spaced-none (x ∷ s) bytes e = absurd (let z : ⊥ = omega arith in z)
 
-pub spaced-bad : (s bytes : List ℕ) → (length s ≡ 0 → ⊥) → (get_or s 0 0 ≡ 32 → ⊥) → ReadSpaced s bytes bytes None
+pub first-space : (x : ℕ) (s : List ℕ) → eqb x 32 ≡ begins (32 ∷ []) (x ∷ s)
+unfolding begins
+first-space x s = sym (and-true (eqb x 32))
+
+pub spaced-bad : (s bytes : List ℕ) → (length s ≡ 0 → ⊥) → begins (32 ∷ []) s ≡ false → ReadSpaced s bytes bytes None
 unfolding parts
 spaced-bad [] bytes l e = absurd (l refl)
-spaced-bad (x ∷ s) bytes l e = let m = parts-some 32 s in record { is = rw (ne_eqb x 32 e, parts, m.2) refl }
+spaced-bad (x ∷ s) bytes l e = let m = parts-some 32 s in record { is = rw (first-space x s ∙ e, parts, m.2) refl }
 
-pub spaced-good : (s bytes bytes' : List ℕ) (r : Answered ℕ) → (length s ≡ 0 → ⊥) → get_or s 0 0 ≡ 32 → (rest : List ℕ) → rest ≡ drop 1 s → ReadNumbers 32 rest bytes bytes' r → ReadSpaced s bytes bytes' r
+pub spaced-good : (s bytes bytes' : List ℕ) (r : Answered ℕ) → (length s ≡ 0 → ⊥) → begins (32 ∷ []) s ≡ true → (rest : List ℕ) → rest ≡ drop 1 s → ReadNumbers 32 rest bytes bytes' r → ReadSpaced s bytes bytes' r
 unfolding parts
 spaced-good [] bytes bytes' r l e rest q d = absurd (l refl)
-spaced-good (x ∷ s) bytes bytes' r l e rest q d = record { is = rw (eq-eqb x 32 e, parts, ← q) d.is }
+spaced-good (x ∷ s) bytes bytes' r l e rest q d = record { is = rw (first-space x s ∙ e, parts, ← q) d.is }
 
--- ---- the weights as one number
+-- ---- the six weights
 six-same : {a b c d e f a' b' c' d' e' f' : ℕ} → a ≡ a' → b ≡ b' → c ≡ c' → d ≡ d' → e ≡ e' → f ≡ f' → ◌≡◌ {A = List ℕ} (a ∷ b ∷ c ∷ d ∷ e ∷ f ∷ []) (a' ∷ b' ∷ c' ∷ d' ∷ e' ∷ f' ∷ [])
 six-same p q r s t u = cc
-
--- the bytes of a number, one by one
-pub six-read : (w : ℕ) {u v x y z t : ℕ} → u ≡ get_or (fields DegRevLex w) 0 0 → v ≡ get_or (fields DegRevLex w) 1 0 → x ≡ get_or (fields DegRevLex w) 2 0 → y ≡ get_or (fields DegRevLex w) 3 0 → z ≡ get_or (fields DegRevLex w) 4 0 → t ≡ get_or (fields DegRevLex w) 5 0 → ◌≡◌ {A = List ℕ} (u ∷ v ∷ x ∷ y ∷ z ∷ t ∷ []) (fields DegRevLex w)
-six-read w a b c d e f = six-same a b c d e f ∙ sym (six-list (fields DegRevLex w) (length_fields DegRevLex w))
 
 twice : (v : ℕ) → capped_weight (capped v) ≡ capped_weight v
 twice v = omega arith
@@ -89,13 +86,16 @@ six-long (some vs) =
 pub six-fit : (x : Option (List ℕ)) → WeightsFit (six_weights x)
 six-fit x = record { six-are = six-long x; bytes-are = Below-more 18 256 (six_weights x) (omega arith) (six-small x) }
 
--- what is packed is taken apart again
-pub packed-fields : (x : Option (List ℕ)) → fields DegRevLex (packed_weights x) ≡ six_weights x
-packed-fields x = fields_lying DegRevLex (six_weights x) (six-fit x)
+-- the numbers of an array, each capped
+pub all-capped : (xs ys : List ℕ) → length ys ≡ length xs → ((i : ℕ) → i < length ys → get_or ys i 0 ≡ capped_weight (get_or xs i 0)) → ys ≡ map capped_weight xs
+all-capped [] [] h f = refl
+all-capped [] (y ∷ ys) h f = absurd (let z : ⊥ = omega arith in z)
+all-capped (x ∷ xs) [] h f = absurd (let z : ⊥ = omega arith in z)
+all-capped (x ∷ xs) (y ∷ ys) h f = cons (f 0 (omega arith)) (all-capped xs ys (omega arith) (λ i l. f (suc i) (omega arith)))
 
 -- ---- return by return
 module _ (n : ℕ) (s : List ℕ) {bytes bytes' : List ℕ} {r : Answered ℕ} (d : ReadSpaced s bytes bytes' r) where
-  pub no-numbers : r ≡ None → None ≡ packed (weights_of n s)
+  pub no-numbers : r ≡ None → None ≡ weights_found (weights_of n s)
   unfolding and_then
   no-numbers e = rw (none-counted (spaced_of (parts 32 s)) bytes bytes' r d.is e) refl
 
@@ -103,16 +103,16 @@ module _ (n : ℕ) (s : List ℕ) {bytes bytes' : List ℕ} {r : Answered ℕ} (
     pub stored-as : Stored (spaced_of (parts 32 s)) bytes bytes' m
     stored-as = all-counted (spaced_of (parts 32 s)) bytes bytes' r m d.is e
 
-    pub other-count : (m ≡ n → ⊥) → None ≡ packed (weights_of n s)
+    pub other-count : (m ≡ n → ⊥) → None ≡ weights_found (weights_of n s)
     unfolding and_then
     other-count q =
         let t = stored-as in
-        sym (ap (λ (x : Option (List ℕ)). packed (and_then x (λ vs. only_if (eqb (length vs) n) vs))) t.is ∙ ap (λ (b : Bool). packed (only_if b t.es)) (ne_eqb (length t.es) n (λ x. q (sym t.long ∙ x))))
+        sym (ap (λ (x : Option (List ℕ)). weights_found (and_then x (λ vs. only_if (eqb (length vs) n) vs))) t.is ∙ ap (λ (b : Bool). weights_found (only_if b t.es)) (ne_eqb (length t.es) n (λ x. q (sym t.long ∙ x))))
 
-    pub weights-are : m ≡ n → bytes ≡ replicate 6 1 → (w : ℕ) → w ≡ of_bytes (map capped_weight bytes') → Some w ≡ packed (weights_of n s)
+    pub weights-are : m ≡ n → bytes ≡ replicate 6 1 → (ws : List ℕ) → ws ≡ map capped_weight bytes' → Some ws ≡ weights_found (weights_of n s)
     unfolding and_then
-    weights-are q ones w x =
+    weights-are q ones ws x =
         let t = stored-as in
-        let is : packed (weights_of n s) ≡ packed (some t.es) = ap (λ (y : Option (List ℕ)). packed (and_then y (λ vs. only_if (eqb (length vs) n) vs))) t.is ∙ ap (λ (b : Bool). packed (only_if b t.es)) (eq-eqb (length t.es) n (t.long ∙ q)) in
+        let is : weights_found (weights_of n s) ≡ weights_found (some t.es) = ap (λ (y : Option (List ℕ)). weights_found (and_then y (λ vs. only_if (eqb (length vs) n) vs))) t.is ∙ ap (λ (b : Bool). weights_found (only_if b t.es)) (eq-eqb (length t.es) n (t.long ∙ q)) in
         let six : map capped_weight bytes' ≡ six_weights (some t.es) = ap (map capped_weight) (t.stored ∙ ap (λ (l : List ℕ). sets l 0 (map capped t.es)) ones) ∙ six-stored t.es in
-        ap Some (x ∙ ap of_bytes six) ∙ sym is
+        ap Some (x ∙ six) ∙ sym is

@@ -1,18 +1,15 @@
 -- What the readers of a term and of the first lines hand back. Assumes nothing.
-use Rattle.grammar.specs.declared.header.Header.{Header}
 use Rattle.std.specs.Prelude.{Some, None, Option as Answered}
 use Rattle.std.specs.Prelude.{ℕ, ◌-◌, ◌≤◌, min, List, [], ◌∷◌, ◌++◌, map, ◌≡◌, length, take, drop, replicate}
 use Rattle.std.proofs.Math.Option.{Option, none, some}
 use Rattle.std.proofs.lemmas.List.Edits.{sets}
 use Rattle.monomial.specs.Exponents.{ones}
 use Rattle.monomial.specs.declared.order.Order.{Order}
-use Rattle.monomial.specs.declared.order.Order.TheVariants.{Lex, DegLex, DegRevLex}
-use Rattle.monomial.specs.Layout.{of_bytes, word_of, Below}
+use Rattle.monomial.specs.Layout.{word_of, Below}
 use Rattle.std.specs.Coded.{×_prop, Unit-prop, le_prop}
 use Rattle.text.specs.Bytes.{parts}
-use Rattle.text.specs.Numbers.{and_then}
-use Rattle.grammar.specs.Grammar.{Entry, Script, vars-word}
-use Rattle.grammar.specs.Reading.{numbers_of, spaced_of, script_from, rest_of, after_word, with_header}
+use Rattle.grammar.specs.Grammar.{Entry}
+use Rattle.grammar.specs.Reading.{numbers_of, spaced_of, script_from, rest_of, with_header}
 
 -- ---- numbers between separators
 
@@ -57,43 +54,34 @@ abbrev pub six_weights : Option (List ℕ) → List ℕ
 six_weights none = ones
 six_weights (some vs) = map capped_weight (take 6 vs) ++ replicate (6 - length vs) 1
 
--- the same as one number: a byte for each, x1's the lowest
-abbrev pub packed_weights : Option (List ℕ) → ℕ
-packed_weights weights = of_bytes (six_weights weights)
-
 pub record ReadSpaced (s bytes bytes' : List ℕ) (r : Answered ℕ) : Type 0 where
   pub is : CountedAs (spaced_of (parts 32 s)) bytes bytes' r
 
-abbrev pub packed : Option (List ℕ) → Answered ℕ
-packed none = None
-packed (some vs) = Some (packed_weights (some vs))
+-- the weights of a line of them
+abbrev pub weights_found : Option (List ℕ) → Answered (List ℕ)
+weights_found none = None
+weights_found (some vs) = Some (six_weights (some vs))
 
 -- ---- the first lines
 
--- "The orders are 1 = lp, 2 = Dp, 3 = dp"
-abbrev pub order_number : Order → ℕ
-order_number Lex = 1
-order_number DegLex = 2
-order_number DegRevLex = 3
+-- what stands behind the line `vars` is no rest of a script
+abbrev pub NoRest : (n : ℕ) (s : List ℕ) → Type 0
+NoRest n s = (p : ℕ) (o : Order) → rest_of p o n (parts 10 s) ≡ none
 
-abbrev pub order_code : Option Order → Answered ℕ
-order_code none = None
-order_code (some o) = Some (order_number o)
+-- it has these weights, and these lines behind them
+pub record RestRead (n : ℕ) (s weights lines : List ℕ) : Type 0 where
+  pub given : Option (List ℕ)
+  pub weighed : weights ≡ six_weights given
+  pub from : ℕ
+  pub from-in : from ≤ length s
+  pub behind : lines ≡ drop from s
+  pub is : (p : ℕ) (o : Order) → rest_of p o n (parts 10 s) ≡ script_from p o n given (parts 10 lines)
 
--- the third line and those behind it
-abbrev pub vars_then : (p : ℕ) → Order → List (List ℕ) → Option Script
-vars_then p o [] = none
-vars_then p o (c ∷ ls) = and_then (after_word vars-word c) (λ n. rest_of p o n ls)
-
-abbrev pub HeadAs : Option Script → (s : List ℕ) → Answered Header → Type 0
-HeadAs x s None = x ≡ none
-HeadAs x s (Some h) = (from_in : h.from ≤ length s) × (o : Order) × (named : h.order ≡ order_number o) × (weights : Option (List ℕ)) × (weighed : h.weights ≡ packed_weights weights) × (x ≡ script_from h.prime o h.vars weights (parts 10 (drop h.from s)))
-
-pub record ReadHeader (s : List ℕ) (r : Answered Header) : Type 0 where
-  pub is : HeadAs (with_header (parts 10 s)) s r
-
-pub record ReadVars (s : List ℕ) (p order j : ℕ) (r : Answered Header) : Type 0 where
-  pub is : (o : Order) → order ≡ order_number o → HeadAs (vars_then p o (parts 10 (drop j s))) s r
-
-pub record ReadRest (s : List ℕ) (p order n j : ℕ) (r : Answered Header) : Type 0 where
-  pub is : (o : Order) → order ≡ order_number o → HeadAs (rest_of p o n (parts 10 (drop j s))) s r
+-- s begins with these first lines, and these lines stand behind them
+pub record HeadRead (s : List ℕ) (prime : ℕ) (order : Order) (vars : ℕ) (weights lines : List ℕ) : Type 0 where
+  pub given : Option (List ℕ)
+  pub weighed : weights ≡ six_weights given
+  pub from : ℕ
+  pub from-in : from ≤ length s
+  pub behind : lines ≡ drop from s
+  pub is : with_header (parts 10 s) ≡ script_from prime order vars given (parts 10 lines)

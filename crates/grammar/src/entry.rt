@@ -7,7 +7,7 @@ ghost use Rattle.grammar.specs.Parts.{parsed, Below-prop};
 use crate::numbers::read_numbers;
 use monomial::exponents::word_of;
 use monomial::order::Order;
-use text::bytes::find;
+use text::bytes::split_once;
 use text::number::read_number;
 
 // What the words of a script's terms follow: the order, the weights as `weight_word` gives them, and the
@@ -24,10 +24,11 @@ pub struct Shape {
 pub fn read_entry(s: &[u8], shape: Shape) -> Option<(u64, u32)>
     ensures { result ≡ parsed shape.order (fields shape.order shape.weights) (entry_of shape.n s.now) }
 {
-    let k = find(s, 0, b':')?;
-    let c = read_number(&s[..k])?;
+    let (coef, numbers) = split_once(s, b':')?;
+    let c = read_number(coef)?;
+    // Kept: a buffer for the six exponents that a word has fields for: the engine's crates use no heap.
     let mut exps = [0u8; 6];
-    let m = read_numbers(&s[k + 1..], b'.', &mut exps)?;
+    let m = read_numbers(numbers, b'.', &mut exps)?;
     if m != shape.n as usize {
         return None;
     }

@@ -1,23 +1,24 @@
 // The first lines of a script: `prime P`, `order lp|Dp|dp`, `vars N`, and `weights W1 .. Wn` where it is.
-ghost use Rattle.std.specs.Prelude.{◌≡◌, ◌≤◌, length};
+ghost use Rattle.std.specs.Prelude.{◌≡◌, MatchOption};
+ghost use Rattle.text.specs.Bytes.{parts};
 ghost use Rattle.text.specs.Numbers.{found};
-ghost use Rattle.grammar.specs.Reading.{after_word, order_read};
-ghost use Rattle.grammar.specs.Parts.{order_code, ReadHeader, ReadVars, ReadRest};
+ghost use Rattle.std.proofs.Math.Option.{none};
+ghost use Rattle.grammar.specs.Reading.{after_word, order_read, with_header};
+ghost use Rattle.grammar.specs.Parts.{NoRest, RestRead, HeadRead};
 
 use crate::weights::read_weights;
-use text::bytes::{find, is_word, part_end, starts_with};
+use monomial::order::Order;
+use text::bytes::{is_word, split_once};
 use text::number::read_number;
 
-// The prime, the number of the order, the number of variables, the weights as one number, and where the
-// other lines begin.
-// Kept: the order as its number, as the C interface gives it to the run that takes it from here.
+// The prime, the order, the number of variables, the weights, x1's first, and the lines behind.
 #[derive(Clone, Copy)]
-pub struct Header {
+pub struct Header<'a> {
     pub prime: u32,
-    pub order: u32,
+    pub order: Order,
     pub vars: u32,
-    pub weights: u64,
-    pub from: usize,
+    pub weights: [u32; 6],
+    pub lines: &'a [u8],
 }
 
 // The number behind a word.
@@ -27,68 +28,50 @@ fn number_behind(s: &[u8], word: &[u8]) -> Option<u32>
     read_number(s.strip_prefix(word)?)
 }
 
-// The number of the order that a line names.
-fn read_order(s: &[u8]) -> Option<u32>
-    ensures { result ≡ order_code (order_read s.now) }
+// The order that a line names.
+fn read_order(s: &[u8]) -> Option<Order>
+    ensures { result ≡ found (order_read s.now) }
 {
     if is_word(s, b"order lp") {
-        return Some(1);
+        return Some(Order::Lex);
     }
     if is_word(s, b"order Dp") {
-        return Some(2);
+        return Some(Order::DegLex);
     }
     if is_word(s, b"order dp") {
-        return Some(3);
+        return Some(Order::DegRevLex);
     }
     None
 }
 
 // Reads the first lines.
-pub fn read_header(s: &[u8]) -> Option<Header>
-    ensures { ReadHeader s.now result }
+pub fn read_header(s: &[u8]) -> Option<Header<'_>>
+    ensures { MatchOption result (with_header (parts 10 s.now) ≡ none) (λ h. HeadRead s.now h.prime h.order h.vars h.weights h.lines.now) }
 {
-    let a = find(s, 0, b'\n')?;
-    let prime = number_behind(&s[0..a], b"prime ")?;
-    let i = a + 1;
-    let b = find(s, i, b'\n')?;
-    let order = read_order(&s[i..b])?;
-    read_vars(s, prime, order, b + 1)
-}
-
-// Reads the third line, from place j on, and one of weights behind it.
-fn read_vars(s: &[u8], prime: u32, order: u32, j: usize) -> Option<Header>
-    requires { j ≤ length s.now }
-    ensures { ReadVars s.now prime order j result }
-{
-    let c = find(s, j, b'\n')?;
-    let vars = number_behind(&s[j..c], b"vars ")?;
-    read_rest(s, prime, order, vars, c + 1)
-}
-
-// Reads a line of weights, where one stands at place j. Without it all weights are 1.
-fn read_rest(s: &[u8], prime: u32, order: u32, vars: u32, j: usize) -> Option<Header>
-    requires { j ≤ length s.now }
-    ensures { ReadRest s.now prime order vars j result }
-{
-    let e = part_end(s, j, b'\n');
-    let line = &s[j..e];
-    let plain = Header {
+    let (first, rest) = split_once(s, b'\n')?;
+    let prime = number_behind(first, b"prime ")?;
+    let (second, rest) = split_once(rest, b'\n')?;
+    let order = read_order(second)?;
+    let (third, rest) = split_once(rest, b'\n')?;
+    let vars = number_behind(third, b"vars ")?;
+    let (weights, lines) = read_rest(rest, vars)?;
+    Some(Header {
         prime,
         order,
         vars,
-        weights: 0x0101_0101_0101,
-        from: j,
-    };
-    if !starts_with(line, b"weights") {
-        return Some(plain);
-    }
-    if e == s.len() {
-        return None;
-    }
-    let weights = read_weights(&line[7..], vars)?;
-    Some(Header {
         weights,
-        from: e + 1,
-        ..plain
+        lines,
     })
+}
+
+// Reads a line of weights, where one stands first, and answers the lines behind it too. Without it all
+// weights are 1.
+fn read_rest(s: &[u8], vars: u32) -> Option<([u32; 6], &[u8])>
+    ensures { MatchOption result (NoRest vars s.now) (λ r. RestRead vars s.now r.0 r.1.now) }
+{
+    let Some(behind) = s.strip_prefix(b"weights") else {
+        return Some(([1; 6], s));
+    };
+    let (numbers, lines) = split_once(behind, b'\n')?;
+    Some((read_weights(numbers, vars)?, lines))
 }

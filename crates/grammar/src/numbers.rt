@@ -18,6 +18,7 @@ fn store(bytes: &mut [u8], at: usize, v: u32)
 pub fn read_numbers(s: &[u8], b: u8, bytes: &mut [u8]) -> Option<usize>
     ensures { ReadNumbers b s.now bytes.old bytes.new result }
 {
+    // Kept: the count is the answer: `enumerate` would give each part its place, but no count behind the loop.
     let mut count = 0;
     for part in s.split(|x| *x == b) {
         store(bytes, count, read_number(part)?);

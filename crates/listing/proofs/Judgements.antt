@@ -13,7 +13,7 @@ use Rattle.refusal.specs.Judgement.{Condition, condition, Judged, OneOf, Numbere
 use Rattle.refusal.proofs.JudgementLaws.{judged-numbers, numbered-then}
 use Rattle.monomial.specs.declared.order.Order.{Order}
 use Rattle.monomial.specs.declared.order.Order.TheVariants.{Lex, DegLex, DegRevLex}
-use Rattle.monomial.specs.Exponents.{order_of}
+use Rattle.monomial.specs.Exponents.{order_of, order_number}
 use Rattle.monomial.specs.Words.{compare_words}
 use Rattle.polynomial.specs.Opening.{rise_to, starts_good}
 use Rattle.polynomial.specs.declared.setting.Setting.{Setting}
@@ -29,7 +29,7 @@ use Rattle.run_outcome.specs.Runs.{Running}
 use Rattle.run_outcome.specs.Outcome.{ended, ran_through}
 use Rattle.grammar.specs.Grammar.{Entry, Line, add_line, lead_line, sum_line, Script}
 use Rattle.grammar.specs.Reading.{script_of}
-use Rattle.grammar.specs.Parts.{entry_word, entry_coef, six_weights, order_number}
+use Rattle.grammar.specs.Parts.{entry_word, entry_coef, six_weights}
 use Rattle.script.specs.Loading.{entries_in, ends_from, pairs_from, words_of, coefs_of, starts_of, pairs_of}
 use Rattle.grammar.proofs.Accepted.{text-read}
 use Rattle.grammar.proofs.Written.{read-text}

@@ -12,7 +12,7 @@ use lib.Dec.{eqb}
 use lib.ListN.{length, drop, get_or, replicate, length-append, length-take}
 use Rattle.limits.specs.Limits.{bucket_places, largest_prime, listing_bytes, script_terms, work_places}
 use Rattle.monomial.specs.declared.order.Order.{Order}
-use Rattle.monomial.specs.Exponents.{order_of}
+use Rattle.monomial.specs.Exponents.{order_of, order_number}
 use Rattle.monomial.specs.Words.{compare_words}
 use Rattle.monomial.specs.Layout.{bytes, fields, exponents, Below}
 use Rattle.monomial.proofs.Places.{below_true, true_below}
@@ -37,7 +37,7 @@ use Rattle.text.specs.Numbers.{decimal}
 use Rattle.text.proofs.NumberLaws.{decimal_digit, decimal-more, decimal-some}
 use Rattle.grammar.specs.Grammar.{Entry, Line, add_line, lead_line, sum_line, Script, entry_text, entries_text, lines_text, GoodEntry, GoodEntries, GoodLines, GoodScript}
 use Rattle.grammar.specs.Reading.{script_of}
-use Rattle.grammar.specs.Parts.{six_weights, order_number}
+use Rattle.grammar.specs.Parts.{six_weights}
 use Rattle.script.specs.Loading.{entries_in, pairs_from, words_of, coefs_of, starts_of, pairs_of}
 use Rattle.grammar.proofs.Accepted.{text-read}
 use Rattle.script.proofs.LinesLaws.{pairs-long}

@@ -10,7 +10,7 @@ use lib.ListN.{length, replicate, length-map}
 use lib.Seq.{take_all}
 use Rattle.refusal.specs.Judgement.{Condition, condition, Judged, AllHold}
 use Rattle.monomial.specs.declared.order.Order.{Order}
-use Rattle.monomial.specs.Exponents.{compare_in, order_of}
+use Rattle.monomial.specs.Exponents.{compare_in, order_of, order_number}
 use Rattle.monomial.specs.Layout.{Layout, word_of, fields, exponents, Below}
 use Rattle.monomial.proofs.LayoutLaws.{fields-word, exponents-word, layout-word}
 use Rattle.polynomial.specs.Terms.{Term, term, terms, Under}
@@ -18,9 +18,9 @@ use Rattle.call.specs.Lending.{polynomial}
 use Rattle.polynomial.specs.declared.setting.Setting.{Setting}
 use Rattle.opening.specs.Judgement.{GoodOrder, by_exponents, places_conditions, polynomial_conditions, conditions_below, polynomials_conditions}
 use Rattle.grammar.specs.Grammar.{Entry, Line, add_line, lead_line, sum_line, Script, GoodEntry, GoodEntries, GoodLines, GoodWeights}
-use Rattle.grammar.specs.Parts.{capped, entry_word, entry_coef, six_weights, order_number}
+use Rattle.grammar.specs.Parts.{capped, entry_word, entry_coef, six_weights}
 use Rattle.script.specs.Loading.{entries_in, ends_from, words_of, coefs_of, starts_of}
-use Rattle.script.proofs.ScriptLaws.{order-number}
+use Rattle.monomial.proofs.OrderLaws.{order-number}
 use Rattle.listing.specs.Judgement.{LineInRange, entries_conditions, own_weights, EntriesFall, lines_conditions}
 use Rattle.listing.specs.Whole.{setting_in}
 use Rattle.listing.proofs.Additions.{From, added_is, from_next}

@@ -11,7 +11,7 @@ use lib.ListN.{length, drop, get_or, replicate, length-append, length-take}
 use lib.Dec.{ltb}
 use Rattle.limits.specs.Limits.{bucket_places, most_terms, script_terms, work_places}
 use Rattle.polynomial.specs.Terms.{Term, term}
-use Rattle.monomial.specs.Exponents.{order_of}
+use Rattle.monomial.specs.Exponents.{order_of, order_number}
 use Rattle.monomial.specs.Layout.{below}
 use Rattle.monomial.proofs.Places.{and_both}
 use Rattle.monomial.specs.Words.{compare_words}
@@ -34,7 +34,6 @@ use Rattle.run_outcome.specs.Outcome.{ran_through, ended}
 use Rattle.run_outcome.proofs.Follow.{all-on}
 use Rattle.grammar.specs.Grammar.{Line, add_line, lead_line, sum_line, Script, entries_text, lines_text, GoodLines}
 use Rattle.grammar.specs.Reading.{script_of}
-use Rattle.grammar.specs.Parts.{order_number}
 use Rattle.script.specs.Loading.{ends_from, pairs_from, words_of, coefs_of, starts_of, pairs_of}
 use Rattle.grammar.proofs.Accepted.{text-read}
 use Rattle.script.proofs.FieldLaws.{entries-size}

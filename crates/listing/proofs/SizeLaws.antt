@@ -8,23 +8,18 @@ use mathlib.Core.Option.{Option, none, some}
 use lib.ListN.{length, take, drop, length-append, length-map}
 use lib.Seq.{sets, sets-eq, length-sets, take_at, length-take-le}
 use Rattle.limits.specs.Limits.{script_numbers, script_starts, script_terms}
-use Rattle.monomial.specs.declared.order.Order.{Order}
-use Rattle.monomial.specs.declared.order.Order.TheVariants.{DegRevLex}
-use Rattle.monomial.specs.Layout.{fields}
 use Rattle.script.specs.declared.reader.Loaded.{Loaded}
 use Rattle.grammar.specs.Grammar.{Line, add_line, lead_line, sum_line, Script, order-word, vars-word, order_name, entries_text, lines_text, spaced_text, rest_text, script_text, GoodLines}
 use Rattle.grammar.specs.Reading.{script_of}
 use Rattle.grammar.specs.Parts.{entry_word, entry_coef, six_weights}
 use Rattle.script.specs.Loading.{entries_in, ends_from, words_of, coefs_of, starts_of, pairs_of, loaded_of, ScriptAs, ReadScript}
 use Rattle.grammar.proofs.Accepted.{text-read}
-use Rattle.grammar.proofs.WeightsLaws.{packed-fields}
 use Rattle.script.proofs.FieldLaws.{entries-size}
 use Rattle.script.proofs.LinesLaws.{pairs-long}
-use Rattle.script.proofs.ScriptLaws.{order-number}
 use Rattle.text.specs.Numbers.{decimal}
 use Rattle.listing_lines.specs.Put.{Put}
 use Rattle.listing_lines.specs.Listing.{refused_text}
-use Rattle.listing.specs.Whole.{listing_by, listing_of, loaded_text, outcome_text, script_outcome}
+use Rattle.listing.specs.Whole.{listing_by, listing_of, loaded_text}
 use Rattle.listing.specs.Printed.{Sizes}
 use Rattle.listing_lines.proofs.PutLaws.{put_same}
 
@@ -135,19 +130,17 @@ prefix-long n size l h e = sym (length-take-le n l (omega arith))
 pub prefix-most : (n size : ℕ) (l : List ℕ) → n ≤ size → length l ≡ size → length (take n l) ≤ size
 prefix-most n size l h e = omega (arith, prefix-long n size l h e)
 
-pub good-listing : {s : List ℕ} {l : Loaded} {words coefs starts ops : List ℕ} → Read s l words coefs starts ops → {out out' : List ℕ} {k : ℕ} → Put (loaded_text l (fields DegRevLex l.weights) (take l.counts.terms words) (take l.counts.terms coefs) (take (l.counts.polynomials + 1) starts) (take (2 * l.counts.operations) ops)) 0 out out' k → Put (listing_of s) 0 out out' k
+pub good-listing : {s : List ℕ} {l : Loaded} {words coefs starts ops : List ℕ} → Read s l words coefs starts ops → {out out' : List ℕ} {k : ℕ} → Put (loaded_text l (take l.counts.terms words) (take l.counts.terms coefs) (take (l.counts.polynomials + 1) starts) (take (2 * l.counts.operations) ops)) 0 out out' k → Put (listing_of s) 0 out out' k
 unfolding listing_of
 good-listing {s} {l} {words} {coefs} {starts} {ops} d p = put_same (text ∙ sym (ap listing_by d.is)) p
   where
-    text : loaded_text l (fields DegRevLex l.weights) (take l.counts.terms words) (take l.counts.terms coefs) (take (l.counts.polynomials + 1) starts) (take (2 * l.counts.operations) ops) ≡ listing_by (some d.script)
+    text : loaded_text l (take l.counts.terms words) (take l.counts.terms coefs) (take (l.counts.polynomials + 1) starts) (take (2 * l.counts.operations) ops) ≡ listing_by (some d.script)
     text =
-        ap (λ (x : List ℕ). loaded_text l (fields DegRevLex l.weights) x (take l.counts.terms coefs) (take (l.counts.polynomials + 1) starts) (take (2 * l.counts.operations) ops)) d.words_are
-        ∙ (ap (λ (x : List ℕ). loaded_text l (fields DegRevLex l.weights) (words_of d.script) x (take (l.counts.polynomials + 1) starts) (take (2 * l.counts.operations) ops)) d.coefs-are
-        ∙ (ap (λ (x : List ℕ). loaded_text l (fields DegRevLex l.weights) (words_of d.script) (coefs_of d.script) x (take (2 * l.counts.operations) ops)) d.starts-are
-        ∙ (ap (λ (x : List ℕ). loaded_text l (fields DegRevLex l.weights) (words_of d.script) (coefs_of d.script) (starts_of d.script) x) d.pairs-are
-        ∙ (ap (λ (x : Loaded). loaded_text x (fields DegRevLex x.weights) (words_of d.script) (coefs_of d.script) (starts_of d.script) (pairs_of d.script)) d.loaded
-        ∙ (ap (λ (vs : List ℕ). loaded_text (loaded_of d.script) vs (words_of d.script) (coefs_of d.script) (starts_of d.script) (pairs_of d.script)) (packed-fields d.script.weights)
-        ∙ ap (λ (o : Order). outcome_text o d.script.vars (pairs_of d.script) (script_outcome d.script)) (order-number d.script.order))))))
+        ap (λ (x : List ℕ). loaded_text l x (take l.counts.terms coefs) (take (l.counts.polynomials + 1) starts) (take (2 * l.counts.operations) ops)) d.words_are
+        ∙ (ap (λ (x : List ℕ). loaded_text l (words_of d.script) x (take (l.counts.polynomials + 1) starts) (take (2 * l.counts.operations) ops)) d.coefs-are
+        ∙ (ap (λ (x : List ℕ). loaded_text l (words_of d.script) (coefs_of d.script) x (take (2 * l.counts.operations) ops)) d.starts-are
+        ∙ (ap (λ (x : List ℕ). loaded_text l (words_of d.script) (coefs_of d.script) (starts_of d.script) x) d.pairs-are
+        ∙ ap (λ (x : Loaded). loaded_text x (words_of d.script) (coefs_of d.script) (starts_of d.script) (pairs_of d.script)) d.loaded)))
 
 pub prefix-in : (n size : ℕ) (l : List ℕ) → n ≤ size → length l ≡ size → n ≤ length l
 prefix-in n size l h e = omega arith

@@ -25,7 +25,7 @@ use Rattle.polynomial.specs.Settings.{setting_of}
 use Rattle.run_outcome.specs.Outcome.{run_outcome, ran_through, ended}
 use Rattle.run_outcome.proofs.Follow.{along}
 use Rattle.opening.specs.Run.{run_refusal}
-use Rattle.monomial.specs.Exponents.{order_of}
+use Rattle.monomial.specs.Exponents.{order_of, order_number}
 use Rattle.monomial.specs.Words.{compare_words}
 use Rattle.script.specs.declared.reader.Loaded.{Loaded}
 use Rattle.listing_lines.specs.Put.{Put}
@@ -114,17 +114,17 @@ module _ (words coefs starts : List ℕ) where
       omega (arith, all-brought cmp p places (length words) os begun refl s.0)
 
 -- ---- what the run of a script gives
-module _ (l : Loaded) (weights words coefs starts ops : List ℕ) where
-  module _ {answer : Stated} {tally : Tally} {bw bc ww wc ow oc : List ℕ} (e : ◌≡◌ {A = Outcome} (record { answer = answer; tally = tally; bw = bw; bc = bc; ww = ww; wc = wc; ow = ow; oc = oc }) (run_outcome no_tally (setting_of l.prime l.order l.vars weights) words coefs starts ops (replicate bucket_places 0) (replicate bucket_places 0) (replicate work_places 0) (replicate work_places 0) (replicate script_terms 0) (replicate script_terms 0))) where
+module _ (l : Loaded) (words coefs starts ops : List ℕ) where
+  module _ {answer : Stated} {tally : Tally} {bw bc ww wc ow oc : List ℕ} (e : ◌≡◌ {A = Outcome} (record { answer = answer; tally = tally; bw = bw; bc = bc; ww = ww; wc = wc; ow = ow; oc = oc }) (run_outcome no_tally (setting_of l.prime (order_number l.order) l.vars l.weights) words coefs starts ops (replicate bucket_places 0) (replicate bucket_places 0) (replicate work_places 0) (replicate work_places 0) (replicate script_terms 0) (replicate script_terms 0))) where
     pub run_room : length words ≤ script_terms → length ops ≤ script_numbers → length oc ≡ length ow → RanRoom tally answer (length ow) (length oc)
     run_room h k same =
-        let refusal = run_refusal (setting_of l.prime l.order l.vars weights) words coefs starts ops (length {A = ℕ} (replicate bucket_places 0)) (length {A = ℕ} (replicate bucket_places 0)) (length {A = ℕ} (replicate work_places 0)) (length {A = ℕ} (replicate work_places 0)) (length {A = ℕ} (replicate script_terms 0)) (length {A = ℕ} (replicate script_terms 0)) in
-        let t = ran_through (setting_of l.prime l.order l.vars weights) words coefs starts ops (length {A = ℕ} (replicate script_terms 0)) in
+        let refusal = run_refusal (setting_of l.prime (order_number l.order) l.vars l.weights) words coefs starts ops (length {A = ℕ} (replicate bucket_places 0)) (length {A = ℕ} (replicate bucket_places 0)) (length {A = ℕ} (replicate work_places 0)) (length {A = ℕ} (replicate work_places 0)) (length {A = ℕ} (replicate script_terms 0)) (length {A = ℕ} (replicate script_terms 0)) in
+        let t = ran_through (setting_of l.prime (order_number l.order) l.vars l.weights) words coefs starts ops (length {A = ℕ} (replicate script_terms 0)) in
         record {
-          brought-small = subst (λ (y : Outcome). y.tally.brought ≤ 100000000000000000) (sym e) (decided-brought 100000000000000000 refusal no_tally (ended t (replicate script_terms 0) (replicate script_terms 0)) (replicate bucket_places 0) (replicate bucket_places 0) (replicate work_places 0) (replicate work_places 0) (replicate script_terms 0) (replicate script_terms 0) (omega arith) (run-brought words coefs starts (compare_words (order_of l.order)) l.prime (length {A = ℕ} (replicate script_terms 0)) ops h k));
+          brought-small = subst (λ (y : Outcome). y.tally.brought ≤ 100000000000000000) (sym e) (decided-brought 100000000000000000 refusal no_tally (ended t (replicate script_terms 0) (replicate script_terms 0)) (replicate bucket_places 0) (replicate bucket_places 0) (replicate work_places 0) (replicate work_places 0) (replicate script_terms 0) (replicate script_terms 0) (omega arith) (run-brought words coefs starts (compare_words (order_of (order_number l.order))) l.prime (length {A = ℕ} (replicate script_terms 0)) ops h k));
           same-long = same;
           places-in = subst (λ (y : Outcome). y.answer.places ≤ length y.ow) (sym e) (decided-places refusal no_tally t (replicate bucket_places 0) (replicate bucket_places 0) (replicate work_places 0) (replicate work_places 0) (replicate script_terms 0) (replicate script_terms 0));
         }
 
-    pub run-text : {o : Order} → o ≡ order_of l.order → {vs : List ℕ} → weights ≡ vs → {out out' : List ℕ} {r : ℕ} → Put (ran_text o l.vars ops ow oc tally answer) 0 out out' r → Put (loaded_text l vs words coefs starts ops) 0 out out' r
-    run-text {o} q v p = put_same (ap (λ (x : Order). ran_text x l.vars ops ow oc tally answer) q ∙ (ap (λ (y : Outcome). ran_text (order_of l.order) l.vars ops y.ow y.oc y.tally y.answer) e ∙ ap (λ (ws : List ℕ). loaded_text l ws words coefs starts ops) v)) p
+    pub run-text : {out out' : List ℕ} {r : ℕ} → Put (ran_text l.order l.vars ops ow oc tally answer) 0 out out' r → Put (loaded_text l words coefs starts ops) 0 out out' r
+    run-text p = put_same (ap (λ (y : Outcome). ran_text l.order l.vars ops y.ow y.oc y.tally y.answer) e) p

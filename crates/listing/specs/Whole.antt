@@ -3,7 +3,7 @@ use Rattle.std.specs.Prelude.{ℕ, zero, suc, ◌≤◌, ◌≡◌, List, ◌++�
 use Rattle.std.proofs.Math.Option.{Option, none, some}
 use Rattle.limits.specs.Limits.{bucket_places, script_terms, work_places}
 use Rattle.monomial.specs.declared.order.Order.{Order}
-use Rattle.monomial.specs.Exponents.{order_of}
+use Rattle.monomial.specs.Exponents.{order_number}
 use Rattle.polynomial.specs.Terms.{terms}
 use Rattle.call.specs.declared.answer.Tally.{Tally}
 use Rattle.call.specs.Answers.{Stated, Outcome}
@@ -14,7 +14,7 @@ use Rattle.script.specs.declared.reader.Loaded.{Loaded}
 use Rattle.run_outcome.specs.Runs.{Operation, adds, leads, sums}
 use Rattle.grammar.specs.Grammar.{Line, add_line, lead_line, sum_line, Script}
 use Rattle.grammar.specs.Reading.{script_of}
-use Rattle.grammar.specs.Parts.{entry_word, entry_coef, six_weights, order_number}
+use Rattle.grammar.specs.Parts.{entry_word, entry_coef, six_weights}
 use Rattle.script.specs.Loading.{words_of, coefs_of, starts_of, pairs_of}
 use Rattle.listing_lines.specs.Listing.{answers_text, cost_text, refused_text}
 
@@ -68,7 +68,7 @@ pub record RanRoom (tally : Tally) (answer : Stated) (ow oc : ℕ) : Type 0 wher
   pub same-long : oc ≡ ow
   pub places-in : answer.places ≤ ow
 
--- the listing of what was read, of which the weights are taken apart
-abbrev pub loaded_text : Loaded → (weights words coefs starts ops : List ℕ) → List ℕ
-loaded_text l weights words coefs starts ops =
-    outcome_text (order_of l.order) l.vars ops (run_outcome no_tally (setting_of l.prime l.order l.vars weights) words coefs starts ops (replicate bucket_places 0) (replicate bucket_places 0) (replicate work_places 0) (replicate work_places 0) (replicate script_terms 0) (replicate script_terms 0))
+-- the listing of what was read
+abbrev pub loaded_text : Loaded → (words coefs starts ops : List ℕ) → List ℕ
+loaded_text l words coefs starts ops =
+    outcome_text l.order l.vars ops (run_outcome no_tally (setting_of l.prime (order_number l.order) l.vars l.weights) words coefs starts ops (replicate bucket_places 0) (replicate bucket_places 0) (replicate work_places 0) (replicate work_places 0) (replicate script_terms 0) (replicate script_terms 0))

@@ -1,57 +1,39 @@
 // The whole listing of a script.
 ghost use Rattle.std.specs.Prelude.{◌≤◌, length};
-ghost use Rattle.monomial.specs.declared.order.Order.TheVariants.{DegRevLex};
-ghost use Rattle.monomial.specs.Layout.{fields};
 ghost use Rattle.limits.specs.Limits.{script_numbers, script_terms};
 ghost use Rattle.call.specs.Answers.{stated};
 ghost use Rattle.listing_lines.specs.Put.{Put};
 ghost use Rattle.listing.specs.Whole.{ran_text, RanRoom, loaded_text, listing_of};
 
-use call::answer::{Answer, Tally};
-use grammar::weights::weights_of;
+use call::answer::{Returned, Tally};
 use limits::{BUCKET_PLACES, SCRIPT_NUMBERS, SCRIPT_STARTS, SCRIPT_TERMS, WORK_PLACES};
 use listing_lines::answers::put_answers;
 use listing_lines::ending::{put_cost, put_refused};
-use monomial::order::{Order, order_of};
+use polynomial::part::Polynomials;
 use refusal::{Refusal, number_of};
 use runs::run;
 use script::reader::{Loaded, read_script};
 
-// Puts what a run answered.
-fn put_ran(
-    tally: Tally,
-    answer: Answer,
-    order: Order,
-    n: u32,
-    ops: &[usize],
-    ow: &[u64],
-    oc: &[u32],
-    out: &mut [u8],
-) -> usize
-    requires { RanRoom tally (stated answer) (length ow.now) (length oc.now) }
-    ensures { Put (ran_text order n ops.now ow.now oc.now tally (stated answer)) 0 out.old out.new result }
+// Puts what the run of what was read answered.
+fn put_ran(ran: Returned, l: Loaded, ops: &[usize], ow: &[u64], oc: &[u32], out: &mut [u8]) -> usize
+    requires { RanRoom ran.tally (stated ran.answer) (length ow.now) (length oc.now) }
+    ensures { Put (ran_text l.order l.vars ops.now ow.now oc.now ran.tally (stated ran.answer)) 0 out.old out.new result }
 {
-    match answer {
+    match ran.answer {
         Ok(done) => {
             let m = done.places as usize;
-            let at = put_answers(order, n, ops, &ow[..m], &oc[..m], out);
-            put_cost(tally.comparisons, tally.brought, out, at)
+            let at = put_answers(l.order, l.vars, ops, &ow[..m], &oc[..m], out);
+            put_cost(ran.tally.comparisons, ran.tally.brought, out, at)
         }
         Err(stopped) => put_refused(number_of(stopped.refusal), stopped.finished, out, 0),
     }
 }
 
 // Runs what a script says, and puts what the run answered.
-fn list_run<'a>(
-    l: Loaded,
-    words: &'a [u64],
-    coefs: &'a [u32],
-    starts: &[usize],
-    ops: &[usize],
-    out: &mut [u8],
-) -> usize
-    requires { (length words.now ≤ script_terms) × (length ops.now ≤ script_numbers) }
-    ensures { Put (loaded_text l (fields DegRevLex l.weights) words.now coefs.now starts.now ops.now) 0 out.old out.new result }
+// Kept: buffers of a fixed size, here and below, for the longest script: the engine's crates use no heap.
+fn list_run(l: Loaded, ps: Polynomials<'_>, ops: &[usize], out: &mut [u8]) -> usize
+    requires { (length ps.words.now ≤ script_terms) × (length ops.now ≤ script_numbers) }
+    ensures { Put (loaded_text l ps.entry.words.now ps.entry.coefs.now ps.entry.starts.now ops.now) 0 out.old out.new result }
 {
     let mut bw = [0u64; BUCKET_PLACES];
     let mut bc = [0u32; BUCKET_PLACES];
@@ -65,14 +47,12 @@ fn list_run<'a>(
         given: 0,
         held: 0,
     };
-    let weights = weights_of(l.weights);
+    let order = l.order.number();
     let ran = run(
-        none, l.prime, l.order, l.vars, &weights, words, coefs, starts, ops, &mut bw, &mut bc,
-        &mut ww, &mut wc, &mut ow, &mut oc,
+        none, l.prime, order, l.vars, &l.weights, ps.words, ps.coefs, ps.starts, ops, &mut bw,
+        &mut bc, &mut ww, &mut wc, &mut ow, &mut oc,
     );
-    let tally = ran.tally;
-    let answer = ran.answer;
-    put_ran(tally, answer, order_of(l.order), l.vars, ops, &ow, &oc, out)
+    put_ran(ran, l, ops, &ow, &oc, out)
 }
 
 // Reads a script and puts its listing.
@@ -84,14 +64,14 @@ pub fn put_listing(script: &[u8], out: &mut [u8]) -> usize
     let mut starts = [0usize; SCRIPT_STARTS];
     let mut ops = [0usize; SCRIPT_NUMBERS];
     let found = read_script(script, &mut words, &mut coefs, &mut starts, &mut ops);
-    match found {
-        Some(l) => {
-            let counts = l.counts;
-            let t = counts.terms;
-            let k = counts.polynomials + 1;
-            let m = 2 * counts.operations;
-            list_run(l, &words[..t], &coefs[..t], &starts[..k], &ops[..m], out)
-        }
-        None => put_refused(number_of(Refusal::BadScript), 0, out, 0),
-    }
+    let Some(l) = found else {
+        return put_refused(number_of(Refusal::BadScript), 0, out, 0);
+    };
+    let counts = l.counts;
+    let ps = Polynomials {
+        words: &words[..counts.terms],
+        coefs: &coefs[..counts.terms],
+        starts: &starts[..counts.polynomials + 1],
+    };
+    list_run(l, ps, &ops[..2 * counts.operations], out)
 }

@@ -1,28 +1,25 @@
 -- The lines of leads and sums as the code puts them. Assumes nothing.
-use Prim.Native.Nat.{ℕ, zero, suc, ◌+◌, ◌≤◌, ◌<◌, min}
+use Prim.Native.Nat.{ℕ, zero, suc, ◌+◌, ◌*◌, ◌/◌, ◌≤◌, ◌<◌, min}
 use native.Mathlib.Omega.{arith}
-use mathlib.Core.Path.{◌≡◌, refl, sym, ap, ◌∙◌}
+use mathlib.Core.Path.{◌≡◌, refl, sym, ap, ap₂, ◌∙◌, subst}
 use mathlib.Core.Bool.{Bool, true, false}
 use mathlib.Core.List.{List, [], ◌∷◌, ◌++◌, append-nil, append_assoc}
 use borrow.Author.Tests.{eq-eqb, ne_eqb, leb-true, leb-false}
 use lib.Dec.{eqb, leb}
 use lib.ListN.{length, drop, get_or, length-append, length-drop, drop_of_length-le}
 use lib.Seq.{drop-drop, drop-cons}
+use Rattle.std.specs.Simd.{first_chunks}
 use Rattle.monomial.specs.declared.order.Order.{Order}
+use Rattle.conditions.specs.declared.operations.Operation.{Operation}
+use Rattle.conditions.specs.declared.operations.Operation.TheVariants.{Lead}
+use Rattle.conditions.specs.Operations.{code_of, operation_from, operation}
 use Rattle.polynomial.specs.Terms.{Term, term, terms}
 use Rattle.polynomial.proofs.TermLists.{length-terms, term-at, lead-at}
 use Rattle.grammar.specs.Grammar.{lead-word, sum-word}
 use Rattle.listing_lines.specs.declared.answers.Next.{Next}
 use Rattle.listing_lines.specs.Put.{Put}
-use Rattle.listing_lines.specs.Listing.{term_text, zero_word, place_by, place_text, first_place, lead_text, sum_terms, terms_text, zero_if, sum_text, answer_by, behind_by, answers_text, Places, TermsPut, AnswerPut}
-use Rattle.listing_lines.proofs.PutLaws.{put_both, put_same, put-nothing, put-within}
-
-module _ (o : Order) (n : ℕ) (t : Term ℕ) {at : ℕ} {out out' : List ℕ} {to : ℕ} where
-  pub put-zero : t.coef ≡ 0 → Put zero_word at out out' to → Put (place_text o n t) at out out' to
-  put-zero e p = put_same (sym (ap (λ (b : Bool). place_by b o n t) (eq-eqb t.coef 0 e))) p
-
-  pub put-nonzero : (t.coef ≡ 0 → ⊥) → Put (term_text o n t) at out out' to → Put (place_text o n t) at out out' to
-  put-nonzero e p = put_same (sym (ap (λ (b : Bool). place_by b o n t) (ne_eqb t.coef 0 e))) p
+use Rattle.listing_lines.specs.Listing.{term_text, place_text, first_place, lead_text, sum_terms, terms_text, zero_if, sum_text, answer_by, behind_by, answers_text, TermsPut, AnswerPut}
+use Rattle.listing_lines.proofs.PutLaws.{put_both, put_same, put-nothing}
 
 first-get : (ts : List (Term ℕ)) (i : ℕ) → first_place (drop i ts) ≡ get_or ts i (term 0 0)
 first-get [] zero = refl
@@ -63,9 +60,9 @@ pub record Putting (o : Order) (n i : ℕ) (ow oc : List ℕ) (at : ℕ) (out₀
   pub whole : done ++ sum_terms (drop place (terms ow oc)) ≡ sum_terms (drop i (terms ow oc))
   pub place_is : place ≡ i + length done
 
-pub putting-start : (o : Order) (n i : ℕ) (ow oc : List ℕ) (at : ℕ) (out : List ℕ) → at ≤ length out → Putting o n i ow oc at out out i at
+pub putting-start : (o : Order) (n i : ℕ) (ow oc : List ℕ) (at : ℕ) (out : List ℕ) (to : ℕ) → to ≡ min at (length out) → Putting o n i ow oc at out out i to
 unfolding terms_text
-putting-start o n i ow oc at out h = record { done = []; text = put-nothing out at h; whole = refl; place_is = omega arith }
+putting-start o n i ow oc at out to e = record { done = []; text = put-nothing out at to e; whole = refl; place_is = omega arith }
 
 module _ {o : Order} {n i : ℕ} {ow oc : List ℕ} {at : ℕ} {out₀ out : List ℕ} {place to : ℕ} (d : Putting o n i ow oc at out₀ out place to) (h : length oc ≡ length ow) where
   ends : place ≤ length ow → sum_terms (drop place (terms ow oc)) ≡ [] → TermsPut o n i ow oc at out₀ out (record { place = place; at = to })
@@ -88,30 +85,27 @@ module _ {o : Order} {n i : ℕ} {ow oc : List ℕ} {at : ℕ} {out₀ out : Lis
   }
 
 -- ---- one operation
-behind_sum : (ts : List (Term ℕ)) (i k : ℕ) → drop (i + k + 1) ts ≡ drop (k + 1) (drop i ts)
-behind_sum ts i k = ap (λ (j : ℕ). drop j ts) (let z : i + k + 1 ≡ i + (k + 1) = omega arith in z) ∙ sym (drop-drop (k + 1) i ts)
-
 module _ {o : Order} {n i : ℕ} {ow oc : List ℕ} {at : ℕ} {out : List ℕ} where
   pub sum-put : {out1 out2 out3 out4 : List ℕ} {a : ℕ} {t : Next} {b e : ℕ} → Put sum-word at out out1 a → TermsPut o n i ow oc a out1 out2 t → Put (zero_if (eqb (length (sum_terms (drop i (terms ow oc)))) 0)) t.at out2 out3 b → Put (10 ∷ []) b out3 out4 e → Put (sum_text o n (drop i (terms ow oc))) at out out4 e
   unfolding sum_text
   sum-put p t q r = put_both p (put_both t.put (put_both q r))
 
-  pub add-answer : (code : ℕ) → code ≡ 1 → i ≤ length ow → at ≤ length out → AnswerPut o n code i ow oc at out out (record { place = i; at = at })
-  add-answer code e l r = record { put = put_same (sym (ap (λ (b : Bool). answer_by b (eqb code 2) o n (drop i (terms ow oc))) (eq-eqb code 1 e))) (put-nothing out at r); behind = sym (ap (λ (b : Bool). behind_by b (eqb code 2) (drop i (terms ow oc))) (eq-eqb code 1 e)); within = l }
+  pub lead-answer : {q : Operation} → q ≡ Lead → {out' : List ℕ} {e : ℕ} → Put (lead_text o n (drop i (terms ow oc))) at out out' e → (k : ℕ) → k ≤ length ow → drop k (terms ow oc) ≡ drop (i + 1) (terms ow oc) → AnswerPut o n (code_of q) i ow oc at out out' (record { place = k; at = e })
+  lead-answer is p k l d = rw is (record { put = p; behind = d ∙ sym (drop-drop 1 i (terms ow oc)); within = l })
 
-  pub lead-answer : (code : ℕ) → (code ≡ 1 → ⊥) → code ≡ 2 → {out' : List ℕ} {e : ℕ} → Put (lead_text o n (drop i (terms ow oc))) at out out' e → (k : ℕ) → k ≤ length ow → drop k (terms ow oc) ≡ drop (i + 1) (terms ow oc) → AnswerPut o n code i ow oc at out out' (record { place = k; at = e })
-  lead-answer code e f p k l q = record {
-    put = put_same (sym (ap (λ (b : Bool). answer_by b (eqb code 2) o n (drop i (terms ow oc))) (ne_eqb code 1 e) ∙ ap (λ (b : Bool). answer_by false b o n (drop i (terms ow oc))) (eq-eqb code 2 f))) p;
-    behind = q ∙ (sym (drop-drop 1 i (terms ow oc)) ∙ sym (ap (λ (b : Bool). behind_by b (eqb code 2) (drop i (terms ow oc))) (ne_eqb code 1 e) ∙ ap (λ (b : Bool). behind_by false b (drop i (terms ow oc))) (eq-eqb code 2 f)));
-    within = l;
-  }
+  -- one that was read has the line of its pair
+  pub read-answer : (code k : ℕ) {out' : List ℕ} {r : Next} → AnswerPut o n (code_of (operation code k)) i ow oc at out out' r → AnswerPut o n code i ow oc at out out' r
+  read-answer code k d = record { put = put_same (line (eqb code 1) (eqb code 2)) d.put; behind = d.behind ∙ behind (eqb code 1) (eqb code 2); within = d.within }
+    where
+      line : (a b : Bool) → answer_by (eqb (code_of (operation_from a b k)) 1) (eqb (code_of (operation_from a b k)) 2) o n (drop i (terms ow oc)) ≡ answer_by a b o n (drop i (terms ow oc))
+      line true b = refl
+      line false true = refl
+      line false false = refl
 
-  pub sum-answer : (code : ℕ) → (code ≡ 1 → ⊥) → (code ≡ 2 → ⊥) → {out' : List ℕ} {e : ℕ} → Put (sum_text o n (drop i (terms ow oc))) at out out' e → (k : ℕ) → k ≤ length ow → drop k (terms ow oc) ≡ drop (i + length (sum_terms (drop i (terms ow oc))) + 1) (terms ow oc) → AnswerPut o n code i ow oc at out out' (record { place = k; at = e })
-  sum-answer code e f p k l q = record {
-    put = put_same (sym (ap (λ (b : Bool). answer_by b (eqb code 2) o n (drop i (terms ow oc))) (ne_eqb code 1 e) ∙ ap (λ (b : Bool). answer_by false b o n (drop i (terms ow oc))) (ne_eqb code 2 f))) p;
-    behind = q ∙ (behind_sum (terms ow oc) i (length (sum_terms (drop i (terms ow oc)))) ∙ sym (ap (λ (b : Bool). behind_by b (eqb code 2) (drop i (terms ow oc))) (ne_eqb code 1 e) ∙ ap (λ (b : Bool). behind_by false b (drop i (terms ow oc))) (ne_eqb code 2 f)));
-    within = l;
-  }
+      behind : (a b : Bool) → behind_by (eqb (code_of (operation_from a b k)) 1) (eqb (code_of (operation_from a b k)) 2) (drop i (terms ow oc)) ≡ behind_by a b (drop i (terms ow oc))
+      behind true b = refl
+      behind false true = refl
+      behind false false = refl
 
 -- past the end there is nothing
 pub drop-after : (ow oc : List ℕ) (i : ℕ) → length oc ≡ length ow → drop (min (i + 1) (length ow)) (terms ow oc) ≡ drop (i + 1) (terms ow oc)
@@ -136,6 +130,21 @@ no_answer o n [] ts h = refl
 no_answer o n (c ∷ []) ts h = refl
 no_answer o n (c ∷ (e ∷ os)) ts h = absurd (let z : ⊥ = omega arith in z)
 
+-- pair j of a list, whose last element may have no pair
+pair-at : (k j : ℕ) (ops : List ℕ) → j < k → 2 * k ≤ length ops → (get_or (get_or (first_chunks 2 k ops) j []) 0 0 ≡ get_or ops (2 * j) 0) × (get_or (get_or (first_chunks 2 k ops) j []) 1 0 ≡ get_or ops (2 * j + 1) 0)
+pair-at zero j ops h e = absurd (let z : ⊥ = omega arith in z)
+pair-at (suc k) j [] h e = absurd (let z : ⊥ = omega arith in z)
+pair-at (suc k) j (a ∷ []) h e = absurd (let z : ⊥ = omega arith in z)
+pair-at (suc k) zero (a ∷ (b ∷ ops)) h e = (refl, refl)
+pair-at (suc k) (suc j) (a ∷ (b ∷ ops)) h e =
+    let r = pair-at k j ops (omega arith) (omega arith) in
+    (r.0 ∙ ap (λ (n : ℕ). get_or (a ∷ (b ∷ ops)) n 0) (let z : suc (suc (2 * j)) ≡ 2 * suc j = omega arith in z), r.1 ∙ ap (λ (n : ℕ). get_or (a ∷ (b ∷ ops)) n 0) (let z : suc (suc (2 * j + 1)) ≡ 2 * suc j + 1 = omega arith in z))
+
+pub asked-at : {q : Operation} {ps : List (List ℕ)} (ops : List ℕ) (j : ℕ) → ps ≡ first_chunks 2 (length ops / 2) ops → j < length ops / 2 → q ≡ operation (get_or (get_or ps j []) 0 0) (get_or (get_or ps j []) 1 0) → q ≡ operation (get_or ops (2 * j) 0) (get_or ops (2 * j + 1) 0)
+asked-at ops j front h is =
+    let r = pair-at (length ops / 2) j ops h (omega arith) in
+    is ∙ (ap (λ (ps : List (List ℕ)). operation (get_or (get_or ps j []) 0 0) (get_or (get_or ps j []) 1 0)) front ∙ ap₂ operation r.0 r.1)
+
 pub record Answering (o : Order) (n : ℕ) (ops ow oc : List ℕ) (out₀ out : List ℕ) (place at k : ℕ) : Type 0 where
   pub done : List ℕ
   pub text : Put done 0 out₀ out at
@@ -143,13 +152,7 @@ pub record Answering (o : Order) (n : ℕ) (ops ow oc : List ℕ) (out₀ out : 
   pub within : place ≤ length ow
   pub read : k ≤ length ops
 
-pub answering-start : (o : Order) (n : ℕ) (ops ow oc out : List ℕ) → Answering o n ops ow oc out out 0 0 0
-answering-start o n ops ow oc out = record { done = []; text = put-nothing out 0 (omega arith); whole = refl; within = omega arith; read = omega arith }
-
 module _ {o : Order} {n : ℕ} {ops ow oc : List ℕ} {out₀ out : List ℕ} {place at k : ℕ} (d : Answering o n ops ow oc out₀ out place at k) where
-  pub answer-places : length oc ≡ length ow → Places place ow oc at (length out)
-  answer-places h = record { within = d.within; same-long = h; room = put-within d.text }
-
   pub answering-more : k + 1 < length ops → {out' : List ℕ} {r : Next} → AnswerPut o n (get_or ops k 0) place ow oc at out out' r → Answering o n ops ow oc out₀ out' r.place r.at (k + 2)
   unfolding answers_text
   answering-more l {out'} {r} a =
@@ -163,8 +166,8 @@ module _ {o : Order} {n : ℕ} {ops ow oc : List ℕ} {out₀ out : List ℕ} {p
         read = omega arith;
       }
 
-  pub answering-next : (j : ℕ) → j ≡ k + 2 → k + 1 < length ops → {out' : List ℕ} {r : Next} → AnswerPut o n (get_or ops k 0) place ow oc at out out' r → Answering o n ops ow oc out₀ out' r.place r.at j
-  answering-next j e l {out'} {r} a = rw e (answering-more l a)
+  pub answering-next : (j : ℕ) → j ≡ k + 2 → k + 1 < length ops → {q : Operation} → q ≡ operation (get_or ops k 0) (get_or ops (k + 1) 0) → {out' : List ℕ} {r : Next} → AnswerPut o n (code_of q) place ow oc at out out' r → Answering o n ops ow oc out₀ out' r.place r.at j
+  answering-next j e l is {out'} {r} a = rw e (answering-more l (read-answer (get_or ops k 0) (get_or ops (k + 1) 0) (subst (λ (y : Operation). AnswerPut o n (code_of y) place ow oc at out out' r) is a)))
 
   pub answering-end : length ops ≤ k + 1 → Put (answers_text o n ops (terms ow oc)) 0 out₀ out at
   answering-end l = put_same (sym (append-nil d.done) ∙ (ap (λ (x : List ℕ). d.done ++ x) (sym (no_answer o n (drop k ops) (drop place (terms ow oc)) (omega (arith, length-drop k ops)))) ∙ d.whole)) d.text

@@ -1,4 +1,3 @@
 pub mod PutLaws
 pub mod PlaceLaws
 pub mod AnswerLaws
-pub mod EndingLaws

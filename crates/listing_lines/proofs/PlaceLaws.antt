@@ -42,9 +42,9 @@ take-least n xs k e = go (leb n k) refl
     go true h = ap (λ (j : ℕ). take j xs) (let l : n ≤ k = leb-true _ _ h in let z : min n k ≡ n = omega arith in z)
     go false h = let l : k < n = leb-false _ _ h in ap (λ (j : ℕ). take j xs) (let z : min n k ≡ k = omega arith in z) ∙ (take_all k xs (omega arith) ∙ sym (take_all n xs (omega arith)))
 
-pub exponents-start : (o : Order) (w : ℕ) (out : List ℕ) (at : ℕ) → at ≤ length out → Put (joined 46 (map decimal (take 0 (fields o w)))) at out out at
+pub exponents-start : (o : Order) (w : ℕ) (out : List ℕ) (at to : ℕ) → to ≡ min at (length out) → Put (joined 46 (map decimal (take 0 (fields o w)))) at out out to
 unfolding joined
-exponents-start o w out at h = put-nothing out at h
+exponents-start o w out at to e = put-nothing out at to e
 
 module _ (o : Order) (w : ℕ) {at : ℕ} {out out' : List ℕ} {to : ℕ} where
   pub exponents-more : (i : ℕ) → i < 6 → Put (joined 46 (map decimal (take i (fields o w)))) at out out' to → {out'' : List ℕ} {to' : ℕ} → Put (dotted i (get_or (fields o w) i 0)) to out' out'' to' → Put (joined 46 (map decimal (take (i + 1) (fields o w)))) at out out'' to'
@@ -60,7 +60,3 @@ module _ (o : Order) (w : ℕ) {at : ℕ} {out out' : List ℕ} {to : ℕ} where
 pub put-dotted : (i e : ℕ) {at : ℕ} {out out' out'' : List ℕ} {to to' : ℕ} → (i ≡ 0 → ⊥) → Put (46 ∷ []) at out out' to → Put (decimal e) to out' out'' to' → Put (dotted i e) at out out'' to'
 put-dotted zero e n p q = absurd (n refl)
 put-dotted (suc i) e n p q = put_both p q
-
-pub put_first : (i e : ℕ) {at : ℕ} {out out' : List ℕ} {to : ℕ} → i ≡ 0 → Put (decimal e) at out out' to → Put (dotted i e) at out out' to
-put_first zero e h p = p
-put_first (suc i) e h p = absurd (let z : ⊥ = omega arith in z)

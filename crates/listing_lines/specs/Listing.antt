@@ -78,12 +78,7 @@ answers_text o n [] ts = []
 answers_text o n (code ∷ []) ts = []
 answers_text o n (code ∷ (k ∷ os)) ts = answer_by (eqb code 1) (eqb code 2) o n ts ++ answers_text o n os (behind_by (eqb code 1) (eqb code 2) ts)
 
--- ---- what the code asks and hands back
-pub record Places (i : ℕ) (ow oc : List ℕ) (at out : ℕ) : Type 0 where
-  pub within : i ≤ length ow
-  pub same-long : length oc ≡ length ow
-  pub room : at ≤ out
-
+-- ---- what the code hands back
 pub record TermsPut (o : Order) (n i : ℕ) (ow oc : List ℕ) (at : ℕ) (out out' : List ℕ) (r : Next) : Type 0 where
   pub put : Put (terms_text o n (sum_terms (drop i (terms ow oc)))) at out out' r.at
   pub place : r.place ≡ i + length (sum_terms (drop i (terms ow oc)))

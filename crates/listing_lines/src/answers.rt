@@ -1,12 +1,24 @@
 // The lines of a run's leads and sums, from the places that it wrote.
 ghost use Rattle.std.specs.Prelude.{◌+◌, ◌≤◌, ◌≡◌, length, drop, get_or};
 ghost use Rattle.polynomial.specs.Terms.{term, terms};
+ghost use Rattle.conditions.specs.Operations.{code_of};
 ghost use Rattle.listing_lines.specs.Put.{Put};
-ghost use Rattle.listing_lines.specs.Listing.{place_text, lead_text, TermsPut, AnswerPut, zero_if, Places, SumPut, answers_text};
+ghost use Rattle.listing_lines.specs.Listing.{place_text, lead_text, TermsPut, AnswerPut, zero_if, SumPut, answers_text};
 
 use crate::put::{put, put_byte};
 use crate::term::put_term;
+use conditions::operations::Operation;
 use monomial::order::Order;
+
+// The places that a run wrote, a word and a coefficient for each: those from place i on are to be read.
+#[derive(Clone, Copy)]
+struct Places<'a> {
+    words: &'a [u64],
+    coefs: &'a [u32],
+    i: usize,
+    ghost same_long: { length coefs.now ≡ length words.now },
+    ghost within: { i ≤ length words.now },
+}
 
 // The next output place to be read, and the next place of the listing.
 #[derive(Clone, Copy)]
@@ -24,7 +36,6 @@ fn at_or<T: Copy>(s: &[T], i: usize, none: T) -> T
 
 // Puts a term behind a space, or ` zero`.
 fn put_place(order: Order, n: u32, w: u64, coef: u32, out: &mut [u8], at: usize) -> usize
-    requires { at ≤ length out.old }
     ensures { Put (place_text order n (term w coef)) at out.old out.new result }
 {
     if coef == 0 {
@@ -34,127 +45,88 @@ fn put_place(order: Order, n: u32, w: u64, coef: u32, out: &mut [u8], at: usize)
 }
 
 // Puts the line of a lead, from output place i.
-// Kept: the words and coefficients are two parameters, here and below. The clauses name each of them, so a
-// struct of the two would only make the names longer; the lengths stand in `Places` with i and `at`.
-fn put_lead(
-    order: Order,
-    n: u32,
-    ow: &[u64],
-    oc: &[u32],
-    i: usize,
-    out: &mut [u8],
-    at: usize,
-) -> usize
-    requires { Places i ow.now oc.now at (length out.old) }
-    ensures { Put (lead_text order n (drop i (terms ow.now oc.now))) at out.old out.new result }
+fn put_lead(order: Order, n: u32, ps: Places, out: &mut [u8], at: usize) -> usize
+    ensures { Put (lead_text order n (drop ps.entry.i (terms ps.entry.words.now ps.entry.coefs.now))) at out.old out.new result }
 {
     let from = put(b"lead", out, at);
-    let word = at_or(ow, i, 0);
-    let coef = at_or(oc, i, 0);
+    let word = at_or(ps.words, ps.i, 0);
+    let coef = at_or(ps.coefs, ps.i, 0);
     let end = put_place(order, n, word, coef, out, from);
-    put_byte(10, out, end)
+    put_byte(b'\n', out, end)
 }
 
 // Puts the terms from output place i on, up to a zero place.
-fn put_terms(
-    order: Order,
-    n: u32,
-    ow: &[u64],
-    oc: &[u32],
-    i: usize,
-    out: &mut [u8],
-    at: usize,
-) -> Next
-    requires { Places i ow.now oc.now at (length out.old) }
-    ensures { TermsPut order n i ow.now oc.now at out.old out.new result }
+fn put_terms(order: Order, n: u32, ps: Places, out: &mut [u8], at: usize) -> Next
+    ensures { TermsPut order n ps.entry.i ps.entry.words.now ps.entry.coefs.now at out.old out.new result }
 {
-    let mut to = at;
-    for place in i..ow.len() {
-        let c = oc[place];
+    let mut to = at.min(out.len());
+    for place in ps.i..ps.words.len() {
+        let c = ps.coefs[place];
         if c == 0 {
             return Next { place, at: to };
         }
-        to = put_term(order, n, ow[place], c, out, to);
+        to = put_term(order, n, ps.words[place], c, out, to);
     }
     Next {
-        place: ow.len(),
+        place: ps.words.len(),
         at: to,
     }
 }
 
 // Puts ` zero` if there are no terms.
 fn put_zero_if(none: bool, out: &mut [u8], at: usize) -> usize
-    requires { at ≤ length out.old }
     ensures { Put (zero_if none) at out.old out.new result }
 {
-    if none {
-        return put(b" zero", out, at);
-    }
-    at
+    let text: &[u8] = if none { b" zero" } else { b"" };
+    put(text, out, at)
 }
 
 // The place behind place i, or the end.
-fn after(ow: &[u64], oc: &[u32], i: usize) -> usize
-    requires { Places i ow.now oc.now 0 0 }
-    ensures { (drop result (terms ow.now oc.now) ≡ drop (i + 1) (terms ow.now oc.now)) × (result ≤ length ow.now) }
+fn after(ps: Places, i: usize) -> usize
+    requires { i ≤ length ps.words.now }
+    ensures { (drop result (terms ps.entry.words.now ps.entry.coefs.now) ≡ drop (i + 1) (terms ps.entry.words.now ps.entry.coefs.now)) × (result ≤ length ps.entry.words.now) }
 {
-    (i + 1).min(ow.len())
+    (i + 1).min(ps.words.len())
 }
 
 // Puts the line of a sum, from output place i on.
-fn put_sum(
-    order: Order,
-    n: u32,
-    ow: &[u64],
-    oc: &[u32],
-    i: usize,
-    out: &mut [u8],
-    at: usize,
-) -> Next
-    requires { Places i ow.now oc.now at (length out.old) }
-    ensures { SumPut order n i ow.now oc.now at out.old out.new result }
+fn put_sum(order: Order, n: u32, ps: Places, out: &mut [u8], at: usize) -> Next
+    ensures { SumPut order n ps.entry.i ps.entry.words.now ps.entry.coefs.now at out.old out.new result }
 {
     let from = put(b"sum", out, at);
-    let t = put_terms(order, n, ow, oc, i, out, from);
+    let t = put_terms(order, n, ps, out, from);
     let place = t.place;
-    let behind = put_zero_if(place == i, out, t.at);
-    let end = put_byte(10, out, behind);
+    let behind = put_zero_if(place == ps.i, out, t.at);
+    let end = put_byte(b'\n', out, behind);
     Next { place, at: end }
 }
 
 // Puts the line of an operation, from output place i on.
-// Kept: the code of an operation is a number, since the run takes pairs of numbers, as the C interface has
-// them.
 fn put_answer(
-    code: usize,
+    operation: Operation,
     order: Order,
     n: u32,
-    ow: &[u64],
-    oc: &[u32],
-    i: usize,
+    ps: Places,
     out: &mut [u8],
     at: usize,
 ) -> Next
-    requires { Places i ow.now oc.now at (length out.old) }
-    ensures { AnswerPut order n code i ow.now oc.now at out.old out.new result }
+    ensures { AnswerPut order n (code_of operation) ps.entry.i ps.entry.words.now ps.entry.coefs.now at out.old out.new result }
 {
-    if code == 1 {
-        return Next { place: i, at };
-    }
-    if code == 2 {
-        let end = put_lead(order, n, ow, oc, i, out, at);
-        let next = after(ow, oc, i);
-        return Next {
-            place: next,
-            at: end,
-        };
-    }
-    let s = put_sum(order, n, ow, oc, i, out, at);
-    let last = s.place;
-    let next = after(ow, oc, last);
-    Next {
-        place: next,
-        at: s.at,
+    match operation {
+        Operation::Add(_) => Next {
+            place: ps.i,
+            at: at.min(out.len()),
+        },
+        Operation::Lead => {
+            let end = put_lead(order, n, ps, out, at);
+            let place = after(ps, ps.i);
+            Next { place, at: end }
+        }
+        Operation::Sum => {
+            let s = put_sum(order, n, ps, out, at);
+            let place = after(ps, s.place);
+            Next { place, at: s.at }
+        }
     }
 }
 
@@ -171,10 +143,15 @@ pub fn put_answers(
     ensures { Put (answers_text order n ops.now (terms ow.now oc.now)) 0 out.old out.new result }
 {
     let mut next = Next { place: 0, at: 0 };
-    for k in 0..ops.len() / 2 {
-        let place = next.place;
-        let at = next.at;
-        next = put_answer(ops[2 * k], order, n, ow, oc, place, out, at);
+    let (pairs, _) = ops.as_chunks::<2>();
+    for pair in pairs {
+        let ps = Places {
+            words: ow,
+            coefs: oc,
+            i: next.place,
+        };
+        let operation = Operation::of(pair[0], pair[1]);
+        next = put_answer(operation, order, n, ps, out, next.at);
     }
     next.at
 }

@@ -1,5 +1,5 @@
 // The last line of a listing: the cost, or a refusal.
-ghost use Rattle.std.specs.Prelude.{◌≤◌, ◌≡◌, length};
+ghost use Rattle.std.specs.Prelude.{◌≤◌, ◌≡◌};
 ghost use Rattle.geobucket.specs.Events.{levels, bound};
 ghost use Rattle.listing_lines.specs.Put.{Put};
 ghost use Rattle.listing_lines.specs.Listing.{cost_text, refused_text};
@@ -7,25 +7,18 @@ ghost use Rattle.listing_lines.specs.Listing.{cost_text, refused_text};
 use crate::put::{put, put_byte, put_decimal};
 
 // The number M of levels for n terms.
+#[tactic(auto, using(std::proofs::lemmas::Bool::Decides::nat_tests), unfolding(geobucket::specs::Events::level_from))]
 fn level_count(n: u64) -> u64
     ensures { (result ≡ levels n) × (result ≤ 6) }
 {
-    if n <= 4 {
-        return 1;
+    match n {
+        0..=4 => 1,
+        5..=16 => 2,
+        17..=64 => 3,
+        65..=256 => 4,
+        257..=1024 => 5,
+        _ => 6,
     }
-    if n <= 16 {
-        return 2;
-    }
-    if n <= 64 {
-        return 3;
-    }
-    if n <= 256 {
-        return 4;
-    }
-    if n <= 1024 {
-        return 5;
-    }
-    6
 }
 
 // The most comparisons that n terms can cost.
@@ -39,25 +32,25 @@ fn cost_bound(n: u64) -> u64
 
 // Puts `cost C of B`.
 pub fn put_cost(comparisons: u64, brought: u64, out: &mut [u8], at: usize) -> usize
-    requires { (brought ≤ 100000000000000000) × (at ≤ length out.old) }
+    requires { brought ≤ 100000000000000000 }
     ensures { Put (cost_text comparisons brought) at out.old out.new result }
 {
     let a = put(b"cost ", out, at);
     let b = put_decimal(comparisons, out, a);
     let c = put(b" of ", out, b);
     let d = put_decimal(cost_bound(brought), out, c);
-    put_byte(10, out, d)
+    put_byte(b'\n', out, d)
 }
 
 // Puts `refused R at K`.
-// Kept: the refusal as a number, since the clause holds of every number, also of one that no refusal has.
+// Kept: the refusal as a number: the clause `Put (refused_text number finished)` speaks of every number, and with a
+// `Refusal` here it would promise less.
 pub fn put_refused(number: u32, finished: u64, out: &mut [u8], at: usize) -> usize
-    requires { at ≤ length out.old }
     ensures { Put (refused_text number finished) at out.old out.new result }
 {
     let a = put(b"refused ", out, at);
-    let b = put_decimal(number as u64, out, a);
+    let b = put_decimal(u64::from(number), out, a);
     let c = put(b" at ", out, b);
     let d = put_decimal(finished, out, c);
-    put_byte(10, out, d)
+    put_byte(b'\n', out, d)
 }

@@ -6,4 +6,3 @@ pub mod Moving
 pub mod Resting
 pub mod Joining
 mod Outcomes
-pub mod RestWords

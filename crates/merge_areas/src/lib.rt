@@ -22,6 +22,8 @@ pub mod turns; // the turns of the merge
 // places from `to` up to to + n + m, which lie apart from both. The result ends there. The rest of a list
 // below the other one's last term is moved first; then a turn in front and one at the back wait for nothing
 // of each other. What is stored in front is moved up to the rest over the places of like terms.
+// Kept: eight parameters: the callers have the place and the length of each area apart, as variables of a loop or
+// as C gives them, so a struct for an area would be made for each call, and the call would still name five numbers.
 pub fn merge_areas<K: Key>(
     p: u32,
     ww: &mut [u64],

@@ -6,7 +6,7 @@ ghost use Rattle.merge_common.specs.Lent.{rest_of};
 ghost use Rattle.merge_areas.specs.Ways.{Ready, Rested, MovedLeft, Above, Source};
 
 use crate::turns::Ends;
-use merge_common::copy::{move_terms, rest_words};
+use merge_common::copy::{count_places, move_terms, part_places, rest_places};
 use merge_common::places::Key;
 
 // The end of the terms at places `from` up to `end` that are not below the key `last`.
@@ -23,14 +23,15 @@ fn above<K: Key>(ww: &[u64], from: usize, end: usize, last: K) -> usize
     from
 }
 
-// How many terms are left of two lists, from i up to ie and from j up to je, of which one is used up: the
-// words that are left, by the words of a key.
+// How many terms are left of two lists, those from i up to ie and those from j up to je, of which one is
+// used up: as many as there are places in what the tail function gives.
 fn rest_len<K: Key>(ww: &[u64], i: usize, ie: usize, j: usize, je: usize) -> usize
     requires { (i ≤ ie) × (j ≤ je) × (ie ≤ length (key_numbers K.width ww.now)) × (je ≤ length (key_numbers K.width ww.now)) }
     ensures { result ≡ length (rest_of (drop i (take ie (key_numbers K.width ww.now))) (drop j (take je (key_numbers K.width ww.now)))) }
 {
-    let w = K::WORDS;
-    rest_words(&ww[..w * ie], w * i, &ww[..w * je], w * j).len() / w
+    let left = part_places::<K>(ww, 0, ie);
+    let right = part_places::<K>(ww, 0, je);
+    count_places::<K>(rest_places::<K>(left, i, right, j))
 }
 
 // Where the terms begin that are left of two lists, of which one is used up.

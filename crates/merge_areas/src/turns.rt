@@ -8,6 +8,8 @@ use merge_common::places::Key;
 
 // What is left of the two lists, at places i up to ie and j up to je, and the places d up to e that are
 // free for their merge, with the turns made.
+// Kept: `Ready`, `Reducing` and `s.i < s.ie` stand in the contracts here and in `rest`, and not in this type:
+// the first two say what lies in the lent slices, which it does not hold, and a list may be used up.
 #[derive(Clone, Copy)]
 pub struct Ends {
     pub i: usize,
@@ -83,7 +85,7 @@ pub fn one_end<K: Key>(p: u32, ww: &mut [u64], wc: &mut [u32], s: Ends) -> Ends
     ensures { Goes p (key_numbers K.width ww.old) wc.old s (key_numbers K.width ww.new) wc.new result × ((result.ie ≤ result.i) ⊎ (result.je ≤ result.j)) }
 {
     let mut t = s;
-    // Kept: no plainer: as above.
+    // Kept: no plainer: the fronts of both lists move, each by what a turn used.
     while t.i < t.ie && t.j < t.je {
         t = front::<K>(p, ww, wc, t);
     }

@@ -6,7 +6,7 @@ use Prim.Native.Nat.{ℕ, zero, suc, zero-le, ◌+◌, ◌-◌, ◌<◌, ◌≤�
 use native.Mathlib.Nat.{add-zero, add-suc, suc-add, le_of_lt, le_of_eq}
 use native.Mathlib.Numerals.{add-one}
 use native.Mathlib.Omega.{arith}
-use lib.ListN.{length, take, drop, set, get_or, length-set, length-drop, drop_of_length-le}
+use lib.ListN.{length, take, drop, set, get_or, replicate, length-set, length-drop, length-replicate, drop_of_length-le}
 use borrow.Rule.Slice.PartMut.{put_mid}
 use lib.Seq.{sets, sets-eq, drop-drop, take_all, take-suc, length-take-le, drop-cons, get_or-set_other, get_or-take, get_or-drop}
 use Rattle.merge_common.specs.Lent.{rest_of, part, Apart}
@@ -30,6 +30,14 @@ module _ {A : Type 0} where
   sets-mid l to n vs en ey h =
       ap₂ (λ (m : ℕ) (y : List A). take to l ++ (y ++ drop m (drop to l))) en ey
       ∙ (ap (λ (r : List A). take to l ++ (vs ++ r)) (drop-drop (length vs) to l) ∙ (sym (append_assoc (take to l) vs (drop (to + length vs) l)) ∙ sym (sets-eq vs l to h)))
+
+  -- a part of l that is filled with x
+  pub sets-filled : (l : List A) (to n : ℕ) (x : A) {ys : List A} → to + n ≤ length l → ys ≡ replicate (length (take (to + n - to) (drop to l))) x → put_mid to (to + n - to) l ys ≡ sets l to (replicate n x)
+  sets-filled l to n x h e =
+      let k : to + n - to ≡ n = omega arith in
+      let m : length (take (to + n - to) (drop to l)) ≡ n = ap (λ (i : ℕ). length (take i (drop to l))) k ∙ length-take-le n (drop to l) (omega (arith, length-drop to l)) in
+      let z = length-replicate n x in
+      sets-mid l to (to + n - to) (replicate n x) (k ∙ sym z) (e ∙ ap (λ (i : ℕ). replicate i x) m) (omega (arith, z, h))
 
   -- the part of l from a on
   pub part-from : (l : List A) (a : ℕ) → take (length l - a) (drop a l) ≡ drop a l
@@ -61,18 +69,12 @@ pub record Begun {A : Type 0} (s l : List A) (to : ℕ) (o : List A) (i : ℕ) :
   pub is : o ≡ sets l to (take i s)
   pub long : length o ≡ length l
 
-pub begun-none : {A : Type 0} (s l : List A) (to : ℕ) → Begun s l to l 0
-begun-none s l to = record { low = zero-le; is = refl; long = refl }
-
-pub begun-next : {A : Type 0} (s l : List A) (to : ℕ) (o : List A) (i : ℕ) (v d : A) → Begun s l to o i → i < length s → v ≡ get_or s i d → Begun s l to (set o (to + i) v) (i + 1)
-begun-next {A} s l to o i v d b h e = record {
+pub begun_more : (s l : List ℕ) (to : ℕ) (o : List ℕ) (i v : ℕ) → Begun s l to o i → i < length s → v ≡ get_or s i 0 → Begun s l to (set o (to + i) v) (i + 1)
+begun_more s l to o i v b h e = record {
   low = omega arith;
-  is = ap₂ (λ (x : List A) (y : A). set x (to + i) y) b.is e ∙ sets-take l to s i d h;
+  is = ap₂ (λ (x : List ℕ) (y : ℕ). set x (to + i) y) b.is e ∙ sets-take l to s i 0 h;
   long = length-set o (to + i) v ∙ b.long;
 }
-
-pub begun_more : (s l : List ℕ) (to : ℕ) (o : List ℕ) (i v : ℕ) → Begun s l to o i → i < length s → v ≡ get_or s i 0 → Begun s l to (set o (to + i) v) (i + 1)
-begun_more s l to o i v b h e = begun-next s l to o i v 0 b h e
 
 pub begun_all : {A : Type 0} (s l : List A) (to : ℕ) (o : List A) (i : ℕ) → Begun s l to o i → length s ≤ i → o ≡ sets l to s
 begun_all s l to o i b h = b.is ∙ ap (sets l to) (take_all i s h)

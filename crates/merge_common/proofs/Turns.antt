@@ -1,22 +1,23 @@
 -- One word or two at a place: places put one by one, as the laws of lists have it for their numbers. Assumes nothing.
-use mathlib.Core.Path.{◌≡◌, sym, ap, subst, ◌∙◌}
-use mathlib.Core.List.{List, map}
-use Prim.Native.Nat.{ℕ, ◌+◌, ◌-◌, ◌*◌, ◌/◌, ◌^◌, ◌<◌, ◌≤◌, compare, Ordering}
+use mathlib.Core.Path.{◌≡◌, refl, sym, ap, subst, ◌∙◌}
+use mathlib.Core.List.{List, ◌∷◌, map}
+use Prim.Native.Nat.{ℕ, zero, suc, ◌+◌, ◌-◌, ◌*◌, ◌/◌, ◌^◌, ◌<◌, ◌≤◌, compare, Ordering}
 use native.Mathlib.Omega.{arith}
 use borrow.Author.Tests.{eq-eqb, ne_eqb}
 use lib.Dec.{eqb}
-use lib.ListN.{length, set, get_or, drop, length-map, length-drop}
+use lib.ListN.{length, set, get_or, drop, replicate, length-map, length-drop, length-replicate}
 use lib.Seq.{sets}
 use Rattle.monomial.specs.Exponents.{or_else}
 use Rattle.monomial.proofs.Comparing.{Tri, less, same, more, tri, compare-digits}
 use Rattle.wide_monomial.specs.declared.width.Width.{Width}
 use Rattle.wide_monomial.specs.declared.width.Width.TheVariants.{One, Two}
 use Rattle.wide_monomial.specs.Widths.{words_each}
-use Rattle.place.specs.Numbers.{keyed, key_pairs, key_numbers, numbers_by, Whole}
+use Rattle.wide_monomial.specs.Wide.{paired}
+use Rattle.place.specs.Numbers.{keyed, key_pairs, pairs_by, key_numbers, word_numbers, Whole}
 use Rattle.place.proofs.PairLaws.{length_pairs}
-use Rattle.place.proofs.WidthLaws.{numbers-count, numbers-space, numbers-sets, numbers-drop}
+use Rattle.place.proofs.WidthLaws.{numbers-count, numbers-space, numbers-sets, numbers-drop, numbers-lent}
 use Rattle.merge_common.specs.Lent.{part, rest_of, Apart, flag, chosen}
-use Rattle.merge_common.proofs.Lists.{Begun, begun_more, begun_all, begun-on, get_d-each, rest-left, rest-right}
+use Rattle.merge_common.proofs.Lists.{Begun, begun_more, begun_all, begun-on, get_d-each, rest-left, rest-right, length_part}
 use Rattle.merge_common.proofs.Shifts.{Left, left_less}
 
 -- the second words decide where the first are alike
@@ -35,16 +36,36 @@ decides a1 a2 b1 b2 ha hb {l} {x} {y} el ex ey = go (tri a1 b1)
 pub place_room : (ws : List ℕ) → 2 * length (key_pairs ws) ≤ length ws
 place_room ws = (length_pairs keyed ws).0
 
--- a place of a slice that is gone through place by place
-pub place-within : (f : ℕ → ℕ → ℕ) (w : Width) (ws : List ℕ) {i k n : ℕ} → i < length ws / k → k ≡ n → n ≡ words_each w → i < length (numbers_by f w ws)
-place-within f w ws {i} h e q = subst (λ (x : ℕ). i < x) (ap (λ (x : ℕ). length ws / x) (e ∙ q) ∙ numbers-count f w ws) h
-
-pub place-past : (f : ℕ → ℕ → ℕ) (w : Width) (ws : List ℕ) {i k n : ℕ} → length ws / k ≤ i → k ≡ n → n ≡ words_each w → length (numbers_by f w ws) ≤ i
-place-past f w ws {i} h e q = subst (λ (x : ℕ). x ≤ i) (ap (λ (x : ℕ). length ws / x) (e ∙ q) ∙ numbers-count f w ws) h
-
+-- ---- so many words to a place
 -- where place k begins
 pub begins : (w : Width) (i : ℕ) {k n : ℕ} → k ≡ n → n ≡ words_each w → k * i ≡ words_each w * i
 begins w i e q = ap (λ (x : ℕ). x * i) (e ∙ q)
+
+-- how many places there are
+pub places-counted : (w : Width) (ws : List ℕ) {k n : ℕ} → k ≡ n → n ≡ words_each w → (length ws / k ≡ length (key_numbers w ws)) × (length ws / k ≡ length (word_numbers w ws))
+places-counted w ws e q = rw (e, q) (numbers-count keyed w ws, numbers-count paired w ws)
+
+-- places i up to m, as they are lent
+lents : (w : Width) (ws : List ℕ) (i m : ℕ) → i ≤ m → m ≤ length (key_numbers w ws) → (words_each w * i ≤ words_each w * m) × (words_each w * m ≤ length ws)
+lents One ws i m h k = (omega arith, omega arith)
+lents Two ws i m h k = (omega arith, omega (arith, length_pairs keyed ws))
+
+words-less : (w : Width) (i m : ℕ) → words_each w * m - words_each w * i ≡ words_each w * (m - i)
+words-less One i m = omega arith
+words-less Two i m = omega arith
+
+module _ (w : Width) (ws : List ℕ) (i m : ℕ) (hi : i ≤ m) (hm : m ≤ length (key_numbers w ws)) {k : ℕ} (ek : k ≡ words_each w) where
+  abbrev lent : List ℕ
+  lent = part (k * i) (k * m - k * i) ws
+
+  pub lent-room : (k * i ≤ k * m) × (k * m ≤ length ws)
+  lent-room = rw ek (lents w ws i m hi hm)
+
+  pub lent-places : (key_numbers w lent ≡ part i (m - i) (key_numbers w ws)) × Whole w lent
+  lent-places =
+      let e : key_numbers w lent ≡ part i (m - i) (key_numbers w ws) = rw ek (numbers-lent keyed w i m ws) in
+      let long : length lent ≡ words_each w * (m - i) = length_part (k * i) (k * m - k * i) ws (omega (arith, lent-room)) ∙ rw ek (words-less w i m) in
+      (e, long ∙ ap (λ (n : ℕ). words_each w * n) (sym (ap length e ∙ length_part i (m - i) (key_numbers w ws) (omega (arith, hi, hm)))))
 
 -- whole places are put as they are
 pub places-put : (w : Width) (l s : List ℕ) (to : ℕ) {o : List ℕ} {k : ℕ} → Whole w s → to + length (key_numbers w s) ≤ length (key_numbers w l) → o ≡ sets l k s → k ≡ words_each w * to → key_numbers w o ≡ sets (key_numbers w l) to (key_numbers w s)
@@ -52,6 +73,27 @@ places-put w l s to whole room e q = ap (key_numbers w) (e ∙ ap (λ (x : ℕ).
 
 pub places-room : (w : Width) (l s : List ℕ) (to : ℕ) {k : ℕ} → Whole w s → to + length (key_numbers w s) ≤ length (key_numbers w l) → k ≡ words_each w * to → k + length s ≤ length l
 places-room w l s to whole room q = omega (arith, q, whole, numbers-space keyed w l to (length (key_numbers w s)) room)
+
+-- places set to 0
+pairs-zero : (n : ℕ) → pairs_by paired (replicate (2 * n) 0) ≡ replicate n 0
+unfolding pairs_by
+pairs-zero zero = refl
+pairs-zero (suc n) =
+    ap (λ (k : ℕ). pairs_by paired (replicate k 0)) (let e : 2 * suc n ≡ suc (suc (2 * n)) = omega arith in e)
+    ∙ ap (λ (l : List ℕ). 0 ∷ l) (pairs-zero n)
+
+numbers-zero : (w : Width) (n : ℕ) → word_numbers w (replicate (words_each w * n) 0) ≡ replicate n 0
+numbers-zero One n = ap (λ (k : ℕ). replicate k 0) (let e : 1 * n ≡ n = omega arith in e)
+numbers-zero Two n = pairs-zero n
+
+module _ (w : Width) (l : List ℕ) {k : ℕ} (ek : k ≡ words_each w) (at n : ℕ) (h : at + n ≤ length (word_numbers w l)) where
+  pub clear_room : k * at + k * n ≤ length l
+  clear_room = rw ek (numbers-space paired w l at n h)
+
+  pub cleared : {o : List ℕ} → o ≡ sets l (k * at) (replicate (k * n) 0) → word_numbers w o ≡ sets (word_numbers w l) at (replicate n 0)
+  cleared {o} e =
+      ap (word_numbers w) (e ∙ ap (λ (k : ℕ). sets l (k * at) (replicate (k * n) 0)) ek)
+      ∙ (numbers-sets paired w l at (replicate (words_each w * n) 0) n (length-replicate (words_each w * n) 0) h ∙ ap (sets (word_numbers w l) at) (numbers-zero w n))
 
 -- which list of whole places is not used up
 after : (w : Width) (l : List ℕ) (i : ℕ) → Whole w l → Whole w (drop (words_each w * i) l)

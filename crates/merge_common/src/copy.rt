@@ -1,10 +1,32 @@
-// Lists of words and of coefficients, each put from one slice into another or moved within one.
-ghost use Rattle.std.specs.Prelude.{◌≡◌, ◌+◌, ◌≤◌, length, drop, replicate};
+// Lists of words and of coefficients, each put from one slice into another or moved within one, and how many
+// words a place has.
+// Kept: here, in `keys`, `multiple` and `block`, a place of a slice is a number, with a clause that it is there
+// (`to + length src ≤ length dst`, `j ≤ length b`): a type of slice and place would be made for one call each.
+// Kept: here and in the crates above, words and coefficients are two slices, as C lends them (`damselbuckle_run`).
+ghost use Rattle.std.specs.Prelude.{◌≡◌, ◌+◌, ◌-◌, ◌≤◌, length, drop, replicate};
 ghost use Rattle.std.proofs.lemmas.List.Edits.{sets};
-ghost use Rattle.place.specs.Numbers.{key_numbers, Whole};
+ghost use Rattle.place.specs.Numbers.{key_numbers, word_numbers, Whole};
 ghost use Rattle.merge_common.specs.Lent.{rest_of, part, Apart};
 
 use crate::places::Key;
+
+// How many places a slice has.
+pub fn count_places<K: Key>(ww: &[u64]) -> usize
+    ensures { (result ≡ length (key_numbers K.width ww.now)) × (result ≡ length (word_numbers K.width ww.now)) }
+{
+    ww.len() / K::WORDS
+}
+
+// The places from place `from` up to `end`.
+pub fn part_places<K: Key>(ww: &[u64], from: usize, end: usize) -> &[u64]
+    requires { (from ≤ end) × (end ≤ length (key_numbers K.width ww.now)) }
+    ensures { (key_numbers K.width result.now ≡ part from (end - from) (key_numbers K.width ww.now)) × Whole K.width result.now }
+{
+    let w = K::WORDS;
+    let first = w * from;
+    let bound = w * end;
+    &ww[first..bound]
+}
 
 // The remaining part of whichever of two slices of words has not been used up.
 // Kept: document 01 names this form; that by places, below, is made of it.
@@ -46,19 +68,20 @@ pub fn put_places<K: Key>(src: &[u64], dst: &mut [u64], to: usize)
     put(src, dst, at);
 }
 
-// Puts x at the n places from place `at` on.
-pub fn fill<T: Copy>(s: &mut [T], at: usize, n: usize, x: T)
-    requires { at + n ≤ length s.old }
-    ensures { s.new ≡ sets s.old at (replicate n x) }
+// Sets the n places from place `at` on to 0.
+pub fn clear_places<K: Key>(s: &mut [u64], at: usize, n: usize)
+    requires { at + n ≤ length (word_numbers K.width s.old) }
+    ensures { word_numbers K.width s.new ≡ sets (word_numbers K.width s.old) at (replicate n 0) }
 {
-    // Kept: slices' own `fill` asks of Clone that it cannot fail, which Copy does not give.
-    for i in 0..n {
-        s[at + i] = x;
-    }
+    let w = K::WORDS;
+    let first = w * at;
+    let count = w * n;
+    s[first..first + count].fill(0);
 }
 
-// Puts the n terms from place `from` on also from `to` on, where the two places lie apart. They are
-// mostly few, so that keys and coefficients go in one loop.
+// Puts the n terms from place `from` on also from `to` on, where the two places lie apart.
+// Kept: one loop, here and in `shift_terms`: terms are mostly few. Tried as two `copy_within`, in plain Rust: one
+// term or two took 7 ns, and 5 by the loop; from eight terms on the loop is the slower one.
 pub fn move_terms<K: Key>(ww: &mut [u64], wc: &mut [u32], from: usize, to: usize, n: usize)
     requires { (from + n ≤ length (key_numbers K.width ww.old)) × (to + n ≤ length (key_numbers K.width ww.old)) × (from + n ≤ length wc.old) × (to + n ≤ length wc.old) × Apart from n to n }
     ensures { (key_numbers K.width ww.new ≡ sets (key_numbers K.width ww.old) to (part from n (key_numbers K.width ww.old))) × (wc.new ≡ sets wc.old to (part from n wc.old)) }

@@ -3,6 +3,7 @@ ghost use Rattle.std.specs.Prelude.{◌≡◌, map, ◌+◌, ◌≤◌, length};
 ghost use Rattle.std.proofs.lemmas.List.Edits.{sets};
 ghost use Rattle.place.specs.Numbers.{key_numbers, word_numbers, key_by, from_key_by};
 
+use crate::copy::count_places;
 use crate::places::Key;
 use monomial::order::Order;
 
@@ -11,7 +12,7 @@ pub fn put_keys<K: Key>(order: Order, src: &[u64], dst: &mut [u64], to: usize)
     requires { to + length (word_numbers K.width src.now) ≤ length (key_numbers K.width dst.old) }
     ensures { (key_numbers K.width dst.new ≡ sets (key_numbers K.width dst.old) to (map (key_by K.width order) (word_numbers K.width src.now))) × (map (from_key_by K.width order) (map (key_by K.width order) (word_numbers K.width src.now)) ≡ word_numbers K.width src.now) }
 {
-    for i in 0..src.len() / K::WORDS {
+    for i in 0..count_places::<K>(src) {
         K::at(src, i).key(order).put(dst, to + i);
     }
 }
@@ -41,7 +42,7 @@ pub fn put_words_of<K: Key>(order: Order, src: &[u64], dst: &mut [u64], to: usiz
     requires { to + length (key_numbers K.width src.now) ≤ length (key_numbers K.width dst.old) }
     ensures { word_numbers K.width dst.new ≡ sets (word_numbers K.width dst.old) to (map (from_key_by K.width order) (key_numbers K.width src.now)) }
 {
-    for i in 0..src.len() / K::WORDS {
+    for i in 0..count_places::<K>(src) {
         K::at(src, i).word(order).put(dst, to + i);
     }
 }

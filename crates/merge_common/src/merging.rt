@@ -29,6 +29,8 @@ pub struct Joined<K> {
 }
 
 // 1 where the key x is larger than y, and else 0.
+// Kept: 0 and 1 for flags, in `places` and `search` too: they are counted with (`l + m`, `1 - m`, `head + gone`),
+// so a bool would be made a number there. And `as usize`: the clauses have `flag`, where `from` gives `from_bool`.
 pub fn larger<K: Key>(x: K, y: K) -> usize
     ensures { (result ≡ flag (is_larger (compare (K.number x) (K.number y)))) × (result ≤ 1) }
 {
@@ -53,6 +55,8 @@ pub fn choose<T: Copy>(f: usize, x: T, y: T) -> T
 
 // The larger of two leads, or the sum of like ones, without a branch: x is larger for l, y is for m, and
 // the two are like for neither.
+// Kept: here and below, `Modulus p`, `c < p` and `d < p`: a type of coefficient that says so has to hold p as
+// well. The lent slices hold plain numbers, so each turn would make two of them, for this call alone.
 pub fn join<K: Key>(x: K, c: u32, y: K, d: u32, p: u32) -> Joined<K>
     requires { Modulus p × (c < p) × (d < p) }
     ensures { numbered K.number result ≡ joined (K.number x) c (K.number y) d p }
@@ -72,6 +76,8 @@ pub fn join<K: Key>(x: K, c: u32, y: K, d: u32, p: u32) -> Joined<K>
 }
 
 // The smaller of two last terms, or the sum of like ones, in the same way.
+// Kept: beside `join`. Tried: both by one function of the two flags; the compiler then keeps fewer of the numbers
+// of a turn in registers, and the calls took up to 1.1 times as long.
 pub fn join_last<K: Key>(x: K, c: u32, y: K, d: u32, p: u32) -> Joined<K>
     requires { Modulus p × (c < p) × (d < p) }
     ensures { numbered K.number result ≡ joined_last (K.number x) c (K.number y) d p }

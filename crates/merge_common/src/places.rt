@@ -41,6 +41,8 @@ pub trait Key: Copy {
 
     // Two words that compare as two keys do. Both flags of a turn come from this one pair, which is
     // faster than comparing all words twice.
+    // Kept: order by hand. A derived `Ord` would order the words of a Pair too, which is right in Dp alone; and a
+    // turn needs two flags without a branch, where `Ord` gives one Ordering.
     fn deciding(self, other: Self) -> Pair
         ensures { compare result.first result.second ≡ compare (number self) (number other) };
 
@@ -123,11 +125,11 @@ impl Key for Pair {
     }
 
     fn key(self, order: Order) -> Pair {
-        keys(order, self.first, self.second)
+        keys(order, self)
     }
 
     fn word(self, order: Order) -> Pair {
-        words(order, self.first, self.second)
+        words(order, self)
     }
 
     ghost words_are = { refl };

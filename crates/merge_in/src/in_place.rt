@@ -8,7 +8,7 @@ ghost use Rattle.merge_common.specs.Lent.{part};
 ghost use Rattle.merge_common.specs.Placing.{PlacedIn};
 ghost use Rattle.merge_in.specs.Placing.{Into};
 
-use merge_common::copy::put;
+use merge_common::copy::{part_places, put, put_places};
 use merge_common::merging::{Placed, join};
 use merge_common::places::Key;
 use merge_common::shift::close_gap;
@@ -18,8 +18,8 @@ fn put_rest<K: Key>(fw: &[u64], fc: &[u32], i: usize, sw: &mut [u64], sc: &mut [
     requires { (length fc.now ≡ length (key_numbers K.width fw.now)) × (i ≤ length fc.now) × (k + (length fc.now - i) ≤ length (key_numbers K.width sw.old)) × (k + (length fc.now - i) ≤ length sc.old) }
     ensures { (key_numbers K.width sw.new ≡ sets (key_numbers K.width sw.old) k (part i (length (key_numbers K.width fw.now) - i) (key_numbers K.width fw.now))) × (sc.new ≡ sets sc.old k (part i (length fc.now - i) fc.now)) }
 {
-    let w = K::WORDS;
-    put(&fw[w * i..w * fc.len()], sw, w * k);
+    let rest = part_places::<K>(fw, i, fc.len());
+    put_places::<K>(rest, sw, k);
     put(&fc[i..], sc, k);
 }
 

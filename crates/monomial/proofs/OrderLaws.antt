@@ -9,7 +9,7 @@ use lib.Dec.{lit<}
 use lib.ListN.{length}
 use Rattle.monomial.specs.declared.order.Order.{Order}
 use Rattle.monomial.specs.declared.order.Order.TheVariants.{Lex, DegLex, DegRevLex}
-use Rattle.monomial.specs.Exponents.{weighted, Positive, product, one, or_else, lex, rev_lex, compare_in}
+use Rattle.monomial.specs.Exponents.{weighted, Positive, product, one, or_else, lex, rev_lex, compare_in, order_of, order_number}
 use Rattle.monomial.specs.Words.{low, high, degree_in, first_in, second_in, over_in, compare_two, compare_words, compare_one}
 use Rattle.monomial.specs.TotalOrder.{turned, TotalOrder}
 use Rattle.monomial.proofs.Comparing.{tri, Tri, less, same, more, eq-compare, compare_same, compare-add}
@@ -258,3 +258,9 @@ one-least DegRevLex vs α g f = least-by-degree (rev_lex (one (length α)) α) v
 -- so are numbers, as keys are compared
 pub numbers-order : TotalOrder ℕ compare
 numbers-order = nat-order
+
+-- the order of an order's number
+pub order-number : (o : Order) → order_of (order_number o) ≡ o
+order-number Lex = refl
+order-number DegLex = refl
+order-number DegRevLex = refl

@@ -97,3 +97,9 @@ order_by false false = DegRevLex
 
 abbrev pub order_of : ℕ → Order
 order_of number = order_by (eqb number 1) (eqb number 2)
+
+-- and the number of an order
+abbrev pub order_number : Order → ℕ
+order_number Lex = 1
+order_number DegLex = 2
+order_number DegRevLex = 3

@@ -5,6 +5,8 @@ ghost use Rattle.monomial.specs.Layout.{of_bytes, low_bit, word_of, fields, Belo
 use crate::order::Order;
 
 // The lowest bit of the field of variable i, from 0.
+// Kept: `i < 6`, here and in `put_exponent` of `listing_lines`: i comes from loops and from C (`probe_exponent`) as
+// a plain number. A type of such numbers would be made for each call and opened here at once, for the shift.
 fn low_bit(order: Order, i: u32) -> u32
     requires { i < 6 }
     ensures { (result ≡ low_bit order i) × (result ≤ 40) }
@@ -43,8 +45,7 @@ fn of_bytes(a: u32, b: u32, c: u32, d: u32, e: u32, f: u32) -> u64
     requires { Below 256 (a ∷ b ∷ c ∷ d ∷ e ∷ f ∷ []) }
     ensures { result ≡ of_bytes (a ∷ b ∷ c ∷ d ∷ e ∷ f ∷ []) }
 {
-    let upper = d as u64 + 0x100 * (e as u64 + 0x100 * (f as u64));
-    a as u64 + 0x100 * (b as u64 + 0x100 * (c as u64 + 0x100 * upper))
+    u64::from_le_bytes([a as u8, b as u8, c as u8, d as u8, e as u8, f as u8, 0, 0])
 }
 
 // The word of the monomial with these exponents, and weights as `weight_word` gives them. An exponent

@@ -1,6 +1,6 @@
 // The three orders, and the comparison of two words.
 ghost use Rattle.std.specs.Prelude.{◌≡◌};
-ghost use Rattle.monomial.specs.Exponents.{order_of};
+ghost use Rattle.monomial.specs.Exponents.{order_of, order_number};
 ghost use Rattle.monomial.specs.Words.{key_of, from_key, compare_words, answer};
 
 use std::cmp::Ordering;
@@ -9,9 +9,9 @@ use std::fmt;
 // The orders by their numbers in document 01: 1 = lp, 2 = Dp, 3 = dp.
 #[derive(Clone, Copy, Debug, PartialEq, Eq)]
 pub enum Order {
-    Lex,
-    DegLex,
-    DegRevLex,
+    Lex = 1,
+    DegLex = 2,
+    DegRevLex = 3,
 }
 
 // The orders by their names in document 01.
@@ -26,19 +26,27 @@ impl fmt::Display for Order {
 }
 
 // The order of a number. Whoever takes a number from outside refuses all but 1 to 3 first.
+// Kept: may not change: it answers for every number, where `TryFrom` would answer a Result: `probe_key`, which C
+// calls with any number, promises the key in that order.
 pub fn order_of(number: u32) -> Order
     ensures { result ≡ order_of number }
 {
-    if number == 1 {
-        Order::Lex
-    } else if number == 2 {
-        Order::DegLex
-    } else {
-        Order::DegRevLex
+    match number {
+        1 => Order::Lex,
+        2 => Order::DegLex,
+        _ => Order::DegRevLex,
     }
 }
 
 impl Order {
+    // Its number, as document 01 and the C interface have it.
+    // Kept: no plainer as `From`: `u32::from(order)` does not say that the number is document 01's.
+    pub fn number(self) -> u32
+        ensures { result ≡ order_number self }
+    {
+        self as u32
+    }
+
     // The number by which words are compared, one-to-one on all words: the fields moved to the
     // top for lp, the word itself for Dp, its fields inverted for dp.
     pub fn key(self, w: u64) -> u64

@@ -12,6 +12,8 @@ use monomial::word::TOPS;
 use residue::factor::Factor;
 
 // Whether a product of the monomial q with one of the words has an exponent over 127.
+// Kept: `Packed` and `AllPacked words`, here, below, in `divisors` and in `divides`: C lends the words as plain
+// numbers, which are no slice of another type without a copy, and a type for q alone would leave `AllPacked`.
 pub fn any_over(q: u64, words: &[u64]) -> bool
     requires { Packed q × AllPacked words.now }
     ensures { result ≡ any_over q words.now }
@@ -56,6 +58,8 @@ fn raise(h: u64, w: u64) -> u64
 
 // Puts the polynomial times factor·q, as keys and coefficients, into the output from place `to` on: a
 // loop for the keys and one for the coefficients, so that each makes several at once.
+// Kept: eight parameters, four of them slices: `Multiplied` says of each what it holds, so that a struct of two
+// would make the names in the clauses longer (`out.words.new`), and a struct at each call.
 pub fn put_multiple(
     order: Order,
     factor: Factor,

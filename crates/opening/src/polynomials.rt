@@ -6,22 +6,17 @@ ghost use Rattle.polynomial.specs.Opening.{starts_good};
 ghost use Rattle.opening.specs.Run.{polynomials_refusal};
 
 use polynomial::check::check;
-use polynomial::part::part_of;
+use polynomial::part::Polynomials;
 use polynomial::setting::Setting;
 use refusal::Refusal;
 
 // The first refusal of polynomial 0, 1, .., each handed on as its part of the slices.
-pub fn polynomials_refusal(
-    t: Setting,
-    words: &[u64],
-    coefs: &[u32],
-    starts: &[usize],
-) -> Result<(), Refusal>
-    requires { Testable t × (length words.now ≡ length coefs.now) × (starts_good starts.now (length words.now) ≡ true) }
-    ensures { refusal_in result ≡ polynomials_refusal t words.now coefs.now starts.now }
+pub fn polynomials_refusal(t: Setting, ps: Polynomials) -> Result<(), Refusal>
+    requires { Testable t × (length ps.words.now ≡ length ps.coefs.now) × (starts_good ps.starts.now (length ps.words.now) ≡ true) }
+    ensures { refusal_in result ≡ polynomials_refusal t ps.entry.words.now ps.entry.coefs.now ps.entry.starts.now }
 {
-    for k in 0..starts.len() - 1 {
-        check(t, part_of(words, starts, k), part_of(coefs, starts, k))?;
+    for k in 0..ps.count() {
+        check(t, ps.words_of(k), ps.coefs_of(k))?;
     }
     Ok(())
 }

@@ -10,6 +10,7 @@ use crate::shape::input_good;
 use conditions::divisors::divisors_good;
 use conditions::lengths::Lengths;
 use limits::MOST_STEPS;
+use polynomial::part::Polynomials;
 use polynomial::setting::setting_of;
 use refusal::Refusal;
 
@@ -19,28 +20,26 @@ pub fn reduction_opening(
     order: u32,
     n: u32,
     weights: &[u32],
-    words: &[u64],
-    coefs: &[u32],
-    starts: &[usize],
+    ps: Polynomials,
     limit: u64,
     lengths: Lengths,
 ) -> Result<(), Refusal>
-    ensures { refusal_in result ≡ reduction_refusal (setting_of p order n weights.now) words.now coefs.now starts.now limit lengths.bw lengths.bc lengths.ww lengths.wc lengths.ow lengths.oc }
+    ensures { refusal_in result ≡ reduction_refusal (setting_of p order n weights.now) ps.entry.words.now ps.entry.coefs.now ps.entry.starts.now limit lengths.bw lengths.bc lengths.ww lengths.wc lengths.ow lengths.oc }
 {
     setting(p, order, n, weights)?;
     if !reduction_shape(
         weights.len(),
-        words.len(),
-        coefs.len(),
-        starts,
+        ps.words.len(),
+        ps.coefs.len(),
+        ps.starts,
         limit,
         lengths,
     ) {
         return Err(Refusal::BadShape);
     }
     let t = setting_of(p, order, n, weights);
-    polynomials_refusal(t, words, coefs, starts)?;
-    if !divisors_good(starts) {
+    polynomials_refusal(t, ps)?;
+    if !divisors_good(ps.starts) {
         return Err(Refusal::ZeroDivisor);
     }
     Ok(())

@@ -8,6 +8,8 @@ use conditions::lengths::{Lengths, pairs_good};
 use polynomial::starts::starts_good;
 
 // Whether lengths and starts are as a run asks, by the lengths of the slices.
+// Kept: the lengths as numbers, here and in `reduction_shape`: the shape is stated over lengths alone, as `lent_good`
+// of `conditions` is, which lies below `Polynomials`; taken from `ps` here, they would be handed on as numbers there.
 #[tactic(auto, unfolding(crate::specs::Run::shape_good))]
 pub fn shape_good(
     weights: usize,

@@ -10,22 +10,25 @@ ghost use Rattle.run_outcome.specs.Runs.{leads, sums};
 ghost use Rattle.space.specs.Space.{spaces, Slices};
 ghost use Rattle.operations.specs.States.{Counting, Operated, AddOperated};
 
-use buckets::add::add_mostly_small;
+use buckets::add::add_polynomial;
 use buckets::sum::full_sum;
 use call::state::State;
 use limits::MOST_TERMS;
 use merge_common::copy::put;
 use merge_common::keys::put_words_of;
 use merge_common::merging::not_zero;
-use monomial::order::Order;
+use polynomial::ring::Ring;
 use refusal::Refusal;
 use search::lead::take_lead;
 use space::state::held;
 
 // Adds the polynomial f, or refuses with 11 where the buckets would hold over 4,096 terms.
+// Kept: `s.finished < most_operations`, here and below, not a ghost field of State: each operation adds one to it,
+// and a reduction counts the leads removed in the same field, up to a limit of its own.
+// Kept: the lent slices as parameters of their own, here and below: in a struct of `&mut` slices a contract would
+// name each one before and after, and say of each that it is still the slice that was lent.
 pub fn add_operation<'a>(
-    order: Order,
-    p: u32,
+    ring: Ring,
     s: State,
     b: &mut [usize],
     fw: &'a [u64],
@@ -35,21 +38,20 @@ pub fn add_operation<'a>(
     ww: &mut [u64],
     wc: &mut [u32],
 ) -> State
-    requires { Counting order p s (spaces b.old ww.old wc.old bw.old bc.old) × Addend (compare_words order) p fw.now fc.now × Slices ww.old wc.old bw.old bc.old × (s.finished < most_operations) }
-    ensures { AddOperated order p (terms fw.now fc.now) s (spaces b.old ww.old wc.old bw.old bc.old) result (spaces b.new ww.new wc.new bw.new bc.new) }
+    requires { Counting ring.order ring.p s (spaces b.old ww.old wc.old bw.old bc.old) × Addend (compare_words ring.order) ring.p fw.now fc.now × Slices ww.old wc.old bw.old bc.old × (s.finished < most_operations) }
+    ensures { AddOperated ring.order ring.p (terms fw.now fc.now) s (spaces b.old ww.old wc.old bw.old bc.old) result (spaces b.new ww.new wc.new bw.new bc.new) }
 {
     if held(b) + fw.len() > MOST_TERMS {
         return s.halt(Refusal::TooManyTerms);
     }
-    let r = add_mostly_small(order, p, b, fw, fc, bw, bc, ww, wc);
+    let r = add_polynomial(ring, b, fw, fc, bw, bc, ww, wc);
     s.compare(r).bring(fw.len()).finish()
 }
 
 // Finds the lead, puts it into the next output place and removes it, or refuses with 10 where there
 // is no place.
 pub fn lead_operation(
-    order: Order,
-    p: u32,
+    ring: Ring,
     s: State,
     b: &mut [usize],
     bw: &[u64],
@@ -59,14 +61,14 @@ pub fn lead_operation(
     ow: &mut [u64],
     oc: &mut [u32],
 ) -> State
-    requires { Counting order p s (spaces b.old ww.now wc.old bw.now bc.old) × Slices ww.now wc.old bw.now bc.old × Output s.places ow.old oc.old × (s.finished < most_operations) }
-    ensures { Operated order p leads s (spaces b.old ww.now wc.old bw.now bc.old) ow.old oc.old result (spaces b.new ww.now wc.new bw.now bc.new) ow.new oc.new }
+    requires { Counting ring.order ring.p s (spaces b.old ww.now wc.old bw.now bc.old) × Slices ww.now wc.old bw.now bc.old × Output s.places ow.old oc.old × (s.finished < most_operations) }
+    ensures { Operated ring.order ring.p leads s (spaces b.old ww.now wc.old bw.now bc.old) ow.old oc.old result (spaces b.new ww.now wc.new bw.now bc.new) ow.new oc.new }
 {
     let at = s.places;
     if at >= ow.len() {
         return s.halt(Refusal::NoOutput);
     }
-    let c = take_lead(order, p, b, bw, bc, ww, wc);
+    let c = take_lead(ring, b, bw, bc, ww, wc);
     ow[at] = c.word;
     oc[at] = c.coef;
     s.compare(c.count).give(not_zero(c.coef), 1).finish()
@@ -75,8 +77,7 @@ pub fn lead_operation(
 // Gives the full sum out, with a zero place past it, or refuses with 10 where the output has too few
 // places for all terms held and one more.
 pub fn sum_operation(
-    order: Order,
-    p: u32,
+    ring: Ring,
     s: State,
     b: &mut [usize],
     bw: &mut [u64],
@@ -86,17 +87,17 @@ pub fn sum_operation(
     ow: &mut [u64],
     oc: &mut [u32],
 ) -> State
-    requires { Counting order p s (spaces b.old ww.old wc.old bw.old bc.old) × Slices ww.old wc.old bw.old bc.old × Output s.places ow.old oc.old × (s.finished < most_operations) }
-    ensures { Operated order p sums s (spaces b.old ww.old wc.old bw.old bc.old) ow.old oc.old result (spaces b.new ww.new wc.new bw.new bc.new) ow.new oc.new }
+    requires { Counting ring.order ring.p s (spaces b.old ww.old wc.old bw.old bc.old) × Slices ww.old wc.old bw.old bc.old × Output s.places ow.old oc.old × (s.finished < most_operations) }
+    ensures { Operated ring.order ring.p sums s (spaces b.old ww.old wc.old bw.old bc.old) ow.old oc.old result (spaces b.new ww.new wc.new bw.new bc.new) ow.new oc.new }
 {
     let at = s.places;
     if ow.len() - at < held(b) + 1 {
         return s.halt(Refusal::NoOutput);
     }
-    let r = full_sum(p, b, bw, bc, ww, wc);
+    let r = full_sum(ring.p, b, bw, bc, ww, wc);
     let from = r.from;
     let past = from + r.len;
-    put_words_of::<u64>(order, &bw[from..past], ow, at);
+    put_words_of::<u64>(ring.order, &bw[from..past], ow, at);
     put(&bc[from..past], oc, at);
     let end = at + r.len;
     ow[end] = 0;

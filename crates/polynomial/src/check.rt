@@ -16,7 +16,7 @@ use refusal::{Refusal, number_of, refusal_of};
 // What the check carries from one part of a polynomial to the next, by document 01's numbers: the
 // first 4 or 5, or 0; 6 where the terms so far do not fall, or else 0; whether a term has come, since
 // the word 0 is a monomial; and the last word. After a 4 or 5 no term is looked at, and nothing changes.
-// Kept: what may not change: `check_on` goes on from any four numbers, which C gives `probe_check_on`.
+// Kept: may not change: `check_on` goes on from any four numbers, which C gives `probe_check_on`.
 #[derive(Clone, Copy)]
 pub struct Checking {
     pub stop: u32,
@@ -48,6 +48,10 @@ impl Checking {
 
 // The refusal of a polynomial in a setting: the first place with 4 or 5, and else 6 where the terms do
 // not fall. One pass over the terms.
+// Kept: `Testable t` as a clause, here, in `opening` and in `blocks`: it is no fact of every Setting, as one is read
+// from a block before it is tested, and a type of tested ones would be opened at once for p, order, n and weights.
+// Kept: words and coefficients as two slices of one length, here, in `block`, `blocks` and `put_answers`: lent as two
+// and gone through by index, so a value of both would be made for each part, with the same fact shown there.
 pub fn check(t: Setting, words: &[u64], coefs: &[u32]) -> Result<(), Refusal>
     requires { Testable t × (length coefs.now ≡ length words.now) }
     ensures { refusal_in result ≡ polynomial_refusal t (terms words.now coefs.now) }
@@ -70,11 +74,8 @@ pub fn check_on(t: Setting, words: &[u64], coefs: &[u32], from: Checking) -> Che
         return from;
     }
     let order = order_of(t.order);
-    let n = t.n;
-    let p = t.p;
-    let six = t.weights;
-    let beyond = beyond_bits(order, n);
-    let weights = weight_word(order, &six);
+    let beyond = beyond_bits(order, t.n);
+    let weights = weight_word(order, &t.weights);
     let mut late = from.late;
     let mut seen = from.seen;
     let mut last = from.last;
@@ -83,7 +84,7 @@ pub fn check_on(t: Setting, words: &[u64], coefs: &[u32], from: Checking) -> Che
         late = check_fall(order, seen, last, word, late);
         seen = true;
         last = word;
-        if let Err(refusal) = check_term(beyond, weights, p, word, coefs[i]) {
+        if let Err(refusal) = check_term(beyond, weights, t.p, word, coefs[i]) {
             let stop = number_of(refusal);
             return Checking {
                 stop,
@@ -116,7 +117,8 @@ pub fn check_term(beyond: u64, weights: u64, p: u32, word: u64, coef: u32) -> Re
 }
 
 // 6 where a word came before that is not larger, and else what came so far.
-// Kept: what may not change: `check_on` goes on from any number in `late`, which C gives `probe_check_on`.
+// Kept: may not change: `late_after` is stated for `seen` and `last` apart and for any number in `late`, as
+// C hands them to `check_on`.
 pub fn check_fall(order: Order, seen: bool, last: u64, word: u64, late: u32) -> u32
     ensures { result ≡ late_after (compare_words order) seen last word late }
 {

@@ -3,6 +3,8 @@ ghost use Rattle.std.specs.Prelude.{◌≡◌, length};
 ghost use Rattle.polynomial.specs.Settings.{setting_of};
 
 // The prime, the order by its number in document 01, how many variables, and the weights of x1 to x6.
+// Kept: may not change: the order as its number, since `setting` of `opening/specs` gives refusal 2 for a Setting
+// with any number but 1 to 3, and the outcomes of runs, reductions and blocks are defined by it.
 #[derive(Clone, Copy)]
 pub struct Setting {
     pub p: u32,

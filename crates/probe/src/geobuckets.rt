@@ -18,19 +18,21 @@ ghost use Rattle.probe.specs.States.{Settlement};
 use buckets::add::add_polynomial;
 use buckets::sum::full_sum;
 use monomial::order::order_of;
+use polynomial::ring::Ring;
 use search::candidate::Candidate;
 use search::lead::{find_lead, remove_lead, take_lead};
 use space::settle::settle;
 use space::state::clear;
 
 // Puts the lead's bucket, word and coefficient, and gives the comparisons.
+// Kept: the C interface: a slice of three places, here and in the two functions on leads below.
 fn put_lead(c: Candidate, lead: &mut [u64]) -> u64
     requires { length lead.old ≡ 3 }
     ensures { result ≡ c.count }
 {
     lead[0] = c.bucket as u64;
     lead[1] = c.word;
-    lead[2] = c.coef as u64;
+    lead[2] = u64::from(c.coef);
     c.count
 }
 
@@ -58,7 +60,8 @@ pub extern "C" fn probe_buckets_add<'a>(
     requires { WordAddition (order_of order) p (spaces state.old ww.old wc.old sw.old sc.old) fw.now fc.now × Slices ww.old wc.old sw.old sc.old }
     ensures { result ≡ length (add_compared (compare_words (order_of order)) p (terms fw.now fc.now) (words_in (order_of order) (spaces state.old ww.old wc.old sw.old sc.old))) }
 {
-    add_polynomial(order_of(order), p, state, fw, fc, sw, sc, ww, wc)
+    let order = order_of(order);
+    add_polynomial(Ring { order, p }, state, fw, fc, sw, sc, ww, wc)
 }
 
 // Finds the lead and leaves it: its bucket (6 for zero), word and coefficient. Gives the comparisons.
@@ -76,7 +79,8 @@ pub extern "C" fn probe_buckets_lead(
     requires { Standing p (spaces state.old ww.now wc.old sw.now sc.old) × Slices ww.now wc.old sw.now sc.old × (length lead.old ≡ 3) }
     ensures { result ≡ length (search (compare_words (order_of order)) p (words_in (order_of order) (spaces state.old ww.now wc.old sw.now sc.old))).pairs }
 {
-    let c = find_lead(order_of(order), p, state, sw, sc, ww, wc);
+    let order = order_of(order);
+    let c = find_lead(Ring { order, p }, state, sw, sc, ww, wc);
     put_lead(c, lead)
 }
 
@@ -95,7 +99,8 @@ pub extern "C" fn probe_buckets_take_lead(
     requires { Standing p (spaces state.old ww.now wc.old sw.now sc.old) × Slices ww.now wc.old sw.now sc.old × (length lead.old ≡ 3) }
     ensures { result ≡ length (search (compare_words (order_of order)) p (words_in (order_of order) (spaces state.old ww.now wc.old sw.now sc.old))).pairs }
 {
-    let c = take_lead(order_of(order), p, state, sw, sc, ww, wc);
+    let order = order_of(order);
+    let c = take_lead(Ring { order, p }, state, sw, sc, ww, wc);
     put_lead(c, lead)
 }
 

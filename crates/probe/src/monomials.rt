@@ -16,7 +16,8 @@ use monomial::order::order_of;
 use monomial::word::{TOPS, divides, quotient};
 use std::cmp::Ordering;
 
-// Kept: the C interface: numbers for answers, and REFUSED for none.
+// Kept: the C interface: numbers for answers, here and below, as C has no Option: REFUSED for none, and for
+// the same 2 in probe_divides, whose answers are 0 and 1, and 256 in probe_exponent.
 const REFUSED: u64 = 0xffff_ffff_ffff_ffff;
 
 #[unsafe(no_mangle)]

@@ -28,6 +28,8 @@ use polynomial::starts::starts_good;
 use refusal::number_of;
 use residue::factor::Factor;
 
+// Kept: the C interface: numbers for answers, here and below, as C has neither Option nor Result: NO_WORD,
+// NO_COEF and NOT_CHECKED for none, and 0 in probe_check for a polynomial that is not refused.
 const NO_WORD: u64 = 0xffff_ffff_ffff_ffff;
 
 const NO_COEF: u32 = 0xffff_ffff;
@@ -35,6 +37,8 @@ const NO_COEF: u32 = 0xffff_ffff;
 const NOT_CHECKED: u32 = 0xffff_ffff;
 
 // Where a merge lies, and the comparisons.
+// Kept: the C interface: `Placed`, and below it `Checking`, with their fields laid out as C has them. Each is made
+// of its like at one place, field by field: a `From` would name the same, and need a clause on what it gives.
 #[repr(C)]
 #[derive(Clone, Copy)]
 pub struct Places {
@@ -185,6 +189,7 @@ pub extern "C" fn probe_merge_areas(
 }
 
 // Whether a product of the monomial q with one of the words has an exponent over 127.
+// Kept: the C interface: `Packed q` and `AllPacked words` as clauses, as C lends the words as plain numbers.
 #[unsafe(no_mangle)]
 pub extern "C" fn probe_any_over(q: u64, words: &[u64]) -> bool
     requires { Packed q × AllPacked words.now }

@@ -10,7 +10,7 @@ use residue::arithmetic::{add, multiply, negate};
 use residue::factor::Factor;
 use residue::inverse::invert;
 
-// Kept: the C interface: numbers for answers, and REFUSED for none.
+// Kept: the C interface: numbers for answers, and REFUSED for none, as C has no Option.
 const REFUSED: u32 = 0xffff_ffff;
 
 #[unsafe(no_mangle)]

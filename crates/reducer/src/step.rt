@@ -6,19 +6,18 @@ ghost use Rattle.reducer.specs.Stepping.{Searched, Keeping, Kept, Stepping, Step
 use crate::divide::divide;
 use call::state::State;
 use divisors::divisor::first_fit;
-use monomial::order::Order;
+use polynomial::part::Polynomials;
+use polynomial::ring::Ring;
 use refusal::Refusal;
 use search::candidate::Candidate;
 use search::lead::{find_lead, remove_lead};
 
 // Finds the lead, then divides it by the first divisor whose lead monomial divides it, or puts it to
 // the remainder. Stops with 13 where a lead is found and the limit's leads are removed already.
-pub fn step<'a>(
-    order: Order,
-    p: u32,
-    words: &'a [u64],
-    coefs: &'a [u32],
-    starts: &[usize],
+// Kept: the lent slices as parameters of their own, as in `divide`.
+pub fn step(
+    ring: Ring,
+    ps: Polynomials,
     leads: &[u64],
     limit: u64,
     s: State,
@@ -31,24 +30,23 @@ pub fn step<'a>(
     ow: &mut [u64],
     oc: &mut [u32],
 ) -> State
-    requires { Stepping order p words.now coefs.now starts.now leads.now limit s kept.old (spaces b.old ww.old wc.old bw.old bc.old) ow.old oc.old × Slices ww.old wc.old bw.old bc.old }
-    ensures { Stepped order p words.now coefs.now starts.now limit s (spaces b.old ww.old wc.old bw.old bc.old) ow.old oc.old result kept.new (spaces b.new ww.new wc.new bw.new bc.new) ow.new oc.new }
+    requires { Stepping ring.order ring.p ps.words.now ps.coefs.now ps.starts.now leads.now limit s kept.old (spaces b.old ww.old wc.old bw.old bc.old) ow.old oc.old × Slices ww.old wc.old bw.old bc.old }
+    ensures { Stepped ring.order ring.p ps.entry.words.now ps.entry.coefs.now ps.entry.starts.now limit s (spaces b.old ww.old wc.old bw.old bc.old) ow.old oc.old result kept.new (spaces b.new ww.new wc.new bw.new bc.new) ow.new oc.new }
 {
-    let lead = find_lead(order, p, b, bw, bc, ww, wc);
+    let lead = find_lead(ring, b, bw, bc, ww, wc);
     let t = after_search(s, lead, limit);
     if !t.goes_on() {
         return t;
     }
-    if let Some(k) = first_fit(words, starts, leads, lead.word) {
-        return divide(
-            order, p, words, coefs, starts, k, t, lead, kept, b, bw, bc, ww, wc,
-        );
+    if let Some(k) = first_fit(ps, leads, lead.word) {
+        return divide(ring, ps, k, t, lead, kept, b, bw, bc, ww, wc);
     }
     keep(t, lead, b, ow, oc)
 }
 
 // The state after the search: the reduction ends where no lead was found, then stops with 13 where the
 // limit's leads are removed already.
+// Kept: bucket 6 for none, as the Candidate has it.
 fn after_search(s: State, lead: Candidate, limit: u64) -> State
     requires { Countable s.comparisons lead.count }
     ensures { Searched s lead limit result }

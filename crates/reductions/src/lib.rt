@@ -11,12 +11,18 @@ use call::answer::{Answer, Returned, Tally, ended, refused};
 use conditions::lengths::Lengths;
 use monomial::order::order_of;
 use opening::reduction::reduction_opening;
+use polynomial::part::Polynomials;
+use polynomial::ring::Ring;
 use reducer::steps::reduce_all;
 use space::settle::settle;
 use space::state::clear;
 
 // Reduces polynomial 0 by the others, with at most `limit` leads removed. The old counts come back from
 // an opening refusal, which changes nothing.
+// Kept: fifteen parameters, here and in `reduce_in_place`: what a call lends by document 01, in the order of the C
+// function; and the buckets' places in an array of 18, lent on as a slice (see `space`).
+// Kept: beside `runs::run`. One function for both would take the check and the steps as closures over the lent
+// slices, and its contract would have to give `run_outcome` for one such pair, `reduction_outcome` for the other.
 pub fn reduce<'a>(
     tally: Tally,
     p: u32,
@@ -38,6 +44,11 @@ pub fn reduce<'a>(
         (record { answer = stated result.answer; tally = result.tally; bw = bw.new; bc = bc.new; ww = ww.new; wc = wc.new; ow = ow.new; oc = oc.new })
         (reduction_outcome tally (setting_of p order n weights.now) words.now coefs.now starts.now limit bw.old bc.old ww.old wc.old ow.old oc.old) }
 {
+    let ps = Polynomials {
+        words,
+        coefs,
+        starts,
+    };
     let lengths = Lengths {
         bw: bw.len(),
         bc: bc.len(),
@@ -46,18 +57,15 @@ pub fn reduce<'a>(
         ow: ow.len(),
         oc: oc.len(),
     };
-    if let Err(refusal) = reduction_opening(
-        p, order, n, weights, words, coefs, starts, limit, lengths,
-    ) {
+    if let Err(refusal) = reduction_opening(p, order, n, weights, ps, limit, lengths) {
         return refused(refusal, tally);
     }
     let mut b = [0usize; 18];
     clear(&mut b);
-    let o = order_of(order);
-    let s = reduce_all(
-        o, p, words, coefs, starts, limit, &mut b, bw, bc, ww, wc, ow, oc,
-    );
-    settle::<u64>(o, &b, bw, bc, ww, wc);
+    let order = order_of(order);
+    let ring = Ring { order, p };
+    let s = reduce_all(ring, ps, limit, &mut b, bw, bc, ww, wc, ow, oc);
+    settle::<u64>(order, &b, bw, bc, ww, wc);
     ended(s, &b)
 }
 

@@ -57,6 +57,7 @@ pub fn refusal_of(number: u32) -> Refusal
 }
 
 // The number of a cause: the discriminant.
+// Kept: no plainer as `From`: `u32::from(refused.refusal)` does not say that the number is the documents'.
 pub fn number_of(refusal: Refusal) -> u32
     ensures { result ≡ number_of refusal }
 {

@@ -77,10 +77,6 @@ module _ (a p r₀ r₁ u₀ u₁ : ℕ) (g : Going a p r₀ r₁ u₀ u₁) (h 
   steps =
       next a p r₀ r₁ u₀ u₁ (r₀ / r₁) (r₀ - r₀ / r₁ * r₁) (omega (arith, g.falls, g.high)) (omega (arith, div-mul-le_self r₀ r₁)) rest-falls g
 
-  -- the next coefficient is at most p
-  pub coefficient-fits : u₀ + r₀ / r₁ * u₁ ≤ p
-  coefficient-fits = omega (arith, steps.whole, le-mul_of_pos_right (u₀ + r₀ / r₁ * u₁) h)
-
 -- the last remainder, and what its coefficient is
 module _ (a p r₀ r₁ u₀ u₁ : ℕ) (prime : Prime p) (pos : 0 < a) (below : a < p) (z : r₁ ≡ 0) (g : Going a p r₀ r₁ u₀ u₁) where
   last_one : r₀ ≡ 1

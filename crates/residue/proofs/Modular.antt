@@ -1,7 +1,7 @@
--- Sum, negative and product modulo p: each is below p, and how the code finds it.
+-- Sum, negative and product modulo p: each is below p, and how the code finds the negative.
 use mathlib.Core.Path.{◌≡◌, sym, ap, ◌∙◌}
-use Prim.Native.Nat.{ℕ, ◌+◌, ◌*◌, ◌-◌, ◌%◌, ◌≤◌, ◌<◌, ◌^◌}
-use native.Mathlib.Nat.{mod-lt, mod-eq_of_lt, mod-eq-sub-mod, mod_self, add_comm, mul-le-mul, zero-mod, zero-add, sub-zero}
+use Prim.Native.Nat.{ℕ, ◌+◌, ◌*◌, ◌-◌, ◌%◌, ◌<◌}
+use native.Mathlib.Nat.{mod-lt, mod-eq_of_lt, add_comm, zero-mod, zero-add}
 use native.Mathlib.Omega.{arith}
 use Rattle.residue.specs.Modular.{sum, negative, product}
 use Rattle.residue.proofs.Remainder.{sub_back}
@@ -25,28 +25,6 @@ module _ (p : ℕ) (pos : 0 < p) where
       ap (λ (n : ℕ). n % p) (add_comm a (negative p a)) ∙ ((rw zero-add at (sub_back p pos 0 a)) ∙ zero-mod p)
 
 module _ (p : ℕ) where
-  -- a sum from p up to 2 p is reduced by one p
-  pub sum-reduced : (a b : ℕ) → a < p → b < p → p ≤ a + b → a + b - p ≡ sum p a b
-  sum-reduced a b h k l = sym (mod-eq-sub-mod l ∙ mod-eq_of_lt (let z : a + b - p < p = omega arith in z))
-
-  -- 0 is its own negative
-  pub negative-zero : (a : ℕ) → a ≡ 0 → 0 ≡ negative p a
-  negative-zero a e = rw (e, zero-mod, sub-zero, mod_self)
-
   -- another number's negative is what it lacks to p
   pub negative-rest : (a : ℕ) → 0 < a → a < p → p - a ≡ negative p a
   negative-rest a h l = sym (ap (λ (n : ℕ). (p - n) % p) (mod-eq_of_lt l) ∙ mod-eq_of_lt (let z : p - a < p = omega arith in z))
-
--- a product of numbers below 2 ^ 31 fits in 62 bits
-pub product-fits : (a b p : ℕ) → a < p → b < p → p ≤ 2147483647 → a * b < 2 ^ 62
-product-fits a b p h k l =
-    omega (
-      arith,
-      mul-le-mul
-          {n₁ = a}
-          {m₁ = b}
-          {n₂ = 2147483647}
-          {m₂ = 2147483647}
-          (let x : a ≤ 2147483647 = omega arith in x)
-          (let y : b ≤ 2147483647 = omega arith in y),
-    )

@@ -75,18 +75,6 @@ rest f x = f.value * x - f.share * x / 4294967296 * f.prime
 
 -- a factor that is prepared, and a number below its modulus, as the code has them
 module _ (f : Factor) (x : ℕ) (h : Prepared f) (l : x < f.prime) where
-  -- the product by the share fits in 64 bits
-  pub share-fits : f.share * x < 2 ^ 64
-  share-fits =
-      let s : f.share < 4294967296 = rw h.share (share-below f.value f.prime 4294967296 h.below (lit< tt)) in
-      omega (arith, mul-le-mul_right x (le_of_lt s), h.modulus.limit)
-
-  -- and so does the product
-  pub value-fits : f.value * x < 2 ^ 64
-  value-fits =
-      let v : f.value ≤ 4294967296 = omega (arith, h.below, h.modulus.limit) in
-      omega (arith, mul-le-mul_right x v, h.modulus.limit)
-
   -- what is left fits in 32 bits
   pub rest-fits : rest f x < 2 ^ 32
   rest-fits =

@@ -21,7 +21,7 @@ impl Factor {
     {
         Self {
             value,
-            share: (value as u64 * WORD / p as u64) as u32,
+            share: (u64::from(value) * WORD / u64::from(p)) as u32,
             prime: p,
         }
     }
@@ -29,6 +29,8 @@ impl Factor {
     // The factor times x. The quotient that the share gives is at most one too small, so one
     // subtraction of the modulus is enough. What it leaves is below 2^32, and is compared in 32 bits,
     // so that the processor makes several products at once.
+    // Kept: `as u64`: tried, and with `u64::from` the difference and the result did not close, since the laws in
+    // `Shoup` are of products of the fields, and not of what `from` gave.
     pub fn times(self, x: u32) -> u32
         requires { Prepared self × (x < self.prime) }
         ensures { result ≡ product self.prime self.value x }

@@ -12,11 +12,15 @@ use conditions::lengths::Lengths;
 use engine::run::operate_all;
 use monomial::order::order_of;
 use opening::run::run_opening;
+use polynomial::part::Polynomials;
+use polynomial::ring::Ring;
 use space::settle::settle;
 use space::state::clear;
 
 // Does the operations on an empty geobucket. The old counts come back from an opening refusal, which
 // changes nothing.
+// Kept: fifteen parameters, here and in `run_in_place`: they are what a call lends by document 01, in the order in
+// which the C function lends them; and the buckets' places in an array of 18, lent on as a slice (see `space`).
 pub fn run<'a>(
     tally: Tally,
     p: u32,
@@ -38,6 +42,11 @@ pub fn run<'a>(
         (record { answer = stated result.answer; tally = result.tally; bw = bw.new; bc = bc.new; ww = ww.new; wc = wc.new; ow = ow.new; oc = oc.new })
         (run_outcome tally (setting_of p order n weights.now) words.now coefs.now starts.now ops.now bw.old bc.old ww.old wc.old ow.old oc.old) }
 {
+    let ps = Polynomials {
+        words,
+        coefs,
+        starts,
+    };
     let lengths = Lengths {
         bw: bw.len(),
         bc: bc.len(),
@@ -46,16 +55,15 @@ pub fn run<'a>(
         ow: ow.len(),
         oc: oc.len(),
     };
-    if let Err(refusal) = run_opening(p, order, n, weights, words, coefs, starts, ops, lengths) {
+    if let Err(refusal) = run_opening(p, order, n, weights, ps, ops, lengths) {
         return refused(refusal, tally);
     }
     let mut b = [0usize; 18];
     clear(&mut b);
-    let by = order_of(order);
-    let s = operate_all(
-        by, p, words, coefs, starts, ops, &mut b, bw, bc, ww, wc, ow, oc,
-    );
-    settle::<u64>(by, &b, bw, bc, ww, wc);
+    let order = order_of(order);
+    let ring = Ring { order, p };
+    let s = operate_all(ring, ps, ops, &mut b, bw, bc, ww, wc, ow, oc);
+    settle::<u64>(order, &b, bw, bc, ww, wc);
     ended(s, &b)
 }
 

@@ -1,9 +1,10 @@
 // Pairs of monomials x and y in each order: how they compare, and their words. All weights are 1.
 ghost use Rattle.std.specs.Prelude.{◌≡◌, ◌≤◌, length};
 
-use crate::{text, words};
+use crate::text;
+use crate::words::{self, ORDERS};
 use monomial::exponents::word_of;
-use monomial::order::{Order, order_of};
+use monomial::order::Order;
 use std::cmp::Ordering;
 use std::io;
 
@@ -46,36 +47,26 @@ pub fn pairs(rt: &impl Print) -> io::Result<()> {
     Ok(())
 }
 
+// The pair of a row in the three orders.
 fn in_row(rt: &impl Print, row: [u8; 13]) -> io::Result<()> {
     let n = usize::from(row[0]);
     if n > 6 {
         return Ok(());
     }
-    in_orders(rt, &row[1..1 + n], &row[7..7 + n])
-}
-
-// The pair in the three orders.
-fn in_orders(rt: &impl Print, x: &[u8], y: &[u8]) -> io::Result<()>
-    requires { (length x.now ≤ 6) × (length y.now ≤ 6) }
-{
-    for number in 1..4 {
-        in_order(rt, order_of(number), x, y)?;
+    let x = &row[1..1 + n];
+    let y = &row[7..7 + n];
+    for order in ORDERS {
+        let u = word_in(order, x);
+        let v = word_in(order, y);
+        comparison(rt, order, x, y, order.compare(u, v))?;
+        word(rt, order, x, u)?;
+        word(rt, order, y, v)?;
     }
     Ok(())
 }
 
-fn in_order(rt: &impl Print, order: Order, x: &[u8], y: &[u8]) -> io::Result<()>
-    requires { (length x.now ≤ 6) × (length y.now ≤ 6) }
-{
-    comparison(rt, order, x, y)?;
-    word(rt, order, x)?;
-    word(rt, order, y)
-}
-
-fn comparison(rt: &impl Print, order: Order, x: &[u8], y: &[u8]) -> io::Result<()>
-    requires { (length x.now ≤ 6) × (length y.now ≤ 6) }
-{
-    let sign = match order.compare(word_in(order, x), word_in(order, y)) {
+fn comparison(rt: &impl Print, order: Order, x: &[u8], y: &[u8], is: Ordering) -> io::Result<()> {
+    let sign = match is {
         Ordering::Less => "<",
         Ordering::Equal => "=",
         Ordering::Greater => ">",
@@ -87,12 +78,12 @@ fn comparison(rt: &impl Print, order: Order, x: &[u8], y: &[u8]) -> io::Result<(
     println!(rt;)
 }
 
-fn word(rt: &impl Print, order: Order, x: &[u8]) -> io::Result<()>
+fn word(rt: &impl Print, order: Order, x: &[u8], w: u64) -> io::Result<()>
     requires { length x.now ≤ 6 }
 {
     text::order(rt, order)?;
     text::exponents(rt, x)?;
-    words::reading(rt, order, x.len(), word_in(order, x))
+    words::reading(rt, order, x.len(), w)
 }
 
 // The word of the monomial with these exponents.

@@ -51,14 +51,10 @@ const ROWS: [[u32; 3]; 28] = [
 
 pub fn primes(rt: &impl Print) -> io::Result<()> {
     for p in NUMBERS {
-        tested(rt, p)?;
+        let not = if is_prime(p) { "" } else { "not " };
+        println!(rt; "{p} {not}prime")?;
     }
     Ok(())
-}
-
-fn tested(rt: &impl Print, p: u32) -> io::Result<()> {
-    let not = if is_prime(p) { "" } else { "not " };
-    println!(rt; "{p} {not}prime")
 }
 
 pub fn rows(rt: &impl Print) -> io::Result<()> {
@@ -72,43 +68,25 @@ fn modulo(rt: &impl Print, p: u32, a: u32, b: u32) -> io::Result<()> {
     if p < 2 || p > 2147483647 || a >= p || b >= p {
         return println!(rt; "mod {p}: {a} and {b} refused");
     }
-    sums(rt, p, a, b)?;
-    products(rt, p, a, b)?;
-    inverse(rt, p, a)
-}
-
-fn sums(rt: &impl Print, p: u32, a: u32, b: u32) -> io::Result<()>
-    requires { Modulus p × (a < p) × (b < p) }
-{
     let sum = add(a, b, p);
     let negative = negate(a, p);
-    println!(rt; "mod {p}: {a} + {b} = {sum}")?;
-    println!(rt; "mod {p}: -{a} = {negative}")
-}
-
-// The product by a division, and by the prepared factor a.
-fn products(rt: &impl Print, p: u32, a: u32, b: u32) -> io::Result<()>
-    requires { Modulus p × (a < p) × (b < p) }
-{
     let product = multiply(a, b, p);
     let by_factor = factor_times(p, a, b);
+    println!(rt; "mod {p}: {a} + {b} = {sum}")?;
+    println!(rt; "mod {p}: -{a} = {negative}")?;
     println!(rt; "mod {p}: {a} * {b} = {product}")?;
-    println!(rt; "mod {p}: {a} as a factor * {b} = {by_factor}")
-}
-
-fn factor_times(p: u32, a: u32, b: u32) -> u32
-    requires { Modulus p × (a < p) × (b < p) }
-{
-    Factor::new(a, p).times(b)
-}
-
-fn inverse(rt: &impl Print, p: u32, a: u32) -> io::Result<()>
-    requires { Modulus p × (a < p) }
-{
+    println!(rt; "mod {p}: {a} as a factor * {b} = {by_factor}")?;
     match inverse_of(p, a) {
         Some(r) => println!(rt; "mod {p}: 1 / {a} = {r}"),
         None => println!(rt; "mod {p}: 1 / {a} refused"),
     }
+}
+
+// The product by the prepared factor a.
+fn factor_times(p: u32, a: u32, b: u32) -> u32
+    requires { Modulus p × (a < p) × (b < p) }
+{
+    Factor::new(a, p).times(b)
 }
 
 // The inverse of a modulo p: none where a is 0 or p not prime.

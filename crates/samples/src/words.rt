@@ -6,8 +6,11 @@ ghost use Rattle.monomial.specs.Layout.{fields};
 use crate::text;
 use monomial::exponents::{exponent, weight_word};
 use monomial::layout::{beyond_bits, in_layout};
-use monomial::order::{Order, order_of};
+use monomial::order::Order;
 use std::io;
+
+// The three orders, in the turn in which each case is tried.
+pub const ORDERS: [Order; 3] = [Order::Lex, Order::DegLex, Order::DegRevLex];
 
 // A number of variables and a word, each tried in the three orders. Past the first ones a top bit
 // is set, the degree is wrong, or a field beyond the last variable is not 0.
@@ -46,28 +49,24 @@ fn in_orders(rt: &impl Print, n: u64, w: u64) -> io::Result<()> {
     if n > 6 {
         return Ok(());
     }
-    for number in 1..4 {
-        one(rt, order_of(number), n as usize, w)?;
+    for order in ORDERS {
+        text::order(rt, order)?;
+        print!(rt; "n = {n}")?;
+        reading(rt, order, n as usize, w)?;
     }
     Ok(())
-}
-
-fn one(rt: &impl Print, order: Order, n: usize, w: u64) -> io::Result<()>
-    requires { n ≤ 6 }
-{
-    text::order(rt, order)?;
-    print!(rt; "n = {n}")?;
-    reading(rt, order, n, w)
 }
 
 // The word, its exponents, and whether it is of the layout.
 pub fn reading(rt: &impl Print, order: Order, n: usize, w: u64) -> io::Result<()>
     requires { n ≤ 6 }
 {
+    print!(rt; " word {w:016x} exponents ")?;
+    for i in 0..n {
+        text::dotted(rt, i, exponent(order, w, i as u32))?;
+    }
     let is_of = in_layout(beyond_bits(order, n as u32), unit_weights(order), w);
     let not = if is_of { "" } else { "not " };
-    print!(rt; " word {w:016x} exponents ")?;
-    back(rt, order, n, w)?;
     println!(rt; " {not}of the layout")
 }
 
@@ -77,14 +76,4 @@ pub fn unit_weights(order: Order) -> u64
 {
     let weights = [1; 6];
     weight_word(order, &weights)
-}
-
-// The exponents of a word.
-pub fn back(rt: &impl Print, order: Order, n: usize, w: u64) -> io::Result<()>
-    requires { n ≤ 6 }
-{
-    for i in 0..n {
-        text::dotted(rt, i, exponent(order, w, i as u32))?;
-    }
-    Ok(())
 }

@@ -1,16 +1,21 @@
 -- The lines behind the first ones as the code reads them. Assumes nothing.
+use Rattle.std.proofs.lemmas.List.{nil_from_length}
+use Rattle.std.specs.Bool.{then_some}
 use Rattle.std.specs.Prelude.{Some, None, Option as Answered}
-use Prim.Native.Nat.{ℕ, suc, ◌+◌, ◌-◌, ◌*◌, ◌≤◌, ◌<◌}
+use Prim.Native.Nat.{ℕ, suc, ◌+◌, ◌*◌, ◌≤◌, ◌<◌}
 use native.Mathlib.Omega.{arith}
 use mathlib.Core.Path.{◌≡◌, refl, sym, ap, ◌∙◌}
+use mathlib.Core.Bool.{Bool, true, false}
 use mathlib.Core.List.{List, [], ◌∷◌, ◌++◌, map, append-nil, append_assoc}
 use mathlib.Core.Option.{Option, none, some}
-use lib.ListN.{length, take, drop, length-append, length-map, length-take, length-drop, drop_of_length-le}
+use borrow.Author.Tests.{eqb-true, eqb-false}
+use lib.Dec.{eqb}
+use lib.ListN.{length, take, drop, length-append, length-map, length-take, length-drop}
 use lib.Seq.{sets, length-sets}
 use Rattle.monomial.specs.declared.order.Order.{Order}
 use Rattle.text.specs.Bytes.{index_of, parts}
 use Rattle.text.specs.Numbers.{and_then}
-use Rattle.text.proofs.ByteLaws.{parts-some}
+use Rattle.text.proofs.ByteLaws.{parts-some, parts-cut, parts-uncut}
 use Rattle.merge_common.proofs.Lists.{sets-append}
 use Rattle.script.specs.declared.line.Counts.{Counts}
 use Rattle.grammar.specs.Grammar.{Entry, Line, add_line, lead_line, sum_line, line_text, GoodLine}
@@ -19,7 +24,7 @@ use Rattle.grammar.specs.Parts.{entry_word, entry_coef}
 use Rattle.script.specs.Loading.{line_entries, entries_in, ends_from, pairs_from, counts_behind, LineRoom, LineAs, ReadLine, counts_of, LinesRoom, ReadLines}
 use Rattle.grammar.proofs.Accepted.{line_read}
 use Rattle.script.proofs.FieldLaws.{entries-size}
-use Rattle.grammar.proofs.Prefix.{parts_at, before, before_more, before-none, parts_from, from_next, from_end}
+use Rattle.grammar.proofs.Prefix.{before, before_more, before-none}
 
 -- ---- one line more
 entries-more : (ls : List Line) (l : Line) → entries_in (ls ++ (l ∷ [])) ≡ entries_in ls ++ line_entries l
@@ -105,26 +110,25 @@ line-none {o} {vs} {n} {s} {c} {words} {coefs} {starts} {ops} {words'} {coefs'} 
 pub line-some : {o : Order} {vs : List ℕ} {n : ℕ} {s : List ℕ} {c : Counts} {words coefs starts ops words' coefs' starts' ops' : List ℕ} {r : Answered Counts} {b : Counts} → ReadLine o vs n s c words coefs starts ops words' coefs' starts' ops' r → r ≡ Some b → LineRead o vs n s c words coefs starts ops words' coefs' starts' ops' b
 line-some {o} {vs} {n} {s} {c} {words} {coefs} {starts} {ops} {words'} {coefs'} {starts'} {ops'} {r} {b} d e = line-good o vs n s (line_of n s) c words coefs starts ops words' coefs' starts' ops' r b refl d.is e
 
--- ---- the lines read so far
-pub record Reading (o : Order) (vs : List ℕ) (n from : ℕ) (s : List ℕ) (words₀ coefs₀ starts₀ ops₀ words coefs starts ops : List ℕ) (c : Counts) (at : ℕ) : Type 0 where
+-- ---- the lines read so far, where rest is left
+pub record Reading (o : Order) (vs : List ℕ) (n : ℕ) (s words₀ coefs₀ starts₀ ops₀ words coefs starts ops : List ℕ) (c : Counts) (rest : List ℕ) : Type 0 where
   pub done : List Line
   pub counts : c ≡ counts_of done
-  pub whole : before done (lines_of n (parts_from 10 at s)) ≡ lines_of n (parts 10 (drop from s))
+  pub whole : before done (lines_of n (parts 10 rest)) ≡ lines_of n (parts 10 s)
   pub words_are : words ≡ sets words₀ 0 (map (entry_word o vs) (entries_in done))
   pub coefs-are : coefs ≡ sets coefs₀ 0 (map entry_coef (entries_in done))
   pub starts-are : starts ≡ sets starts₀ 1 (ends_from 0 done)
   pub ops-are : ops ≡ sets ops₀ 0 (pairs_from 0 done)
 
--- room for the lines from a place on
-pub record Left (s : ℕ) (c : Counts) (at words coefs starts ops : ℕ) : Type 0 where
-  pub within : at ≤ s
-  pub terms-fit : 4 * c.terms + s ≤ 4 * words + at
+-- room for l bytes of lines
+pub record Left (l : ℕ) (c : Counts) (words coefs starts ops : ℕ) : Type 0 where
+  pub terms-fit : 4 * c.terms + l ≤ 4 * words
   pub same-long : coefs ≡ words
-  pub starts_fit : 4 * c.polynomials + s + 4 ≤ 4 * starts + at
-  pub pairs-fit : 4 * c.operations + s ≤ 2 * ops + at
+  pub starts_fit : 4 * c.polynomials + l + 4 ≤ 4 * starts
+  pub pairs-fit : 4 * c.operations + l ≤ 2 * ops
 
-pub left-start : {from s words coefs starts ops : ℕ} → LinesRoom from s words coefs starts ops → Left s (record { terms = 0; polynomials = 0; operations = 0 }) from words coefs starts ops
-left-start r = record { within = r.within; terms-fit = omega (arith, r.terms-fit); same-long = r.same-long; starts_fit = omega (arith, r.starts_fit); pairs-fit = omega (arith, r.pairs-fit) }
+pub left-start : {l words coefs starts ops : ℕ} → LinesRoom l words coefs starts ops → Left l (record { terms = 0; polynomials = 0; operations = 0 }) words coefs starts ops
+left-start r = record { terms-fit = omega (arith, r.terms-fit); same-long = r.same-long; starts_fit = omega (arith, r.starts_fit); pairs-fit = omega (arith, r.pairs-fit) }
 
 map_both : {A : Type 0} (f : A → ℕ) (xs ys : List A) → map f (xs ++ ys) ≡ map f xs ++ map f ys
 map_both f [] ys = refl
@@ -134,15 +138,15 @@ map_both f (x ∷ xs) ys = ap (λ (l : List ℕ). f x ∷ l) (map_both f xs ys)
 put-behind : (l₀ l l' : List ℕ) (i at : ℕ) (us vs ws : List ℕ) → l ≡ sets l₀ i us → l' ≡ sets l at vs → at ≡ i + length us → ws ≡ us ++ vs → l' ≡ sets l₀ i ws
 put-behind l₀ l l' i at us vs ws p q r t = q ∙ (ap (λ (x : List ℕ). sets x at vs) p ∙ (ap (λ (k : ℕ). sets (sets l₀ i us) k vs) r ∙ (sym (sets-append l₀ i us vs) ∙ ap (sets l₀ i) (sym t))))
 
-pub reading-start : (o : Order) (vs : List ℕ) (n from : ℕ) (s words coefs starts ops : List ℕ) → from ≤ length s → Reading o vs n from s words coefs starts ops words coefs starts ops (record { terms = 0; polynomials = 0; operations = 0 }) from
+pub reading-start : (o : Order) (vs : List ℕ) (n : ℕ) (s words coefs starts ops : List ℕ) → Reading o vs n s words coefs starts ops words coefs starts ops (record { terms = 0; polynomials = 0; operations = 0 }) s
 unfolding ends_from pairs_from entries_in
-reading-start o vs n from s words coefs starts ops h = record { done = []; counts = refl; whole = before-none (lines_of n (parts_from 10 from s)) ∙ ap (lines_of n) (parts_at 10 from s h); words_are = refl; coefs-are = refl; starts-are = refl; ops-are = refl }
+reading-start o vs n s words coefs starts ops = record { done = []; counts = refl; whole = before-none (lines_of n (parts 10 s)); words_are = refl; coefs-are = refl; starts-are = refl; ops-are = refl }
 
 lines-behind : (n : ℕ) (l : List ℕ) (ls : List (List ℕ)) (m : List ℕ) (r : List (List ℕ)) → ls ≡ m ∷ r → lines_of n (l ∷ ls) ≡ and_then (line_of n l) (λ x. and_then (lines_of n ls) (λ xs. some (x ∷ xs)))
 unfolding lines_of
 lines-behind n l ls m r e = rw e
 
-module _ {o : Order} {vs : List ℕ} {n from : ℕ} {s words₀ coefs₀ starts₀ ops₀ words coefs starts ops : List ℕ} {c : Counts} {at : ℕ} (d : Reading o vs n from s words₀ coefs₀ starts₀ ops₀ words coefs starts ops c at) where
+module _ {o : Order} {vs : List ℕ} {n : ℕ} {s words₀ coefs₀ starts₀ ops₀ words coefs starts ops : List ℕ} {c : Counts} {rest : List ℕ} (d : Reading o vs n s words₀ coefs₀ starts₀ ops₀ words coefs starts ops c rest) where
   pub long-words : length words ≡ length words₀
   long-words = ap length d.words_are ∙ length-sets words₀ 0 (map (entry_word o vs) (entries_in d.done))
 
@@ -155,75 +159,76 @@ module _ {o : Order} {vs : List ℕ} {n from : ℕ} {s words₀ coefs₀ starts�
   pub long-ops : length ops ≡ length ops₀
   long-ops = ap length d.ops-are ∙ length-sets ops₀ 0 (pairs_from 0 d.done)
 
-  pub reading-end : at ≤ length s → length s ≤ at → ReadLines o vs n from s words₀ coefs₀ starts₀ ops₀ words coefs starts ops (Some c)
+  reading-end : length rest ≡ 0 → ReadLines o vs n s words₀ coefs₀ starts₀ ops₀ words coefs starts ops (Some c)
   unfolding lines_of and_then parts
-  reading-end h l =
-      let p : parts_from 10 at s ≡ [] ∷ [] = parts_at 10 at s h ∙ ap (parts 10) (drop_of_length-le s l) in
-      let w : some (d.done ++ []) ≡ lines_of n (parts 10 (drop from s)) = ap (λ (ps : List (List ℕ)). before d.done (lines_of n ps)) (sym p) ∙ d.whole in
+  reading-end h =
+      let w : some (d.done ++ []) ≡ lines_of n (parts 10 s) = ap (λ (l : List ℕ). before d.done (lines_of n (parts 10 l))) (sym (nil_from_length rest h)) ∙ d.whole in
       record { is = rw (← w, append-nil) (ap Some d.counts, d.words_are, d.coefs-are, d.starts-are, d.ops-are) }
 
-  module _ (h : at < length s) (e : ℕ) (is : e ≡ at + index_of 10 (drop at s)) where
-    -- no newline behind the last line
-    pub reading-cut : e ≡ length s → {words' coefs' starts' ops' : List ℕ} → ReadLines o vs n from s words₀ coefs₀ starts₀ ops₀ words' coefs' starts' ops' None
-    unfolding lines_of and_then
-    reading-cut q =
-        let t = take (e - at) (drop at s) in
-        let p : parts_from 10 at s ≡ t ∷ [] = from_next 10 at s (omega arith) e is ∙ ap (λ (ps : List (List ℕ)). t ∷ ps) (from_end 10 (e + 1) s (omega arith)) in
-        let z : 1 ≤ length t = omega (arith, length-take (e - at) (drop at s), length-drop at s) in
-        let w : none ≡ lines_of n (parts 10 (drop from s)) = ap (before d.done) (sym (last t z)) ∙ (ap (λ (ps : List (List ℕ)). before d.done (lines_of n ps)) (sym p) ∙ d.whole) in
+  -- no newline behind the last line
+  reading-cut : index_of 10 rest ≡ length rest → (length rest ≡ 0 → ⊥) → ReadLines o vs n s words₀ coefs₀ starts₀ ops₀ words coefs starts ops None
+  unfolding lines_of and_then
+  reading-cut e h =
+      let w : none ≡ lines_of n (parts 10 s) = ap (before d.done) (sym (last rest h)) ∙ (ap (λ (ps : List (List ℕ)). before d.done (lines_of n ps)) (sym (parts-uncut 10 rest e)) ∙ d.whole) in
+      record { is = rw (← w) refl }
+    where
+      last : (t : List ℕ) → (length t ≡ 0 → ⊥) → lines_of n (t ∷ []) ≡ none
+      last [] z = absurd (z refl)
+      last (b ∷ t) z = refl
+
+  -- what is left without a newline must be empty
+  pub reading-ended : index_of 10 rest ≡ length rest → {b : Bool} → b ≡ eqb (length rest) 0 → ReadLines o vs n s words₀ coefs₀ starts₀ ops₀ words coefs starts ops (then_some b c)
+  reading-ended e {b} q = go b q
+    where
+      go : (b : Bool) → b ≡ eqb (length rest) 0 → ReadLines o vs n s words₀ coefs₀ starts₀ ops₀ words coefs starts ops (then_some b c)
+      go true q = reading-end (eqb-true _ _ (sym q))
+      go false q = reading-cut e (eqb-false _ _ (sym q))
+
+  module _ {t r : List ℕ} (x : (index_of 10 rest < length rest) × (t ≡ take (index_of 10 rest) rest) × (r ≡ drop (index_of 10 rest + 1) rest)) where
+    next : lines_of n (parts 10 rest) ≡ and_then (line_of n t) (λ k. and_then (lines_of n (parts 10 r)) (λ ks. some (k ∷ ks)))
+    next = let m = parts-some 10 r in ap (lines_of n) (parts-cut 10 rest x) ∙ lines-behind n t (parts 10 r) m.0 m.1 m.2
+
+    pub reading-bad : line_of n t ≡ none → {words' coefs' starts' ops' : List ℕ} → ReadLines o vs n s words₀ coefs₀ starts₀ ops₀ words' coefs' starts' ops' None
+    unfolding and_then
+    reading-bad q =
+        let w : none ≡ lines_of n (parts 10 s) = ap (λ (y : Option Line). before d.done (and_then y (λ k. and_then (lines_of n (parts 10 r)) (λ ks. some (k ∷ ks))))) (sym q) ∙ (ap (before d.done) (sym next) ∙ d.whole) in
         record { is = rw (← w) refl }
-      where
-        last : (t : List ℕ) → 1 ≤ length t → lines_of n (t ∷ []) ≡ none
-        last [] z = absurd (let y : ⊥ = omega arith in y)
-        last (b ∷ t) z = refl
 
-    module _ (l : e < length s) where
-      next : lines_of n (parts_from 10 at s) ≡ and_then (line_of n (take (e - at) (drop at s))) (λ x. and_then (lines_of n (parts_from 10 (e + 1) s)) (λ xs. some (x ∷ xs)))
-      next =
-          let m = parts-some 10 (drop (e + 1) s) in
-          ap (lines_of n) (from_next 10 at s (omega arith) e is) ∙ lines-behind n (take (e - at) (drop at s)) (parts_from 10 (e + 1) s) m.0 m.1 (parts_at 10 (e + 1) s (omega arith) ∙ m.2)
+    pub line-long : length rest ≡ length t + 1 + length r
+    line-long = omega (arith, ap length x.1, ap length x.2, length-take (index_of 10 rest) rest, length-drop (index_of 10 rest + 1) rest)
 
-      pub reading-bad : line_of n (take (e - at) (drop at s)) ≡ none → {words' coefs' starts' ops' : List ℕ} → ReadLines o vs n from s words₀ coefs₀ starts₀ ops₀ words' coefs' starts' ops' None
+    -- room for this line
+    pub line-room : Left (length rest) c (length words₀) (length coefs₀) (length starts₀) (length ops₀) → LineRoom (length t) c (length words) (length coefs) (length starts) (length ops)
+    line-room r =
+        let lw = long-words in
+        let lc = long-coefs in
+        let lt = long-starts in
+        let lo = long-ops in
+        record { terms-fit = omega (arith, lw, line-long, r.terms-fit); same-long = lc ∙ (r.same-long ∙ sym lw); starts_fit = omega (arith, lt, line-long, r.starts_fit); pairs-fit = omega (arith, lo, line-long, r.pairs-fit) }
+
+    module _ {words' coefs' starts' ops' : List ℕ} {b : Counts} (k : LineRead o vs n t c words coefs starts ops words' coefs' starts' ops' b) where
+      pub left-more : {words coefs starts ops : ℕ} → Left (length rest) c words coefs starts ops → Left (length r) b words coefs starts ops
+      left-more {words} {coefs} {starts} {ops} f = rw k.counts (go k.line (line-size n t k.line k.is))
+        where
+          go : (l : Line) → 4 * length (line_entries l) + 3 ≤ length t → Left (length r) (counts_behind c l) words coefs starts ops
+          go (add_line ts) z = record { terms-fit = omega (arith, line-long, f.terms-fit); same-long = f.same-long; starts_fit = omega (arith, line-long, f.starts_fit); pairs-fit = omega (arith, line-long, f.pairs-fit) }
+          go lead_line z = record { terms-fit = omega (arith, line-long, f.terms-fit); same-long = f.same-long; starts_fit = omega (arith, line-long, f.starts_fit); pairs-fit = omega (arith, line-long, f.pairs-fit) }
+          go sum_line z = record { terms-fit = omega (arith, line-long, f.terms-fit); same-long = f.same-long; starts_fit = omega (arith, line-long, f.starts_fit); pairs-fit = omega (arith, line-long, f.pairs-fit) }
+
+      pub reading-more : Reading o vs n s words₀ coefs₀ starts₀ ops₀ words' coefs' starts' ops' b r
       unfolding and_then
-      reading-bad x =
-          let w : none ≡ lines_of n (parts 10 (drop from s)) = ap (λ (y : Option Line). before d.done (and_then y (λ k. and_then (lines_of n (parts_from 10 (e + 1) s)) (λ xs. some (k ∷ xs))))) (sym x) ∙ (ap (before d.done) (sym next) ∙ d.whole) in
-          record { is = rw (← w) refl }
-
-      pub line-long : length (take (e - at) (drop at s)) ≡ e - at
-      line-long = omega (arith, length-take (e - at) (drop at s), length-drop at s)
-
-      -- room for this line
-      pub line-room : Left (length s) c at (length words₀) (length coefs₀) (length starts₀) (length ops₀) → LineRoom (length (take (e - at) (drop at s))) c (length words) (length coefs) (length starts) (length ops)
-      line-room r =
-          let lw = long-words in
-          let lc = long-coefs in
-          let lt = long-starts in
-          let lo = long-ops in
-          record { terms-fit = omega (arith, lw, line-long, r.terms-fit); same-long = lc ∙ (r.same-long ∙ sym lw); starts_fit = omega (arith, lt, line-long, r.starts_fit); pairs-fit = omega (arith, lo, line-long, r.pairs-fit) }
-
-      module _ {words' coefs' starts' ops' : List ℕ} {b : Counts} (t : LineRead o vs n (take (e - at) (drop at s)) c words coefs starts ops words' coefs' starts' ops' b) where
-        pub left-more : {words coefs starts ops : ℕ} → Left (length s) c at words coefs starts ops → Left (length s) b (e + 1) words coefs starts ops
-        left-more {words} {coefs} {starts} {ops} r = rw t.counts (go t.line (line-size n (take (e - at) (drop at s)) t.line t.is))
-          where
-            go : (k : Line) → 4 * length (line_entries k) + 3 ≤ length (take (e - at) (drop at s)) → Left (length s) (counts_behind c k) (e + 1) words coefs starts ops
-            go (add_line ts) z = record { within = omega arith; terms-fit = omega (arith, line-long, r.terms-fit); same-long = r.same-long; starts_fit = omega (arith, line-long, r.starts_fit); pairs-fit = omega (arith, line-long, r.pairs-fit) }
-            go lead_line z = record { within = omega arith; terms-fit = omega (arith, line-long, r.terms-fit); same-long = r.same-long; starts_fit = omega (arith, line-long, r.starts_fit); pairs-fit = omega (arith, line-long, r.pairs-fit) }
-            go sum_line z = record { within = omega arith; terms-fit = omega (arith, line-long, r.terms-fit); same-long = r.same-long; starts_fit = omega (arith, line-long, r.starts_fit); pairs-fit = omega (arith, line-long, r.pairs-fit) }
-
-        pub reading-more : Reading o vs n from s words₀ coefs₀ starts₀ ops₀ words' coefs' starts' ops' b (e + 1)
-        unfolding and_then
-        reading-more =
-            let done = d.done in
-            let k = t.line in
-            let ct : c.terms ≡ length (entries_in done) = ap (λ (x : Counts). x.terms) d.counts in
-            let cp : c.polynomials ≡ length (ends_from 0 done) = ap (λ (x : Counts). x.polynomials) d.counts in
-            let co : c.operations ≡ length done = ap (λ (x : Counts). x.operations) d.counts in
-            record {
-              done = done ++ (k ∷ []);
-              counts = t.counts ∙ (ap (λ (x : Counts). counts_behind x k) d.counts ∙ sym (counts-more done k));
-              whole = sym (before_more done k (lines_of n (parts_from 10 (e + 1) s))) ∙ (ap (λ (y : Option Line). before done (and_then y (λ j. and_then (lines_of n (parts_from 10 (e + 1) s)) (λ xs. some (j ∷ xs))))) (sym t.is) ∙ (ap (before done) (sym next) ∙ d.whole));
-              words_are = put-behind words₀ words words' 0 c.terms (map (entry_word o vs) (entries_in done)) (map (entry_word o vs) (line_entries k)) _ d.words_are t.words_are (omega (arith, ct, length-map (entries_in done) (entry_word o vs))) (ap (map (entry_word o vs)) (entries-more done k) ∙ map_both (entry_word o vs) (entries_in done) (line_entries k));
-              coefs-are = put-behind coefs₀ coefs coefs' 0 c.terms (map entry_coef (entries_in done)) (map entry_coef (line_entries k)) _ d.coefs-are t.coefs-are (omega (arith, ct, length-map (entries_in done) entry_coef)) (ap (map entry_coef) (entries-more done k) ∙ map_both entry_coef (entries_in done) (line_entries k));
-              starts-are = put-behind starts₀ starts starts' 1 (c.polynomials + 1) (ends_from 0 done) (ends_from c.terms (k ∷ [])) _ d.starts-are t.starts-are (omega (arith, cp)) (ends_more 0 done k ∙ ap (λ (j : ℕ). ends_from 0 done ++ ends_from j (k ∷ [])) (let z : 0 + length (entries_in done) ≡ c.terms = omega (arith, ct) in z));
-              ops-are = put-behind ops₀ ops ops' 0 (2 * c.operations) (pairs_from 0 done) (pairs_from c.polynomials (k ∷ [])) _ d.ops-are t.ops-are (omega (arith, co, pairs-long 0 done)) (pairs-more 0 done k ∙ ap (λ (j : ℕ). pairs_from 0 done ++ pairs_from j (k ∷ [])) (let z : 0 + length (ends_from 0 done) ≡ c.polynomials = omega (arith, cp) in z));
-            }
+      reading-more =
+          let done = d.done in
+          let l = k.line in
+          let ct : c.terms ≡ length (entries_in done) = ap (λ (x : Counts). x.terms) d.counts in
+          let cp : c.polynomials ≡ length (ends_from 0 done) = ap (λ (x : Counts). x.polynomials) d.counts in
+          let co : c.operations ≡ length done = ap (λ (x : Counts). x.operations) d.counts in
+          record {
+            done = done ++ (l ∷ []);
+            counts = k.counts ∙ (ap (λ (x : Counts). counts_behind x l) d.counts ∙ sym (counts-more done l));
+            whole = sym (before_more done l (lines_of n (parts 10 r))) ∙ (ap (λ (y : Option Line). before done (and_then y (λ j. and_then (lines_of n (parts 10 r)) (λ js. some (j ∷ js))))) (sym k.is) ∙ (ap (before done) (sym next) ∙ d.whole));
+            words_are = put-behind words₀ words words' 0 c.terms (map (entry_word o vs) (entries_in done)) (map (entry_word o vs) (line_entries l)) _ d.words_are k.words_are (omega (arith, ct, length-map (entries_in done) (entry_word o vs))) (ap (map (entry_word o vs)) (entries-more done l) ∙ map_both (entry_word o vs) (entries_in done) (line_entries l));
+            coefs-are = put-behind coefs₀ coefs coefs' 0 c.terms (map entry_coef (entries_in done)) (map entry_coef (line_entries l)) _ d.coefs-are k.coefs-are (omega (arith, ct, length-map (entries_in done) entry_coef)) (ap (map entry_coef) (entries-more done l) ∙ map_both entry_coef (entries_in done) (line_entries l));
+            starts-are = put-behind starts₀ starts starts' 1 (c.polynomials + 1) (ends_from 0 done) (ends_from c.terms (l ∷ [])) _ d.starts-are k.starts-are (omega (arith, cp)) (ends_more 0 done l ∙ ap (λ (j : ℕ). ends_from 0 done ++ ends_from j (l ∷ [])) (let z : 0 + length (entries_in done) ≡ c.terms = omega (arith, ct) in z));
+            ops-are = put-behind ops₀ ops ops' 0 (2 * c.operations) (pairs_from 0 done) (pairs_from c.polynomials (l ∷ [])) _ d.ops-are k.ops-are (omega (arith, co, pairs-long 0 done)) (pairs-more 0 done l ∙ ap (λ (j : ℕ). pairs_from 0 done ++ pairs_from j (l ∷ [])) (let z : 0 + length (ends_from 0 done) ≡ c.polynomials = omega (arith, cp) in z));
+          }

@@ -1,6 +1,6 @@
 -- A script as a run takes it: words, coefficients, starts and operations. Assumes nothing.
 use Rattle.std.specs.Prelude.{Some, None, Option as Answered}
-use Rattle.std.specs.Prelude.{ℕ, ◌+◌, ◌*◌, ◌≤◌, List, [], ◌∷◌, ◌++◌, map, ◌≡◌, length, drop}
+use Rattle.std.specs.Prelude.{ℕ, ◌+◌, ◌*◌, ◌≤◌, List, [], ◌∷◌, ◌++◌, map, ◌≡◌, length}
 use Rattle.std.proofs.Math.Option.{Option, none, some}
 use Rattle.std.proofs.lemmas.List.Edits.{sets}
 use Rattle.limits.specs.Limits.{script_numbers, script_starts, script_terms}
@@ -10,7 +10,7 @@ use Rattle.grammar.specs.Reading.{fields_of, add_of, line_of, lines_of, script_o
 use Rattle.script.specs.declared.reader.Loaded.{Loaded}
 use Rattle.script.specs.declared.line.Counts.{Counts}
 use Rattle.grammar.specs.Grammar.{Entry, Line, add_line, lead_line, sum_line, Script}
-use Rattle.grammar.specs.Parts.{entry_word, entry_coef, six_weights, packed_weights, order_number}
+use Rattle.grammar.specs.Parts.{entry_word, entry_coef, six_weights}
 
 abbrev pub line_entries : Line → List Entry
 line_entries (add_line ts) = ts
@@ -92,17 +92,16 @@ pub record ReadLine (o : Order) (vs : List ℕ) (n : ℕ) (s : List ℕ) (c : Co
 pub record ReadAdd (o : Order) (vs : List ℕ) (n : ℕ) (s : List ℕ) (c : Counts) (words coefs starts ops words' coefs' starts' ops' : List ℕ) (r : Answered Counts) : Type 0 where
   pub is : LineAs o vs (add_of n s) c words coefs starts ops words' coefs' starts' ops' r
 
--- ---- the lines from a place on
+-- ---- the lines
 abbrev pub counts_of : List Line → Counts
 counts_of ls = record { terms = length (entries_in ls); polynomials = length (ends_from 0 ls); operations = length ls }
 
--- Room for the lines of s from a place on: four bytes for each term and each line.
-pub record LinesRoom (from s words coefs starts ops : ℕ) : Type 0 where
-  pub within : from ≤ s
-  pub terms-fit : s ≤ 4 * words + from
+-- Room for lines of l bytes: four bytes for each term and each line.
+pub record LinesRoom (l words coefs starts ops : ℕ) : Type 0 where
+  pub terms-fit : l ≤ 4 * words
   pub same-long : coefs ≡ words
-  pub starts_fit : s + 4 ≤ 4 * starts + from
-  pub pairs-fit : s ≤ 2 * ops + from
+  pub starts_fit : l + 4 ≤ 4 * starts
+  pub pairs-fit : l ≤ 2 * ops
 
 abbrev pub LinesAs : Order → (weights : List ℕ) → Option (List Line) → (words coefs starts ops words' coefs' starts' ops' : List ℕ) → Answered Counts → Type 0
 LinesAs o vs none words coefs starts ops words' coefs' starts' ops' r = r ≡ None
@@ -113,8 +112,8 @@ LinesAs o vs (some ls) words coefs starts ops words' coefs' starts' ops' r =
     × (starts' ≡ sets starts 1 (ends_from 0 ls))
     × (ops' ≡ sets ops 0 (pairs_from 0 ls))
 
-pub record ReadLines (o : Order) (vs : List ℕ) (n from : ℕ) (s : List ℕ) (words coefs starts ops words' coefs' starts' ops' : List ℕ) (r : Answered Counts) : Type 0 where
-  pub is : LinesAs o vs (lines_of n (parts 10 (drop from s))) words coefs starts ops words' coefs' starts' ops' r
+pub record ReadLines (o : Order) (vs : List ℕ) (n : ℕ) (s : List ℕ) (words coefs starts ops words' coefs' starts' ops' : List ℕ) (r : Answered Counts) : Type 0 where
+  pub is : LinesAs o vs (lines_of n (parts 10 s)) words coefs starts ops words' coefs' starts' ops' r
 
 -- ---- a whole script
 
@@ -126,7 +125,7 @@ pub record ScriptRoom (words coefs starts ops : ℕ) : Type 0 where
   pub ops-long : ops ≡ script_numbers
 
 abbrev pub loaded_of : Script → Loaded
-loaded_of s = record { prime = s.prime; order = order_number s.order; vars = s.vars; weights = packed_weights s.weights; counts = counts_of s.lines }
+loaded_of s = record { prime = s.prime; order = s.order; vars = s.vars; weights = six_weights s.weights; counts = counts_of s.lines }
 
 abbrev pub ScriptAs : Option Script → (words coefs starts ops words' coefs' starts' ops' : List ℕ) → Answered Loaded → Type 0
 ScriptAs none words coefs starts ops words' coefs' starts' ops' r = r ≡ None

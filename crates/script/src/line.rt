@@ -1,12 +1,14 @@
 // A line of a script behind the first ones: `add` with terms, `lead` or `sum`.
-ghost use Rattle.std.specs.Prelude.{◌≡◌, ◌+◌, ◌*◌, ◌≤◌, ◌<◌, ◌∷◌, [], length};
+ghost use Rattle.std.specs.Prelude.{◌≡◌, ◌+◌, ◌*◌, ◌≤◌, ◌<◌, length};
 ghost use Rattle.std.proofs.lemmas.List.Edits.{sets};
 ghost use Rattle.monomial.specs.Layout.{fields};
+ghost use Rattle.conditions.specs.Operations.{pair_of};
 ghost use Rattle.script.specs.Loading.{EntryRoom, ReadEntries, LineRoom, ReadLine, ReadAdd, counts_behind};
 ghost use Rattle.grammar.specs.Grammar.{lead_line};
 
+use conditions::operations::Operation;
 use grammar::entry::{Shape, read_entry};
-use text::bytes::{is_word, part_end};
+use text::bytes::is_word;
 
 // How many terms, polynomials and operations have been read.
 #[derive(Clone, Copy)]
@@ -28,32 +30,27 @@ fn read_entries(
     requires { EntryRoom (length s.now) at (length words.old) (length coefs.old) }
     ensures { ReadEntries shape.order (fields shape.order shape.weights) shape.n s.now at words.old coefs.old words.new coefs.new result }
 {
+    if s.is_empty() {
+        return Some(at);
+    }
+    let fields = s.strip_prefix(b" ")?;
+    // Kept: `to` is the answer: `enumerate` would give each field its place, but none behind the loop.
     let mut to = at;
-    let mut i = 0;
-    // Kept: the loop goes from space to space, since the room for a term is told by the bytes left behind i;
-    // a loop over the library's `split` has no such place.
-    while i < s.len() {
-        if s[i] != b' ' {
-            return None;
-        }
-        let from = i + 1;
-        let e = part_end(s, from, b' ');
-        let (word, coef) = read_entry(&s[from..e], shape)?;
+    for field in fields.split(|x| *x == b' ') {
+        let (word, coef) = read_entry(field, shape)?;
         words[to] = word;
         coefs[to] = coef;
         to += 1;
-        i = e;
     }
     Some(to)
 }
 
-// Puts pair k of the operations.
-// Kept: the code of an operation is a number, since the run takes pairs of numbers, as the C interface has
-// them.
-fn put_pair(ops: &mut [usize], k: usize, code: usize, index: usize)
+// Puts an operation as pair k.
+fn put_pair(ops: &mut [usize], k: usize, operation: Operation)
     requires { 2 * k + 2 ≤ length ops.old }
-    ensures { ops.new ≡ sets ops.old (2 * k) (code ∷ index ∷ []) }
+    ensures { ops.new ≡ sets ops.old (2 * k) (pair_of operation) }
 {
+    let [code, index] = operation.pair();
     ops[2 * k] = code;
     ops[2 * k + 1] = index;
 }
@@ -85,7 +82,7 @@ fn read_add(
     let terms = read_entries(s, shape, words, coefs, c.terms)?;
     let k = c.polynomials;
     starts[k + 1] = terms;
-    put_pair(ops, c.operations, 1, k);
+    put_pair(ops, c.operations, Operation::Add(k));
     Some(Counts {
         terms,
         polynomials: k + 1,
@@ -94,8 +91,8 @@ fn read_add(
 }
 
 // Reads a line, and answers the counts behind it.
-// Kept: the four lent slices are parameters, since clauses on a struct of `&mut` fields would have to name
-// what each field holds before and after, which is no plainer.
+// Kept: the lent slices are parameters, here and in the other functions and modules: the contract of a struct of
+// `&mut` fields would have to say besides that each field is still the slice that was lent.
 pub fn read_line(
     s: &[u8],
     shape: Shape,
@@ -109,11 +106,11 @@ pub fn read_line(
     ensures { ReadLine shape.order (fields shape.order shape.weights) shape.n s.now c words.old coefs.old starts.old ops.old words.new coefs.new starts.new ops.new result }
 {
     if is_word(s, b"lead") {
-        put_pair(ops, c.operations, 2, 0);
+        put_pair(ops, c.operations, Operation::Lead);
         return Some(plain(c));
     }
     if is_word(s, b"sum") {
-        put_pair(ops, c.operations, 3, 0);
+        put_pair(ops, c.operations, Operation::Sum);
         return Some(plain(c));
     }
     let terms = s.strip_prefix(b"add")?;

@@ -6,19 +6,17 @@ use crate::line::Counts;
 use crate::lines::read_lines;
 use grammar::entry::Shape;
 use grammar::header::read_header;
-use grammar::weights::weights_of;
 use limits::SCRIPT_BYTES;
 use monomial::exponents::weight_word;
-use monomial::order::order_of;
+use monomial::order::Order;
 
-// The prime, the number of the order, the number of variables, the weights as one number, and the counts.
-// Kept: the order as its number, as in `Header`.
+// The prime, the order, the number of variables, the weights, x1's first, and the counts.
 #[derive(Clone, Copy)]
 pub struct Loaded {
     pub prime: u32,
-    pub order: u32,
+    pub order: Order,
     pub vars: u32,
-    pub weights: u64,
+    pub weights: [u32; 6],
     pub counts: Counts,
 }
 
@@ -38,14 +36,12 @@ pub fn read_script(
     }
     let h = read_header(s)?;
     starts[0] = 0;
-    let order = order_of(h.order);
-    let weights = weights_of(h.weights);
     let shape = Shape {
-        order,
-        weights: weight_word(order, &weights),
+        order: h.order,
+        weights: weight_word(h.order, &h.weights),
         n: h.vars,
     };
-    let counts = read_lines(s, h.from, shape, words, coefs, starts, ops)?;
+    let counts = read_lines(h.lines, shape, words, coefs, starts, ops)?;
     Some(Loaded {
         prime: h.prime,
         order: h.order,

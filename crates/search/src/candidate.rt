@@ -9,8 +9,8 @@ use residue::arithmetic::add;
 
 // The largest lead so far: its bucket (6 for none), the comparisons made, its monomial, as a key until
 // the search is done, and its coefficient with those of the like leads.
-// Kept: bucket 6 for none, not an Option around it all: the comparisons are counted where no lead is found
-// too, and the exported probe_buckets_lead gives 6.
+// Kept: bucket 6 for none, not an Option around it all, here, in `in_words` and where a Candidate is asked for it
+// in `lead`: the comparisons are counted where no lead is found too, and the exported probe_buckets_lead gives 6.
 #[derive(Clone, Copy)]
 pub struct Candidate {
     pub bucket: usize,
@@ -33,6 +33,8 @@ impl Candidate {
     }
 
     // A smaller lead is passed by.
+    // Kept: `self.count ≤ 1000000`, here and in the two below, not a ghost field of Candidate: each of them adds
+    // one, so the Candidate that it gives may be one past what it takes.
     pub fn pass_by(mut self) -> Self
         requires { self.count ≤ 1000000 }
         ensures { result ≡ passed_by self }

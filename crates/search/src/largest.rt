@@ -12,7 +12,8 @@ use space::state::len_of;
 
 // The largest lead so far: its bucket (6 for none) and its key; how many buckets that are not empty were
 // looked at, and how many leads were like the largest one before them.
-// Kept: bucket 6 for none, as in the Candidate that it becomes.
+// Kept: bucket 6 for none, here, in `largest_lead` and in `take_lead`, as in the Candidate that it becomes: an
+// Option would be made in each turn, and be taken apart where the Candidate is made.
 #[derive(Clone, Copy)]
 pub struct Largest {
     pub bucket: usize,

@@ -7,51 +7,51 @@ ghost use Rattle.search.specs.Searching.{Removal, Seek, SeekDone, FirstHeld, Fin
 use crate::candidate::Candidate;
 use crate::largest::largest_lead;
 use merge_common::merging::{larger, not_zero};
-use monomial::order::Order;
+use polynomial::ring::Ring;
 use space::leads::{lead_coef, lead_key, put_lead_coef};
 use space::state::{head_of, len_of, place};
 
 // Searches for the lead, and leaves it in its bucket with like terms combined.
+// Kept: the lent slices as parameters of their own, with `Slices` on them, here and below: in a struct of `&mut`
+// slices a contract would name each one before and after, and say of each that it is still the slice lent.
 pub fn find_lead(
-    order: Order,
-    p: u32,
+    ring: Ring,
     b: &mut [usize],
     sw: &[u64],
     sc: &mut [u32],
     ww: &[u64],
     wc: &mut [u32],
 ) -> Candidate
-    requires { Standing p (spaces b.old ww.now wc.old sw.now sc.old) × Slices ww.now wc.old sw.now sc.old }
-    ensures { Found order p (spaces b.old ww.now wc.old sw.now sc.old) (spaces b.new ww.now wc.new sw.now sc.new) result }
+    requires { Standing ring.p (spaces b.old ww.now wc.old sw.now sc.old) × Slices ww.now wc.old sw.now sc.old }
+    ensures { Found ring.order ring.p (spaces b.old ww.now wc.old sw.now sc.old) (spaces b.new ww.now wc.new sw.now sc.new) result }
 {
-    find_key(p, b, sw, sc, ww, wc).in_words(order)
+    find_key(ring.p, b, sw, sc, ww, wc).in_words(ring.order)
 }
 
 // Searches for the lead, and removes it. Where no leads are like, it is enough to look at them.
 pub fn take_lead(
-    order: Order,
-    p: u32,
+    ring: Ring,
     b: &mut [usize],
     sw: &[u64],
     sc: &mut [u32],
     ww: &[u64],
     wc: &mut [u32],
 ) -> Candidate
-    requires { Standing p (spaces b.old ww.now wc.old sw.now sc.old) × Slices ww.now wc.old sw.now sc.old }
-    ensures { Taken order p (spaces b.old ww.now wc.old sw.now sc.old) (spaces b.new ww.now wc.new sw.now sc.new) result }
+    requires { Standing ring.p (spaces b.old ww.now wc.old sw.now sc.old) × Slices ww.now wc.old sw.now sc.old }
+    ensures { Taken ring.order ring.p (spaces b.old ww.now wc.old sw.now sc.old) (spaces b.new ww.now wc.new sw.now sc.new) result }
 {
     let t = largest_lead(b, sw, ww);
     if t.like == 0 && t.bucket < 6 {
         let coef = lead_coef(b, wc, sc, t.bucket);
         remove_lead(b, t.bucket);
-        return t.candidate(coef).in_words(order);
+        return t.candidate(coef).in_words(ring.order);
     }
-    let c = find_key(p, b, sw, sc, ww, wc);
+    let c = find_key(ring.p, b, sw, sc, ww, wc);
     if c.bucket == 6 {
         return c;
     }
     remove_lead(b, c.bucket);
-    c.in_words(order)
+    c.in_words(ring.order)
 }
 
 // Searches for the lead by keys, and leaves it in its bucket with like terms combined. A candidate of

@@ -120,7 +120,7 @@ module _ (w : Width) (o : Order) (b : Buckets) (sw sc ww wc : List ℕ) (l : Lai
   same-long : (i : ℕ) → i < 6 → length (row_at b (wc ++ sc) i) ≡ length (row_at b (ww ++ sw) i)
   same-long i h = row-long b l i h (wc ++ sc) (joined-long wc sc lc ec) ∙ sym (row-long b l i h (ww ++ sw) (joined-long ww sw lw ew))
 
-  pub at_return : (n : ℕ) → n ≡ work_places → (zw : List ℕ) → length zw ≡ work_places → {sw' sc' ww' wc' : List ℕ} → sw' ≡ settled (from_key_by w o) b (ww ++ sw) → sc' ≡ settled (λ c. c) b (wc ++ sc) → ww' ≡ sets zw 0 (replicate n 0) → wc' ≡ sets wc 0 (replicate n 0)
+  pub at_return : (n : ℕ) → n ≡ work_places → (zw : List ℕ) → length zw ≡ work_places → {sw' sc' ww' wc' : List ℕ} → sw' ≡ settled (from_key_by w o) b (ww ++ sw) → sc' ≡ settled (λ c. c) b (wc ++ sc) → ww' ≡ sets zw 0 (replicate n 0) → wc' ≡ replicate n 0
       → AtReturn (words_by w o (spaces b ww wc sw sc)) sw' sc' ww' wc'
   at_return n en zw lz e₁ e₂ e₃ e₄ =
       let f : ℕ → ℕ = from_key_by w o in
@@ -132,5 +132,5 @@ module _ (w : Width) (o : Order) (b : Buckets) (sw sc ww wc : List ℕ) (l : Lai
         coefs-are =
             e₂ ∙ ap (laid_out 4) (map-from coefs (renamed f) (bucket_at b ks cs) (λ j. map (λ (c : ℕ). c) (row_at b cs j)) 0 6 (λ j h. coefs-renamed f (bucket_at b ks cs j) ∙ (coefs-terms (row_at b ks j) (row_at b cs j) (same-long j h) ∙ as_read (row_at b cs j))));
         work-words = e₃ ∙ (all-zero zw n (lz ∙ sym en) ∙ ap (λ (k : ℕ). replicate k 0) en);
-        work-coefs = e₄ ∙ (all-zero wc n (lc ∙ sym en) ∙ ap (λ (k : ℕ). replicate k 0) en);
+        work-coefs = e₄ ∙ ap (λ (k : ℕ). replicate k 0) en;
       }

@@ -10,6 +10,7 @@ use limits::WORK_PLACES;
 use merge_common::places::Key;
 
 // The key of bucket i's lead.
+// Kept: here and below, `0 < len_at b i`: buckets may be empty, so no type of b has it.
 pub fn lead_key<K: Key>(b: &[usize], ww: &[u64], sw: &[u64], i: usize) -> K
     requires { Laid b.now × (i < 6) × (0 < len_at b.now i) × (length (key_numbers K.width ww.now) ≡ work_places) × (length (key_numbers K.width sw.now) ≡ bucket_places) }
     ensures { K.number result ≡ get_or (key_numbers K.width ww.now ++ key_numbers K.width sw.now) (head_at b.now i) 0 }

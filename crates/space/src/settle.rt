@@ -11,7 +11,7 @@ ghost use Rattle.space.specs.Rows.{last_start, first_rows, last_row};
 
 use crate::state::{LAST_START, head_of, len_of};
 use limits::{MOST_TERMS, WORK_PLACES};
-use merge_common::copy::{fill, put};
+use merge_common::copy::{clear_places, part_places, put};
 use merge_common::keys::put_words_of;
 use merge_common::places::Key;
 use monomial::order::Order;
@@ -31,8 +31,8 @@ pub fn settle<K: Key>(
 {
     settle_buckets::<K>(order, b, sw, sc, ww, wc);
     let places = wc.len();
-    clear::<K>(ww, 0, places);
-    fill(wc, 0, places, 0);
+    clear_places::<K>(ww, 0, places);
+    wc.fill(0);
 }
 
 // Puts each bucket's terms from the bucket's start on, the words of its keys and its coefficients,
@@ -62,8 +62,8 @@ fn settle_last<K: Key>(order: Order, b: &[usize], sw: &mut [u64], sc: &mut [u32]
     let past = LAST_START + n;
     let left = MOST_TERMS - n;
     pull_terms::<K>(order, sw, sc, h - WORK_PLACES, LAST_START, n);
-    clear::<K>(sw, past, left);
-    fill(sc, past, left, 0);
+    clear_places::<K>(sw, past, left);
+    sc[past..past + left].fill(0);
 }
 
 // The others, whose terms lie in the work space.
@@ -78,21 +78,19 @@ fn settle_first<K: Key>(
     requires { Laid b.now × (length (key_numbers K.width sw.old) ≡ bucket_places) × (length sc.old ≡ bucket_places) × (length (key_numbers K.width ww.now) ≡ work_places) × (length wc.now ≡ work_places) }
     ensures { (word_numbers K.width sw.new ≡ sets (word_numbers K.width sw.old) 0 (first_rows (from_key_by K.width order) b.now (key_numbers K.width ww.now))) × (sc.new ≡ sets sc.old 0 (first_rows (λ c. c) b.now wc.now)) }
 {
-    let words = K::WORDS;
     let mut start = 0;
     let mut cap = 4;
     for i in 0..5 {
         let h = head_of(b, i);
         let n = len_of(b, i);
         let end = h + n;
-        let first = words * h;
-        let bound = words * end;
         let past = start + n;
         let left = cap - n;
-        put_words_of::<K>(order, &ww[first..bound], sw, start);
-        clear::<K>(sw, past, left);
+        let row = part_places::<K>(ww, h, end);
+        put_words_of::<K>(order, row, sw, start);
+        clear_places::<K>(sw, past, left);
         put(&wc[h..end], sc, start);
-        fill(sc, past, left, 0);
+        sc[past..past + left].fill(0);
         start += cap;
         cap *= 4;
     }
@@ -117,15 +115,4 @@ pub fn pull_terms<K: Key>(
         K::at(sw, read).word(order).put(sw, put);
         sc[put] = sc[read];
     }
-}
-
-// Sets the n places from place `at` on to 0.
-pub fn clear<K: Key>(s: &mut [u64], at: usize, n: usize)
-    requires { at + n ≤ length (word_numbers K.width s.old) }
-    ensures { word_numbers K.width s.new ≡ sets (word_numbers K.width s.old) at (replicate n 0) }
-{
-    let words = K::WORDS;
-    let first = words * at;
-    let count = words * n;
-    fill(s, first, count, 0);
 }

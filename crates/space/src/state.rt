@@ -2,8 +2,11 @@
 // the place of each bucket's lead, the next six each bucket's terms, and the next five where the free
 // area of each of buckets 0 to 4 begins. Places are counted through the work space and on through the
 // bucket space. Taking a lead moves the head: nothing is shifted.
-// Kept: a slice, not an array of 18. C lends a slice; tried, the proof didn't close, as its conversion to
-// an array says nothing of what it holds at return, and a copy each way is 36 moves for each call.
+// Kept: a slice, not an array of 18. C lends a slice (`probe_buckets_add`). Tried, and the proof did not close: the
+// conversion to an array says nothing of what the slice holds at return; and a copy each way is 36 moves for a call.
+// Kept: here and in the crates above, `Laid b`, `length b ≡ 18`, the lengths of the spaces and `Slices ..` are
+// clauses. They are of `&mut` slices: a struct of these with the facts in ghost fields would have each contract
+// name its five fields all the same, and say of each that it is the same borrow at return.
 ghost use Rattle.std.specs.Prelude.{◌≡◌, ◌<◌, length};
 ghost use Rattle.space.specs.Space.{Laid, head_at, held_in, len_at, side_at, moved, turned, no_buckets};
 
@@ -24,6 +27,8 @@ pub fn clear(b: &mut [usize])
 }
 
 // The place of bucket i's lead.
+// Kept: here, below and in `leads`, `i < 6`: the loops over the buckets count plain numbers. A type of such
+// numbers would be made in each turn, to be taken apart here, where it is an index.
 pub fn head_of(b: &[usize], i: usize) -> usize
     requires { (length b.now ≡ 18) × (i < 6) }
     ensures { result ≡ head_at b.now i }

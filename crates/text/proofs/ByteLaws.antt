@@ -1,10 +1,11 @@
 -- Laws of words at the start of a text and of separators. Assumes nothing.
 use Prim.Native.Nat.{ℕ, suc, ◌+◌, ◌≤◌, ◌<◌}
+use native.Mathlib.Numerals.{add-one}
 use native.Mathlib.Omega.{arith}
 use mathlib.Core.Path.{◌≡◌, refl, sym, ap, ◌∙◌}
 use mathlib.Core.Bool.{Bool, cond, true, false, ◌&&◌}
 use mathlib.Core.List.{List, [], ◌∷◌, ◌++◌, append-nil}
-use borrow.Author.Tests.{eq-eqb, ne_eqb, eqb-true, eqb-false, leb-true, ltb-true, ltb-false}
+use borrow.Author.Tests.{eq-eqb, ne_eqb, eqb-true, leb-true, ltb-true, ltb-false}
 use lib.Dec.{eqb, leb, eqb-suc-zero, eqb-zero-suc, eqb-suc-suc}
 use lib.Pointwise.{pointwise}
 use Rattle.std.proofs.Common.{nat_lt, Some, None}
@@ -24,30 +25,17 @@ both false b e = absurd (let z : ◌≡◌ {A = ℕ} 0 1 = cc in let y : ⊥ = o
 pub cons : {A : Type 0} {a b : A} {l m : List A} → a ≡ b → l ≡ m → a ∷ l ≡ b ∷ m
 cons p q = cc
 
-eqb-flip : (a b : ℕ) → eqb a b ≡ eqb b a
-eqb-flip a b = go (eqb b a) refl
-  where
-    go : (t : Bool) → eqb b a ≡ t → eqb a b ≡ t
-    go true e = eq-eqb _ _ (sym (eqb-true _ _ e))
-    go false e = ne_eqb _ _ (λ f. eqb-false _ _ e (sym f))
-
 -- ---- what the code's own tests of texts say
-pub begins-code : (w s : List ℕ) → pointwise eqb w (take (length w) s) ≡ begins w s
-unfolding begins
-begins-code [] s = refl
-begins-code (x ∷ w) [] = refl
-begins-code (x ∷ w) (y ∷ s) = rw (eqb-flip x y, begins-code w s)
-
-swap-and : (a b c : Bool) → (a && (b && c)) ≡ (b && (a && c))
-swap-and true b c = refl
-swap-and false true c = refl
-swap-and false false c = refl
-
 pub prefix-code : (w s : List ℕ) → pointwise eqb (take (length w) s) w ≡ begins w s
 unfolding begins
 prefix-code [] s = refl
 prefix-code (x ∷ w) [] = refl
 prefix-code (x ∷ w) (y ∷ s) = rw (prefix-code w s)
+
+swap-and : (a b c : Bool) → (a && (b && c)) ≡ (b && (a && c))
+swap-and true b c = refl
+swap-and false true c = refl
+swap-and false false c = refl
 
 pub same-code : (w s : List ℕ) → pointwise eqb s w ≡ same w s
 unfolding same begins
@@ -114,10 +102,6 @@ same-is w s e =
     let z : length s ≤ length w = omega (arith, eqb-true (length s) (length w) t.0) in
     i ∙ (ap (λ (l : List ℕ). w ++ l) (drop_of_length-le s z) ∙ append-nil w)
 
-pub same_word : (w : List ℕ) → same w w ≡ true
-unfolding same
-same_word w = rw (eq-eqb (length w) (length w) refl) (rw append-nil at (begins-word w []))
-
 -- ---- parts
 
 -- no byte of a text is b
@@ -128,6 +112,10 @@ Without b (x ∷ xs) = (x ≡ b → ⊥) × Without b xs
 abbrev pub AllWithout : ℕ → List (List ℕ) → Type 0
 AllWithout b [] = Unit {0}
 AllWithout b (p ∷ ps) = Without b p × AllWithout b ps
+
+abbrev first : List (List ℕ) → List ℕ
+first [] = []
+first (p ∷ ps) = p
 
 -- a text without b is one part; before a b it is the first
 pub parts-one : (b : ℕ) (p : List ℕ) → Without b p → parts b p ≡ p ∷ []
@@ -214,6 +202,37 @@ parts_last b (x ∷ s) h = go (eqb x b) h (λ k. parts_last b s k)
     go true k f = absurd (let z : ⊥ = omega arith in z)
     go false k f = ap (onto x) (f (omega arith))
 
+-- the same of a text that is cut at its first separator
+module _ (b : ℕ) (s : List ℕ) {l r : List ℕ} (c : (index_of b s < length s) × (l ≡ take (index_of b s) s) × (r ≡ drop (index_of b s + 1) s)) where
+  pub parts-cut : parts b s ≡ l ∷ parts b r
+  parts-cut = parts-found b s c.0 ∙ cons (sym c.1) (ap (parts b) (sym (c.2 ∙ ap (λ (n : ℕ). drop n s) (add-one (index_of b s)))))
+
+pub parts-uncut : (b : ℕ) (s : List ℕ) → index_of b s ≡ length s → parts b s ≡ s ∷ []
+parts-uncut b s e = parts_last b s (omega arith)
+
+-- a word without b at the start is the start of the first part
+pub parts-behind : (b : ℕ) (w s p : List ℕ) (ps : List (List ℕ)) → Without b w → parts b s ≡ p ∷ ps → parts b (w ++ s) ≡ (w ++ p) ∷ ps
+unfolding parts
+parts-behind b [] s p ps h e = e
+parts-behind b (x ∷ w) s p ps h e = rw (ne_eqb x b h.0, parts, parts-behind b w s p ps h.1 e)
+
+pub begins-first : (b : ℕ) (w s p : List ℕ) (ps : List (List ℕ)) → Without b w → parts b s ≡ p ∷ ps → begins w p ≡ begins w s
+unfolding parts begins
+begins-first b [] s p ps h e = refl
+begins-first b (x ∷ w) [] p ps h e = ap (begins (x ∷ w)) (sym (ap first e))
+begins-first b (x ∷ w) (y ∷ s) p ps h e = let m = parts-some b s in go (eqb y b) refl (parts b s) m.0 m.1 m.2 (λ q qs f. begins-first b w s q qs h.1 f) e
+  where
+    go :
+        (t : Bool)
+        → eqb y b ≡ t
+        → (l : List (List ℕ)) (q : List ℕ) (qs : List (List ℕ))
+        → l ≡ q ∷ qs
+        → ((q : List ℕ) (qs : List (List ℕ)) → l ≡ q ∷ qs → begins w q ≡ begins w s)
+        → elim t [ true ↦ [] ∷ l | false ↦ onto y l ] ≡ p ∷ ps
+        → begins (x ∷ w) p ≡ (eqb y x && begins w s)
+    go true k l q qs m i f = ap (begins (x ∷ w)) (sym (ap first f)) ∙ sym (ap (λ (t : Bool). t && begins w s) (ne_eqb y x (λ z. h.0 (sym z ∙ eqb-true _ _ k))))
+    go false k l q qs m i f = ap (begins (x ∷ w)) (sym (ap first (sym (ap (onto y) m) ∙ f))) ∙ ap (λ (t : Bool). eqb y x && t) (i q qs m)
+
 -- the text before and after the first separator
 pub cut : (b : ℕ) (s : List ℕ) → index_of b s < length s → s ≡ take (index_of b s) s ++ (b ∷ drop (suc (index_of b s)) s)
 unfolding index_of
@@ -224,20 +243,6 @@ cut b (x ∷ s) h = go (eqb x b) refl h (λ k. cut b s k)
         → x ∷ s ≡ take (elim t [ true ↦ 0 | false ↦ suc (index_of b s) ]) (x ∷ s) ++ (b ∷ drop (suc (elim t [ true ↦ 0 | false ↦ suc (index_of b s) ])) (x ∷ s))
     go true e k f = cons (eqb-true _ _ e) refl
     go false e k f = ap (λ (l : List ℕ). x ∷ l) (f (omega arith))
-
-pub found-there : (b : ℕ) (s : List ℕ) → index_of b s < length s → drop (index_of b s) s ≡ b ∷ drop (suc (index_of b s)) s
-unfolding index_of
-found-there b [] h = absurd (let z : ⊥ = omega arith in z)
-found-there b (x ∷ s) h = go (eqb x b) refl h (λ k. found-there b s k)
-  where
-    go :
-        (t : Bool)
-        → eqb x b ≡ t
-        → elim t [ true ↦ 0 | false ↦ suc (index_of b s) ] < suc (length s)
-        → (index_of b s < length s → drop (index_of b s) s ≡ b ∷ drop (suc (index_of b s)) s)
-        → drop (elim t [ true ↦ 0 | false ↦ suc (index_of b s) ]) (x ∷ s) ≡ b ∷ drop (suc (elim t [ true ↦ 0 | false ↦ suc (index_of b s) ])) (x ∷ s)
-    go true e k f = cons (eqb-true _ _ e) refl
-    go false e k f = f (omega arith)
 
 pub index-first : (b : ℕ) (p s : List ℕ) → Without b p → index_of b (p ++ (b ∷ s)) ≡ length p
 unfolding index_of

@@ -1,13 +1,6 @@
-// A word at the start of a text, and the place of a separator.
-ghost use Rattle.std.specs.Prelude.{◌≡◌, ◌+◌, ◌<◌, ◌≤◌, ◌==◌, length, drop, position, MatchOption};
-ghost use Rattle.text.specs.Bytes.{begins, same, index_of};
-
-// Whether the text s begins with the word w.
-pub fn starts_with(s: &[u8], w: &[u8]) -> bool
-    ensures { result ≡ begins w.now s.now }
-{
-    s.starts_with(w)
-}
+// Whether a text is a word, and a text before and behind a separator.
+ghost use Rattle.std.specs.Prelude.{◌≡◌, ◌+◌, ◌<◌, ◌==◌, length, take, drop, position, MatchOption};
+ghost use Rattle.text.specs.Bytes.{same, index_of};
 
 // Whether the text s is the word w.
 pub fn is_word(s: &[u8], w: &[u8]) -> bool
@@ -23,19 +16,10 @@ fn place_of(s: &[u8], b: u8) -> Option<usize>
     s.iter().position(|x| *x == b)
 }
 
-// The place of the first byte b of s at or after `from`, where there is one.
-pub fn find(s: &[u8], from: usize, b: u8) -> Option<usize>
-    requires { from ≤ length s.now }
-    ensures { MatchOption result (from + index_of b (drop from s.now) ≡ length s.now) (λ i. (i ≡ from + index_of b (drop from s.now)) × (from ≤ i) × (i < length s.now)) }
+// The part of s before the first byte b and the part behind it, where there is such a byte.
+pub fn split_once(s: &[u8], b: u8) -> Option<(&[u8], &[u8])>
+    ensures { MatchOption result (index_of b s.now ≡ length s.now) (λ r. (index_of b s.now < length s.now) × (r.0.now ≡ take (index_of b s.now) s.now) × (r.1.now ≡ drop (index_of b s.now + 1) s.now)) }
 {
-    let i = place_of(&s[from..], b)?;
-    Some(from + i)
-}
-
-// Where the part of s from `from` on ends: at the first byte b, or with s.
-pub fn part_end(s: &[u8], from: usize, b: u8) -> usize
-    requires { from ≤ length s.now }
-    ensures { (result ≡ from + index_of b (drop from s.now)) × (from ≤ result) × (result ≤ length s.now) }
-{
-    find(s, from, b).unwrap_or(s.len())
+    let i = place_of(s, b)?;
+    Some((&s[..i], &s[i + 1..]))
 }

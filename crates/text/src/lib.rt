@@ -1,5 +1,5 @@
 // Bytes of text: fixed words, separators and decimal numbers.
 #![tactic(auto)]
 
-pub mod bytes; // a word at the start of a text, and the place of a separator
+pub mod bytes; // whether a text is a word, and a text before and behind a separator
 pub mod number; // decimal numbers

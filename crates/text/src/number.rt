@@ -15,8 +15,8 @@ fn with_digit(v: u32, b: u8) -> Option<u32>
     if v == 0 || !is_digit(b) {
         return None;
     }
-    let digit = b - b'0';
-    v.checked_mul(10)?.checked_add(digit as u32)
+    let digit = u32::from(b - b'0');
+    v.checked_mul(10)?.checked_add(digit)
 }
 
 // The number that the text s is: of at most 32 bits, or none.
@@ -27,7 +27,7 @@ pub fn read_number(s: &[u8]) -> Option<u32>
     if !is_digit(*first) {
         return None;
     }
-    let mut v = (*first - b'0') as u32;
+    let mut v = u32::from(*first - b'0');
     for b in rest {
         v = with_digit(v, *b)?;
     }

@@ -31,6 +31,9 @@ pub start : (p from : ℕ) (gaps : List ℕ) → Gaps from gaps → prime_to fro
 start p from gaps g h = record { two = above-one from p h; three = g.three; odd = g.odd; none = none_below from p h; leads = refl; end = g.end; holds = g.holds }
 
 module _ {p to d : ℕ} where
+  pub small-d : (left : List ℕ) → Tried p to d left → d ≤ 65537
+  small-d left t = omega (arith, t.leads, t.end, reached-above d left)
+
   pub stop : (left : List ℕ) → Tried p to d left → p < d * d → prime_to to p ≡ true
   stop left t = past-root to d p t.two t.none
 

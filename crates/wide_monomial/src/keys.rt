@@ -8,9 +8,10 @@ use monomial::order::Order;
 
 // The two keys of a monomial: for lp the fields of the first word, the second word, the degree; for Dp
 // the words; for dp the degree, and inverted the second word and the fields of the first.
-pub fn keys(order: Order, first: u64, second: u64) -> Pair
-    ensures { result.first * 2 ^ 64 + result.second ≡ wide_key_of order (paired first second) }
+pub fn keys(order: Order, w: Pair) -> Pair
+    ensures { result.first * 2 ^ 64 + result.second ≡ wide_key_of order (paired w.first w.second) }
 {
+    let Pair { first, second } = w;
     match order {
         Order::Lex => {
             let upper = first % 0x1_0000_0000_0000 * 0x1_0000 + second / 0x1_0000_0000_0000;
@@ -36,9 +37,10 @@ pub fn keys(order: Order, first: u64, second: u64) -> Pair
 }
 
 // The two words of the monomial that has these keys.
-pub fn words(order: Order, first: u64, second: u64) -> Pair
-    ensures { paired result.first result.second ≡ from_wide_key order (first * 2 ^ 64 + second) }
+pub fn words(order: Order, k: Pair) -> Pair
+    ensures { paired result.first result.second ≡ from_wide_key order (k.first * 2 ^ 64 + k.second) }
 {
+    let Pair { first, second } = k;
     match order {
         Order::Lex => {
             let upper = second % 0x1_0000 * 0x1_0000_0000_0000 + first / 0x1_0000;

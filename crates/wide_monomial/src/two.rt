@@ -7,6 +7,8 @@ use crate::pair::Pair;
 use monomial::word::{TOPS, divides};
 
 // Whether the monomial y divides x.
+// Kept: `WidePacked` as a clause, here and below. A Pair holds keys too, so the fact would need a type around it,
+// which `product` takes off, since a product may be of no such type: what `over` is there to tell.
 pub fn both_divide(y: Pair, x: Pair) -> bool
     requires { WidePacked (paired y.first y.second) × WidePacked (paired x.first x.second) }
     ensures { result ≡ divides_wide (paired y.first y.second) (paired x.first x.second) }

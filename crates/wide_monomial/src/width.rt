@@ -1,22 +1,7 @@
-// How many words a monomial has.
-ghost use Rattle.std.specs.Prelude.{◌≡◌};
-ghost use Rattle.wide_monomial.specs.Widths.{words_each};
-
-// One word in up to six variables, two in up to twelve.
+// How many words a monomial has: one in up to six variables, two in up to twelve. The contracts name it; in the
+// code it is `WORDS` of `merge_common::places::Key`.
 #[derive(Clone, Copy)]
 pub enum Width {
     One,
     Two,
-}
-
-impl Width {
-    // The words of a monomial.
-    pub fn words(self) -> usize
-        ensures { result ≡ words_each self }
-    {
-        match self {
-            Width::One => 1,
-            Width::Two => 2,
-        }
-    }
 }

@@ -13,11 +13,11 @@ overflow_add-held c = omega (arith, c.held.ensures, held_small c.requires.0, c.w
 pub returns-then-held-fw-gt-MOST_TERMS : goal.returns-then-held-fw-gt-MOST_TERMS
 returns-then-held-fw-gt-MOST_TERMS c = rw c.halt.ensures (add-refused c.requires.0 c.requires.1 (let z : most_terms < held_in c.args.b.now + length c.args.fw.now = omega (arith, c.if-held-fw-gt-MOST_TERMS.true, c.held.ensures) in z))
 
-pub add_mostly_small-r-requires : goal.add_mostly_small-r-requires
-add_mostly_small-r-requires c = (add-asks c.requires.0 c.requires.1 (let z : held_in c.args.b.now + length c.args.fw.now ≤ most_terms = omega (arith, c.if-held-fw-gt-MOST_TERMS.false, c.held.ensures) in z), c.requires.2)
+pub add_polynomial-r-requires : goal.add_polynomial-r-requires
+add_polynomial-r-requires c = (add-asks c.requires.0 c.requires.1 (let z : held_in c.args.b.now + length c.args.fw.now ≤ most_terms = omega (arith, c.if-held-fw-gt-MOST_TERMS.false, c.held.ensures) in z), c.requires.2)
 
 pub compare-requires : goal.compare-requires
-compare-requires c = omega (arith, c.requires.0.few, c.requires.3, c.add_mostly_small-r.ensures.few)
+compare-requires c = omega (arith, c.requires.0.few, c.requires.3, c.add_polynomial-r.ensures.few)
 
 pub bring-requires : goal.bring-requires
 bring-requires c = rw c.compare.ensures (omega (arith, c.requires.0.some-brought, c.requires.3, c.if-held-fw-gt-MOST_TERMS.false))
@@ -26,4 +26,4 @@ pub finish-requires : goal.finish-requires
 finish-requires c = rw (c.bring.ensures, c.compare.ensures) (omega (arith, c.requires.3))
 
 pub returns : goal.returns
-returns c = rw (c.finish.ensures, c.bring.ensures, c.compare.ensures) (add-operated c.requires.0 c.requires.1 (let z : held_in c.args.b.now + length c.args.fw.now ≤ most_terms = omega (arith, c.if-held-fw-gt-MOST_TERMS.false, c.held.ensures) in z) c.requires.3 c.add_mostly_small-r.ensures)
+returns c = rw (c.finish.ensures, c.bring.ensures, c.compare.ensures) (add-operated c.requires.0 c.requires.1 (let z : held_in c.args.b.now + length c.args.fw.now ≤ most_terms = omega (arith, c.if-held-fw-gt-MOST_TERMS.false, c.held.ensures) in z) c.requires.3 c.add_polynomial-r.ensures)

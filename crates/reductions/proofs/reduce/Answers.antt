@@ -28,7 +28,7 @@ pub reduce_all-s-requires : goal.reduce_all-s-requires
 reduce_all-s-requires c =
     let a = c.args in
     let o = pass (goal.at.reduce_all-s-requires c).In_default in
-    (rw c.order_of-o.ensures (reducible o), spaces c.clear.ensures a.bw.now a.bc.now a.ww.now a.wc.now a.ow.now a.oc.now o)
+    (rw c.order_of-order.ensures (reducible o), spaces c.clear.ensures a.bw.now a.bc.now a.ww.now a.wc.now a.ow.now a.oc.now o)
 
 pub settle-requires : goal.settle-requires
 settle-requires c =
@@ -43,5 +43,5 @@ ended-requires c = c.reduce_all-s.ensures.stands.laid
 pub returns : goal.returns
 returns c =
     let a = c.args in
-    ended-as c.order_of-o.ensures c.reduce_all-s.ensures c.settle.ensures c.ended.ensures
+    ended-as c.order_of-order.ensures c.reduce_all-s.ensures c.settle.ensures c.ended.ensures
     ∙ sym (decided-none _ a.tally _ a.bw.now a.bc.now a.ww.now a.wc.now a.ow.now a.oc.now (none (goal.at.returns c).In_default))

@@ -1,16 +1,13 @@
 -- `block::number::put_number` meets its contract.
-use Rattle.std.proofs.Common.{◌≡◌, ℕ, ◌+◌, ◌-◌, ◌∙◌, sym, ap, arith}
-use Rattle.std.proofs.lemmas.List.Edits.{sets}
+use Rattle.std.proofs.Common.{ap, take, ◌∙◌, arith}
 use Rattle.monomial.specs.Layout.{bytes}
-use Rattle.block.proofs.ByteLaws.{put_byte}
+use Rattle.monomial.proofs.ByteLaws.{length-bytes}
+use Rattle.merge_common.proofs.Lists.{sets-mid}
+use Rattle.block.proofs.ByteLaws.{bytes_put}
 use Rattle.block.proofs.number.put_number.Goals as goal
 
-pub loop-i-preserved : goal.loop-i-preserved
-loop-i-preserved g c = put_byte _ _ _ _ _ (omega arith) ∙ c.loop-i.invariant
-
 pub returns : goal.returns
-unfolding bytes
 returns g c =
-    let k = c.loop-i in
-    let e : g.row.N - k.i ≡ 0 = omega arith in
-    sym (ap (λ (n : ℕ). sets k.s (c.args.at + k.i) (bytes n k.left)) e) ∙ k.invariant
+    let a = c.args in
+    let l = length-bytes g.row.N a.x in
+    sets-mid a.s.now a.at _ (bytes g.row.N a.x) (omega (arith, l)) (c.copy_from_slice.ensures.after ∙ (ap (take g.row.N) c.to_le_bytes.ensures ∙ bytes_put g.row.N a.x c.requires.0)) (omega (arith, l, c.requires.1))

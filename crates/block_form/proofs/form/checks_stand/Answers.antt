@@ -1,12 +1,9 @@
 -- `block_form::form::checks_stand` meets its contract.
+use Rattle.std.proofs.Common.{arith, ◌≡◌, refl, sym, ap, ◌∙◌, not, ℕ}
 use Rattle.block_form.specs.Form.{count_in}
-use native.Mathlib.Omega.{arith}
-use mathlib.Core.Path.{◌≡◌, refl, sym, ap, ◌∙◌}
 use Rattle.opening.proofs.Tests.{yes, no}
-use mathlib.Core.Bool.{not}
 use Rattle.block_form.specs.Form.{all_below, check_stands}
 use Rattle.block_form.proofs.FormLaws.{all_more, all-fails}
-use Prim.Native.Nat.{ℕ}
 use Rattle.block_form.proofs.form.checks_stand.Goals as goal
 
 pub loop-k-init : goal.loop-k-init

@@ -1,7 +1,5 @@
 -- `block_form::form::checks_stand` meets its contract.
-use mathlib.Core.Path.{◌≡◌}
-use mathlib.Core.Bool.{true}
-use Prim.Native.Nat.{◌-◌, ◌≤◌}
+use Rattle.std.proofs.Common.{◌≡◌, true}
 use Rattle.block_form.specs.Form.{all_below, check_stands}
 use Rattle.block_form.proofs.form.checks_stand.Given as goal
 

@@ -1,11 +1,8 @@
 -- `block_form::form::each_stands` meets its contract.
-use native.Mathlib.Omega.{arith}
-use mathlib.Core.Path.{◌≡◌, refl, sym, ap, ◌∙◌}
+use Rattle.std.proofs.Common.{arith, ◌≡◌, refl, sym, ap, ◌∙◌, not, ℕ}
 use Rattle.opening.proofs.Tests.{yes, no}
-use mathlib.Core.Bool.{not}
 use Rattle.block_form.specs.Form.{all_below, block_stands, count_in}
 use Rattle.block_form.proofs.FormLaws.{all_more, all-fails}
-use Prim.Native.Nat.{ℕ}
 use Rattle.block_form.proofs.form.each_stands.Goals as goal
 
 pub loop-k-init : goal.loop-k-init

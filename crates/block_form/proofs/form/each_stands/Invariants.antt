@@ -1,7 +1,5 @@
 -- `block_form::form::each_stands` meets its contract.
-use mathlib.Core.Path.{◌≡◌}
-use mathlib.Core.Bool.{true}
-use Prim.Native.Nat.{◌-◌, ◌≤◌}
+use Rattle.std.proofs.Common.{◌≡◌, true}
 use Rattle.block_form.specs.Form.{all_below, block_stands}
 use Rattle.block_form.proofs.form.each_stands.Given as goal
 

@@ -1,8 +1,6 @@
 -- `block_form::form::form_refusal` meets its contract.
-use mathlib.Core.Bool.{not}
-use mathlib.Core.Path.{sym, ◌∙◌, ap}
+use Rattle.std.proofs.Common.{not, sym, ◌∙◌, ap, eq-eqb, ne_eqb}
 use Rattle.opening.proofs.Tests.{yes, no}
-use borrow.Author.Tests.{eq-eqb, ne_eqb}
 use Rattle.block_form.specs.Form.{form_refusal_with}
 use Rattle.block_form.proofs.FormLaws.{whole-passes}
 use Rattle.block_form.proofs.form.form_refusal.Goals as goal

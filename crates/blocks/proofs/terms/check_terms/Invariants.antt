@@ -4,4 +4,4 @@ use Rattle.blocks.proofs.PlaceLaws.{Going}
 use Rattle.blocks.proofs.terms.check_terms.Given as goal
 
 abbrev pub invariant-loop-i : goal.invariant-loop-i
-invariant-loop-i l = Going l.order l.n (fields l.order l.weights) l.p l.s l.total l.late l.seen l.last l.at l.i
+invariant-loop-i l = Going l.order l.n (fields l.order l.weights) l.p l.s l.total l.late l.seen l.last l.at l._i

@@ -1,5 +1,5 @@
 -- `blocks::terms::next_place` meets its contract.
-use borrow.Author.Tests.{eq-eqb, ne_eqb}
+use Rattle.std.proofs.Common.{eq-eqb, ne_eqb}
 use Rattle.blocks.proofs.terms.next_place.Goals as goal
 
 pub returns-then-at-eq508 : goal.returns-then-at-eq508

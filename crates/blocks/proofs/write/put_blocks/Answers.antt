@@ -1,8 +1,6 @@
 -- `blocks::write::put_blocks` meets its contract.
-use Prim.Native.Nat.{ℕ}
+use Rattle.std.proofs.Common.{ℕ, arith, sym, ap, ◌∙◌}
 use Rattle.block_form.specs.Form.{here_of}
-use native.Mathlib.Omega.{arith}
-use mathlib.Core.Path.{sym, ap, ◌∙◌}
 use Rattle.polynomial.specs.Terms.{terms}
 use Rattle.blocks.proofs.WriteLaws.{blocked-none, blocked-more, blocked-all, terms-part, part-long}
 use Rattle.blocks.proofs.write.put_blocks.Goals as goal

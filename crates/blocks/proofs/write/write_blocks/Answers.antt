@@ -1,7 +1,5 @@
 -- `blocks::write::write_blocks` meets its contract.
-use native.Mathlib.Omega.{arith}
-use mathlib.Core.Path.{refl, sym, ap, ◌∙◌}
-use lib.ListN.{length}
+use Rattle.std.proofs.Common.{arith, refl, sym, ap, ◌∙◌, length}
 use lib.Seq.{sets}
 use Rattle.polynomial.specs.Settings.{setting_of}
 use Rattle.polynomial.specs.Terms.{terms}

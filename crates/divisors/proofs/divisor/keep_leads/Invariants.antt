@@ -3,4 +3,4 @@ use Rattle.divisors.proofs.DivisorLaws.{LeadsPut}
 use Rattle.divisors.proofs.divisor.keep_leads.Given as goal
 
 abbrev pub invariant-loop-i : goal.invariant-loop-i
-invariant-loop-i l = LeadsPut l.words l.starts l.n l.leads l.i
+invariant-loop-i l = LeadsPut l.ps.words.now l.ps.starts.now l.n l.leads l.i

@@ -1,26 +1,24 @@
 -- `grammar::header::read_rest` meets its contract, return by return.
-use Prim.Native.Nat.{◌-◌}
 use mathlib.Core.Path.{sym, ◌∙◌}
-use lib.ListN.{take, drop}
-use Rattle.merge_common.proofs.Lists.{part-from}
+use Rattle.text.proofs.ByteLaws.{prefix-code}
 use Rattle.grammar.specs.Grammar.{weights-word}
-use Rattle.grammar.proofs.HeaderLaws.{begins-long, rest_plain, rest-cut, rest-bad, rest-good}
+use Rattle.grammar.proofs.HeaderLaws.{rest_plain, rest-cut, rest-bad, rest-good}
 use Rattle.grammar.proofs.header.read_rest.Goals as goal
 
-pub returns-then-not-starts_with : goal.returns-then-not-starts_with
-returns-then-not-starts_with c = rest_plain _ _ _ _ _ _ c.requires c.part_end-e.ensures.0 (sym c.starts_with.ensures ∙ c.if-not-starts_with.true)
+pub returns-in_default : goal.returns-in_default
+returns-in_default c = rest_plain _ c.args.s.now (sym (prefix-code weights-word c.args.s.now) ∙ c.in_default.ensures.cases)
 
-pub returns-then-e-s : goal.returns-then-e-s
-returns-then-e-s c = rest-cut _ _ _ _ _ _ c.requires c.part_end-e.ensures.0 (sym c.starts_with.ensures ∙ c.if-not-starts_with.false) c.if-e-s.true
+pub returns-in_err-numbers : goal.returns-in_err-numbers
+returns-in_err-numbers c =
+    let t = c.in-Some.ensures.cases in
+    rw c.from_residual.ensures (rest-cut _ c.args.s.now (sym (prefix-code weights-word c.args.s.now) ∙ t.0) _ t.1 c.in_err-numbers.ensures)
 
-pub slice_bounds-read_weights-count : goal.slice_bounds-read_weights-count
-slice_bounds-read_weights-count c = begins-long weights-word (take (c.part_end-e.result - c.args.j) (drop c.args.j c.args.s.now)) (sym c.starts_with.ensures ∙ c.if-not-starts_with.false)
-
-pub slice_bounds-read_weights-start : goal.slice_bounds-read_weights-start
-slice_bounds-read_weights-start c = begins-long weights-word (take (c.part_end-e.result - c.args.j) (drop c.args.j c.args.s.now)) (sym c.starts_with.ensures ∙ c.if-not-starts_with.false)
-
-pub returns-in_err-weights : goal.returns-in_err-weights
-returns-in_err-weights c = rw c.from_residual.ensures (rest-bad _ _ _ _ _ _ c.requires c.part_end-e.ensures.0 (sym c.starts_with.ensures ∙ c.if-not-starts_with.false) _ (part-from (take (c.part_end-e.result - c.args.j) (drop c.args.j c.args.s.now)) 7) c.in_err-weights.ensures)
+pub returns-in_err-read_weights : goal.returns-in_err-read_weights
+returns-in_err-read_weights c =
+    let t = c.in-Some.ensures.cases in
+    rw c.from_residual-in_err-read_weights.ensures (rest-bad _ c.args.s.now (sym (prefix-code weights-word c.args.s.now) ∙ t.0) _ t.1 c.in_ok-numbers.ensures c.in_err-read_weights.ensures)
 
 pub returns : goal.returns
-returns c = rest-good _ _ _ _ _ _ c.requires c.part_end-e.ensures.0 (sym c.starts_with.ensures ∙ c.if-not-starts_with.false) _ (part-from (take (c.part_end-e.result - c.args.j) (drop c.args.j c.args.s.now)) 7) c.part_end-e.ensures.2 c.if-e-s.false _ c.in_ok-weights.ensures
+returns c =
+    let t = c.in-Some.ensures.cases in
+    rest-good _ c.args.s.now (sym (prefix-code weights-word c.args.s.now) ∙ t.0) _ t.1 c.in_ok-numbers.ensures _ c.in_ok-read_weights.ensures

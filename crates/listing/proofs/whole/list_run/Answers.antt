@@ -4,7 +4,7 @@ use mathlib.Core.Path.{sym, ◌∙◌}
 use Rattle.listing.proofs.whole.list_run.Goals as goal
 
 pub put_ran-requires : goal.put_ran-requires
-put_ran-requires c = run_room c.args.l _ c.args.words.now c.args.coefs.now c.args.starts.now c.args.ops.now c.run-ran.ensures c.requires.0 c.requires.1 (c.run-ran.auto.oc ∙ sym c.run-ran.auto.ow)
+put_ran-requires c = let p = c.args.ps in run_room c.args.l p.words.now p.coefs.now p.starts.now c.args.ops.now (rw c.number-order.ensures at c.run-ran.ensures) c.requires.0 c.requires.1 (c.run-ran.auto.oc ∙ sym c.run-ran.auto.ow)
 
 pub returns : goal.returns
-returns c = run-text c.args.l _ c.args.words.now c.args.coefs.now c.args.starts.now c.args.ops.now c.run-ran.ensures c.order_of.ensures c.weights_of-weights.ensures c.put_ran.ensures
+returns c = let p = c.args.ps in run-text c.args.l p.words.now p.coefs.now p.starts.now c.args.ops.now (rw c.number-order.ensures at c.run-ran.ensures) c.put_ran.ensures

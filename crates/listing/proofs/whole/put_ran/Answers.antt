@@ -14,7 +14,7 @@ pub put_answers-at-requires : goal.put_answers-at-requires
 put_answers-at-requires c = length-take-le _ c.args.oc.now (omega (arith, places-done c.requires c.in-Ok.is, c.requires.same-long)) ∙ sym (length-take-le _ c.args.ow.now (places-done c.requires c.in-Ok.is))
 
 pub returns-in-Ok : goal.returns-in-Ok
-returns-in-Ok c = ran-done c.args.order c.args.n c.args.ops.now c.args.ow.now c.args.oc.now c.args.tally c.args.answer c.in-Ok.is c.put_answers-at.ensures c.put_cost.ensures
+returns-in-Ok c = ran-done c.args.l.order c.args.l.vars c.args.ops.now c.args.ow.now c.args.oc.now c.args.ran.tally c.args.ran.answer c.in-Ok.is c.put_answers-at.ensures c.put_cost.ensures
 
 pub returns-in-Err : goal.returns-in-Err
-returns-in-Err c = ran-refused c.args.order c.args.n c.args.ops.now c.args.ow.now c.args.oc.now c.args.tally c.args.answer c.in-Err.is _ c.number_of.ensures c.put_refused.ensures
+returns-in-Err c = ran-refused c.args.l.order c.args.l.vars c.args.ops.now c.args.ow.now c.args.oc.now c.args.ran.tally c.args.ran.answer c.in-Err.is _ c.number_of.ensures c.put_refused.ensures

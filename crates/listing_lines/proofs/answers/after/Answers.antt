@@ -9,5 +9,5 @@ use Rattle.listing_lines.proofs.answers.after.Goals as goal
 
 pub returns : goal.returns
 returns c =
-    let e : c.min.result ≡ min (c.args.i + 1) (length c.args.ow.now) = search rules in
-    (rw e (drop-after c.args.ow.now c.args.oc.now c.args.i c.requires.same-long), omega arith)
+    let e : c.min.result ≡ min (c.args.i + 1) (length c.args.ps.words.now) = search rules in
+    (rw e (drop-after c.args.ps.words.now c.args.ps.coefs.now c.args.i c.args.ps.same_long), omega arith)

@@ -3,5 +3,5 @@ use Prim.Native.Nat.{◌*◌}
 use Rattle.listing_lines.proofs.AnswerLaws.{Answering}
 use Rattle.listing_lines.proofs.answers.put_answers.Given as goal
 
-abbrev pub invariant-loop-k : goal.invariant-loop-k
-invariant-loop-k l = Answering l.order l.n l.ops l.ow l.oc l.initial.out l.out l.next.place l.next.at (2 * l.k)
+abbrev pub invariant-loop-pair : goal.invariant-loop-pair
+invariant-loop-pair l = Answering l.order l.n l.ops l.ow l.oc l.initial.out l.out l.next.place l.next.at (2 * l.pair-index)

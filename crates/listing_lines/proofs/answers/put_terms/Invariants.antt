@@ -3,4 +3,4 @@ use Rattle.listing_lines.proofs.AnswerLaws.{Putting}
 use Rattle.listing_lines.proofs.answers.put_terms.Given as goal
 
 abbrev pub invariant-loop-place : goal.invariant-loop-place
-invariant-loop-place l = Putting l.order l.n l.i l.ow l.oc l.at l.initial.out l.out l.place l.to
+invariant-loop-place l = Putting l.order l.n l.ps.i l.ps.words.now l.ps.coefs.now l.at l.initial.out l.out l.place l.to

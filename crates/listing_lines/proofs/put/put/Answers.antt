@@ -1,15 +1,7 @@
--- `listing_lines::put::put` meets its contract, byte by byte.
-use Rattle.listing_lines.proofs.PutLaws.{put-nothing, put-within, put-more, put_all}
+-- `listing_lines::put::put` meets its contract: what fits of the text is put as a part.
+use Rattle.std.proofs.Common.{rules}
+use Rattle.listing_lines.proofs.PutLaws.{put-part}
 use Rattle.listing_lines.proofs.put.put.Goals as goal
 
-pub loop-b-init : goal.loop-b-init
-loop-b-init c = put-nothing _ _ c.requires
-
-pub put_byte-to-requires : goal.put_byte-to-requires
-put_byte-to-requires c = put-within c.loop-b.invariant
-
-pub loop-b-preserved : goal.loop-b-preserved
-loop-b-preserved c = put-more c.args.text.now c.loop-b.b-index c.loop-b-test.true c.loop-b.invariant c.put_byte-to.ensures
-
 pub returns : goal.returns
-returns c = put_all c.args.text.now c.loop-b.b-index c.loop-b-test.false c.loop-b.invariant
+returns c = put-part c.args.text.now c.args.out.now c.args.at _ _ (search rules) (search rules) c.copy_from_slice.ensures.after

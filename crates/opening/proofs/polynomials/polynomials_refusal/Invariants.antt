@@ -3,4 +3,4 @@ use Rattle.opening.proofs.PolynomialLaws.{Checked}
 use Rattle.opening.proofs.polynomials.polynomials_refusal.Given as goal
 
 abbrev pub invariant-loop-k : goal.invariant-loop-k
-invariant-loop-k l = Checked l.t l.words l.coefs l.starts l.k
+invariant-loop-k l = Checked l.t l.ps.words.now l.ps.coefs.now l.ps.starts.now l.k

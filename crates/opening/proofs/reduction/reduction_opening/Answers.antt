@@ -35,14 +35,14 @@ pub returns-in_err-polynomials_refusal : goal.returns-in_err-polynomials_refusal
 returns-in_err-polynomials_refusal c =
     let a = c.args in
     let e : refusal_in c.from_residual-in_err-polynomials_refusal.result ≡ number_of c.in_err-polynomials_refusal.field-0.0 = search rules in
-    e ∙ reduction-later _ _ _ _ _ _ _ _ _ _ _ (sym c.in_ok-setting.ensures) (yes c.reduction_shape.ensures (ap not c.if-not-reduction_shape.false)) (c.in_err-polynomials_refusal.ensures ∙ ap (λ (t : Setting). polynomials_refusal t a.words.now a.coefs.now a.starts.now) c.setting_of-t.ensures) (number-some _)
+    e ∙ reduction-later _ _ _ _ _ _ _ _ _ _ _ (sym c.in_ok-setting.ensures) (yes c.reduction_shape.ensures (ap not c.if-not-reduction_shape.false)) (c.in_err-polynomials_refusal.ensures ∙ ap (λ (t : Setting). polynomials_refusal t a.ps.words.now a.ps.coefs.now a.ps.starts.now) c.setting_of-t.ensures) (number-some _)
 
 pub returns-then-not-divisors_good : goal.returns-then-not-divisors_good
 returns-then-not-divisors_good c =
     let a = c.args in
-    reduction-last _ _ _ _ _ _ _ _ _ _ _ (sym c.in_ok-setting.ensures) (yes c.reduction_shape.ensures (ap not c.if-not-reduction_shape.false)) (c.in_ok-polynomials_refusal.ensures ∙ ap (λ (t : Setting). polynomials_refusal t a.words.now a.coefs.now a.starts.now) c.setting_of-t.ensures) refl (sym (no c.divisors_good.ensures (ap not c.if-not-divisors_good.true)))
+    reduction-last _ _ _ _ _ _ _ _ _ _ _ (sym c.in_ok-setting.ensures) (yes c.reduction_shape.ensures (ap not c.if-not-reduction_shape.false)) (c.in_ok-polynomials_refusal.ensures ∙ ap (λ (t : Setting). polynomials_refusal t a.ps.words.now a.ps.coefs.now a.ps.starts.now) c.setting_of-t.ensures) refl (sym (no c.divisors_good.ensures (ap not c.if-not-divisors_good.true)))
 
 pub returns : goal.returns
 returns c =
     let a = c.args in
-    reduction-last _ _ _ _ _ _ _ _ _ _ _ (sym c.in_ok-setting.ensures) (yes c.reduction_shape.ensures (ap not c.if-not-reduction_shape.false)) (c.in_ok-polynomials_refusal.ensures ∙ ap (λ (t : Setting). polynomials_refusal t a.words.now a.coefs.now a.starts.now) c.setting_of-t.ensures) refl (sym (yes c.divisors_good.ensures (ap not c.if-not-divisors_good.false)))
+    reduction-last _ _ _ _ _ _ _ _ _ _ _ (sym c.in_ok-setting.ensures) (yes c.reduction_shape.ensures (ap not c.if-not-reduction_shape.false)) (c.in_ok-polynomials_refusal.ensures ∙ ap (λ (t : Setting). polynomials_refusal t a.ps.words.now a.ps.coefs.now a.ps.starts.now) c.setting_of-t.ensures) refl (sym (yes c.divisors_good.ensures (ap not c.if-not-divisors_good.false)))

@@ -23,12 +23,12 @@ pub returns-then-not-shape_good : goal.returns-then-not-shape_good
 unfolding run_refusal
 returns-then-not-shape_good c = simp (sym c.in_ok-setting.ensures, no c.shape_good.ensures (ap not c.if-not-shape_good.true))
 
-pub overflow_sub-starts : goal.overflow_sub-starts
-overflow_sub-starts c = let s = shape-passes (yes c.shape_good.ensures (ap not c.if-not-shape_good.false)) in some-starts _ _ s.starts
+pub count-requires : goal.count-requires
+count-requires c = let s = shape-passes (yes c.shape_good.ensures (ap not c.if-not-shape_good.false)) in some-starts _ _ s.starts
 
 pub returns-then-not-operations_good : goal.returns-then-not-operations_good
 unfolding run_refusal
-returns-then-not-operations_good c = simp (sym c.in_ok-setting.ensures, yes c.shape_good.ensures (ap not c.if-not-shape_good.false), no c.operations_good.ensures (ap not c.if-not-operations_good.true))
+returns-then-not-operations_good c = simp (sym c.in_ok-setting.ensures, yes c.shape_good.ensures (ap not c.if-not-shape_good.false), sym c.count.ensures, no c.operations_good.ensures (ap not c.if-not-operations_good.true))
 
 pub setting_of-t-requires : goal.setting_of-t-requires
 setting_of-t-requires c = (shape-passes (yes c.shape_good.ensures (ap not c.if-not-shape_good.false))).weights-six
@@ -42,4 +42,4 @@ pub returns : goal.returns
 unfolding run_refusal
 returns c =
     let a = c.args in
-    simp (sym c.in_ok-setting.ensures, yes c.shape_good.ensures (ap not c.if-not-shape_good.false), yes c.operations_good.ensures (ap not c.if-not-operations_good.false), c.polynomials_refusal.ensures ∙ ap (λ (t : Setting). polynomials_refusal t a.words.now a.coefs.now a.starts.now) c.setting_of-t.ensures)
+    simp (sym c.in_ok-setting.ensures, yes c.shape_good.ensures (ap not c.if-not-shape_good.false), sym c.count.ensures, yes c.operations_good.ensures (ap not c.if-not-operations_good.false), c.polynomials_refusal.ensures ∙ ap (λ (t : Setting). polynomials_refusal t a.ps.words.now a.ps.coefs.now a.ps.starts.now) c.setting_of-t.ensures)

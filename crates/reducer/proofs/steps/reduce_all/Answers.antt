@@ -13,53 +13,53 @@ slice_bounds-keep_leads-end c = sym (length-replicate {A = ℕ} 1024 0)
 pub keep_leads-requires : goal.keep_leads-requires
 keep_leads-requires c = (leads-there c.requires.0.checked, length-replicate {A = ℕ} 1024 0)
 
-pub part_of-fw-requires : goal.part_of-fw-requires
-part_of-fw-requires c = first-words c.requires.0
+pub words_of-fw-requires : goal.words_of-fw-requires
+words_of-fw-requires c = first-words c.requires.0
 
-pub part_of-fc-requires : goal.part_of-fc-requires
-part_of-fc-requires c = first-coefs c.requires.0
+pub coefs_of-fc-requires : goal.coefs_of-fc-requires
+coefs_of-fc-requires c = first-coefs c.requires.0
 
 pub begin-s-requires : goal.begin-s-requires
-begin-s-requires c = (addend c.requires.0 c.part_of-fw.ensures c.part_of-fc.ensures, beginning c.requires.0 c.part_of-fw.ensures c.part_of-fc.ensures c.requires.1, c.requires.1.slices)
+begin-s-requires c = (addend c.requires.0 c.words_of-fw.ensures c.coefs_of-fc.ensures, beginning c.requires.0 c.words_of-fw.ensures c.coefs_of-fc.ensures c.requires.1, c.requires.1.slices)
 
-pub loop-order-init : goal.loop-order-init
-loop-order-init c = turn-start c.requires.0 c.part_of-fw.ensures c.part_of-fc.ensures c.requires.1 (none_kept _ _ _ _) (let q = c.requires.1.slices in record { work-words = c.begin-s.auto.ww ∙ q.work-words; work-coefs = c.begin-s.auto.wc ∙ q.work-coefs; words_long = c.begin-s.auto.bw ∙ q.words_long; coefs-long = c.begin-s.auto.bc ∙ q.coefs-long }) c.begin-s.ensures
+pub loop-ring-init : goal.loop-ring-init
+loop-ring-init c = turn-start c.requires.0 c.words_of-fw.ensures c.coefs_of-fc.ensures c.requires.1 (none_kept _ _ _ _) (let q = c.requires.1.slices in record { work-words = c.begin-s.auto.ww ∙ q.work-words; work-coefs = c.begin-s.auto.wc ∙ q.work-coefs; words_long = c.begin-s.auto.bw ∙ q.words_long; coefs-long = c.begin-s.auto.bc ∙ q.coefs-long }) c.begin-s.ensures
 
 pub slice_bounds-step-end : goal.slice_bounds-step-end
 slice_bounds-step-end c = sym c.keep_leads.ensures.long
 
-pub slice_bounds-step-end-in-loop-order : goal.slice_bounds-step-end-in-loop-order
-slice_bounds-step-end-in-loop-order c = sym c.loop-order.invariant.numbers.long
+pub slice_bounds-step-end-in-loop-ring : goal.slice_bounds-step-end-in-loop-ring
+slice_bounds-step-end-in-loop-ring c = sym c.loop-ring.invariant.numbers.long
 
 pub step-s-requires : goal.step-s-requires
-step-s-requires c = (turn-asks c.requires.0 c.loop-order.invariant (sym c.goes_on.ensures ∙ c.loop-order-test.true) c.keep_leads.ensures, c.loop-order.invariant.slices)
+step-s-requires c = (turn-asks c.requires.0 c.loop-ring.invariant (sym c.goes_on.ensures ∙ c.loop-ring-test.true) c.keep_leads.ensures, c.loop-ring.invariant.slices)
 
-pub loop-order-smaller : goal.loop-order-smaller
-loop-order-smaller c = turn-less c.requires.0 c.loop-order.invariant (sym c.goes_on.ensures ∙ c.loop-order-test.true) c.step-s.ensures
+pub loop-ring-smaller : goal.loop-ring-smaller
+loop-ring-smaller c = turn-less c.requires.0 c.loop-ring.invariant (sym c.goes_on.ensures ∙ c.loop-ring-test.true) c.step-s.ensures
 
-pub loop-order-preserved : goal.loop-order-preserved
-loop-order-preserved c = turn_on c.requires.0 c.loop-order.invariant (sym c.goes_on.ensures ∙ c.loop-order-test.true) c.step-s.ensures c.step-s.auto.ww c.step-s.auto.wc c.step-s.auto.bw c.step-s.auto.bc c.step-s.auto.ow c.step-s.auto.oc
+pub loop-ring-preserved : goal.loop-ring-preserved
+loop-ring-preserved c = turn_on c.requires.0 c.loop-ring.invariant (sym c.goes_on.ensures ∙ c.loop-ring-test.true) c.step-s.ensures c.step-s.auto.ww c.step-s.auto.wc c.step-s.auto.bw c.step-s.auto.bc c.step-s.auto.ow c.step-s.auto.oc
 
 pub shape_of-b : goal.shape_of-b
-shape_of-b c = c.loop-order.invariant.sound.stands.laid.eighteen ∙ sym (ap length c.requires.1.none)
+shape_of-b c = c.loop-ring.invariant.sound.stands.laid.eighteen ∙ sym (ap length c.requires.1.none)
 
 pub shape_of-bw : goal.shape_of-bw
-shape_of-bw c = c.loop-order.invariant.slices.words_long ∙ sym c.requires.1.slices.words_long
+shape_of-bw c = c.loop-ring.invariant.slices.words_long ∙ sym c.requires.1.slices.words_long
 
 pub shape_of-bc : goal.shape_of-bc
-shape_of-bc c = c.loop-order.invariant.slices.coefs-long ∙ sym c.requires.1.slices.coefs-long
+shape_of-bc c = c.loop-ring.invariant.slices.coefs-long ∙ sym c.requires.1.slices.coefs-long
 
 pub shape_of-ww : goal.shape_of-ww
-shape_of-ww c = c.loop-order.invariant.slices.work-words ∙ sym c.requires.1.slices.work-words
+shape_of-ww c = c.loop-ring.invariant.slices.work-words ∙ sym c.requires.1.slices.work-words
 
 pub shape_of-wc : goal.shape_of-wc
-shape_of-wc c = c.loop-order.invariant.slices.work-coefs ∙ sym c.requires.1.slices.work-coefs
+shape_of-wc c = c.loop-ring.invariant.slices.work-coefs ∙ sym c.requires.1.slices.work-coefs
 
 pub shape_of-ow : goal.shape_of-ow
-shape_of-ow c = c.loop-order.invariant.out-long
+shape_of-ow c = c.loop-ring.invariant.out-long
 
 pub shape_of-oc : goal.shape_of-oc
-shape_of-oc c = c.loop-order.invariant.coefs-out-long
+shape_of-oc c = c.loop-ring.invariant.coefs-out-long
 
 pub returns : goal.returns
-returns c = turn_end c.requires.0 c.loop-order.invariant (sym c.goes_on.ensures ∙ c.loop-order-test.false)
+returns c = turn_end c.requires.0 c.loop-ring.invariant (sym c.goes_on.ensures ∙ c.loop-ring-test.false)

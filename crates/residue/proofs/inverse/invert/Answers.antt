@@ -1,31 +1,9 @@
 -- `invert` meets its contract: between two steps `Going` holds, and the last coefficient is the inverse or its negative.
 use mathlib.Core.Path.{sym, ◌∙◌}
-use native.Mathlib.Nat.{pos_of_ne-zero, div-mul-le_self}
-use native.Mathlib.Omega.{arith}
-use Rattle.residue.proofs.Euclid.{starts, steps, rest-falls, coefficient-fits, last-below, first-answer, other-answer}
+use native.Mathlib.Nat.{pos_of_ne-zero}
+use Rattle.residue.proofs.Euclid.{steps, last-below, first-answer, other-answer}
 use Rattle.residue.proofs.Inverses.{inverse-only}
 use Rattle.residue.proofs.inverse.invert.Goals as goal
-
-pub loop-r1-init : goal.loop-r1-init
-loop-r1-init c = starts _ _ c.requires.3
-
-pub nonzero_div-q : goal.nonzero_div-q
-nonzero_div-q c = pos_of_ne-zero c.loop-r1-test.true
-
-pub overflow_mul-r2 : goal.overflow_mul-r2
-overflow_mul-r2 c = omega (arith, div-mul-le_self c.loop-r1.r0 c.loop-r1.r1)
-
-pub overflow_sub-r2 : goal.overflow_sub-r2
-overflow_sub-r2 c = div-mul-le_self _ _
-
-pub overflow_mul-u2 : goal.overflow_mul-u2
-overflow_mul-u2 c = omega (arith, coefficient-fits _ _ _ _ _ _ c.loop-r1.invariant (pos_of_ne-zero c.loop-r1-test.true))
-
-pub overflow_add-u2 : goal.overflow_add-u2
-overflow_add-u2 c = omega (arith, coefficient-fits _ _ _ _ _ _ c.loop-r1.invariant (pos_of_ne-zero c.loop-r1-test.true))
-
-pub loop-r1-smaller : goal.loop-r1-smaller
-loop-r1-smaller c = rest-falls _ _ _ _ _ _ c.loop-r1.invariant (pos_of_ne-zero c.loop-r1-test.true)
 
 pub loop-r1-preserved : goal.loop-r1-preserved
 loop-r1-preserved c = steps _ _ _ _ _ _ c.loop-r1.invariant (pos_of_ne-zero c.loop-r1-test.true)

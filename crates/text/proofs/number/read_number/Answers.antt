@@ -10,7 +10,7 @@ pub returns-then-not-is_digit : goal.returns-then-not-is_digit
 returns-then-not-is_digit c = sym (ap found (number-no _ _ _ c.in_ok-first.ensures.cases.0 (sym c.is_digit.ensures ∙ c.if-not-is_digit.true)))
 
 pub loop-b-init : goal.loop-b-init
-loop-b-init c = number-starts _ _ _ c.in_ok-first.ensures.cases.0 (sym c.is_digit.ensures ∙ c.if-not-is_digit.false)
+loop-b-init c = rw c.from-v.ensures (number-starts _ _ _ c.in_ok-first.ensures.cases.0 (sym c.is_digit.ensures ∙ c.if-not-is_digit.false))
 
 pub loop-b-preserved : goal.loop-b-preserved
 loop-b-preserved c = sym (reads_on c.in_ok-first.rest.now c.loop-b.b-index c.loop-b.v c.loop-b-test.true _ (found-some _ _ c.in_ok-v.ensures)) ∙ c.loop-b.invariant

@@ -16,4 +16,4 @@ pub returns-in_err-checked_mul : goal.returns-in_err-checked_mul
 returns-in_err-checked_mul c = c.from_residual.ensures ∙ sym (ap found (too_large _ _ (omega (arith, c.in_err-checked_mul.ensures))))
 
 pub returns : goal.returns
-returns c = digit-code _ _ _ _ c.if-v-eq0.false (sym c.is_digit.ensures ∙ c.if-not-is_digit.false) c.in_ok-checked_mul.ensures.1 c.checked_add.ensures
+returns c = digit-code _ _ _ _ c.if-v-eq0.false (sym c.is_digit.ensures ∙ c.if-not-is_digit.false) c.in_ok-checked_mul.ensures.1 (rw c.from-digit.ensures at c.checked_add.ensures)

@@ -1,17 +1,22 @@
 -- `divide_exactly` meets its contract: as `divide` does, with the quotient by the inverse in place of the remainder.
 use mathlib.Core.Path.{sym}
+use native.Mathlib.Nat.{mul-le-mul}
 use native.Mathlib.Omega.{arith}
-use Rattle.trial_division.proofs.TableLaws.{stop, exact-start, exact-end, exact-inverse, exact-hit, exact-next}
+use Rattle.trial_division.proofs.TableLaws.{small-d, stop, exact-start, exact-end, exact-inverse, exact-hit, exact-next}
 use Rattle.trial_division.proofs.divide_exactly.divide_exactly.Goals as goal
 
 pub loop-w-init : goal.loop-w-init
 loop-w-init c = exact-start _ _ _ c.requires.0 c.requires.1
 
+pub overflow_mul-d : goal.overflow_mul-d
+overflow_mul-d c = let l = small-d _ c.loop-w.invariant.tried in omega (arith, mul-le-mul l l)
+
 pub returns-then-d-p : goal.returns-then-d-p
 returns-then-d-p c = sym (stop _ c.loop-w.invariant.tried c.if-d-p.true)
 
 pub divides-requires : goal.divides-requires
-divides-requires c = (c.loop-w.invariant.large, exact-inverse c.loop-w.invariant (omega arith))
+divides-requires c =
+    (c.loop-w.invariant.large, omega (arith, small-d _ c.loop-w.invariant.tried), exact-inverse c.loop-w.invariant (omega arith))
 
 pub returns-then-divides : goal.returns-then-divides
 returns-then-divides c = sym (exact-hit c.loop-w.invariant (omega arith) c.divides.ensures c.if-d-p.false c.if-divides.true)

@@ -1,16 +1,6 @@
 -- `times` meets its contract: each need is a law of `Shoup.antt`.
-use native.Mathlib.Omega.{arith}
-use Rattle.residue.proofs.Shoup.{share-fits, value-fits, rest-fits, at_most, small-rest, large-rest}
+use Rattle.residue.proofs.Shoup.{rest-fits, at_most, small-rest, large-rest}
 use Rattle.residue.proofs.factor.Factor.times.Goals as goal
-
-pub overflow_mul-quotient : goal.overflow_mul-quotient
-overflow_mul-quotient c = omega (arith, share-fits _ _ c.requires.0 c.requires.1)
-
-pub overflow_mul-r : goal.overflow_mul-r
-overflow_mul-r c = omega (arith, value-fits _ _ c.requires.0 c.requires.1)
-
-pub overflow_mul-r-2 : goal.overflow_mul-r-2
-overflow_mul-r-2 c = let h = c.requires in omega (arith, value-fits _ _ h.0 h.1, at_most _ _ h.0 h.1)
 
 pub overflow_sub-r : goal.overflow_sub-r
 overflow_sub-r c = at_most _ _ c.requires.0 c.requires.1
