@@ -75,24 +75,48 @@ fn a_run_needs_little_stack() {
     }
 }
 
+/// Reduces in so much stack as is named, and beside that in plain Rust. Gives how many leads were removed.
+fn reduced(setting: Setting, polynomials: &[Vec<Term>]) -> usize {
+    let given = Given::new(setting, polynomials);
+    let mut expected = lender::plain(MOST_TERMS);
+    let mut proved = expected.clone();
+    let answer = reduction::reduce(&given, MOST_STEPS, &mut expected);
+    assert_eq!(answer.refusal, 0, "{setting:?}");
+    let own = within(OF_A_CALL, || {
+        library::reduce(&given, MOST_STEPS, &mut proved)
+    });
+    assert_eq!(own, answer, "{setting:?}");
+    lender::assert_same(&proved, &expected, "reduction");
+    answer.finished as usize
+}
+
+/// So many divisors that divide no term in the first two variables.
+fn unfit_divisors() -> Vec<Vec<Term>> {
+    vec![vec![(vec![0, 0, 1], 1)]; 3_000]
+}
+
 /// The most terms, by the last of many divisors.
 #[test]
 fn a_reduction_needs_little_stack() {
     for setting in settings() {
         let mut polynomials = vec![falling_terms(setting.0, MOST_TERMS)];
-        polynomials.extend(vec![vec![(vec![0, 0, 1], 1)]; 3_000]);
+        polynomials.extend(unfit_divisors());
         polynomials.push(vec![(vec![1, 0, 0], 2), (vec![0, 0, 0], 5)]);
-        let given = Given::new(setting, &polynomials);
-        let mut expected = lender::plain(MOST_TERMS);
-        let mut proved = expected.clone();
-        let answer = reduction::reduce(&given, MOST_STEPS, &mut expected);
-        assert_eq!(answer.refusal, 0, "{setting:?}");
-        assert!(answer.finished as usize > MOST_TERMS, "{setting:?}");
-        let own = within(OF_A_CALL, || {
-            library::reduce(&given, MOST_STEPS, &mut proved)
-        });
-        assert_eq!(own, answer, "{setting:?}");
-        lender::assert_same(&proved, &expected, "reduction");
+        let removed = reduced(setting, &polynomials);
+        assert!(removed > MOST_TERMS, "{setting:?}");
+    }
+}
+
+/// A tail of over 1,024 terms, whose multiple is made in local arrays.
+#[test]
+fn a_large_tail_needs_little_stack() {
+    for setting in settings() {
+        let terms = falling_terms(setting.0, 4_000);
+        let every_other = terms.iter().step_by(2).map(|(m, _)| (m.clone(), 2));
+        let mut polynomials = vec![terms[..2_000].to_vec()];
+        polynomials.extend(unfit_divisors());
+        polynomials.push(every_other.collect());
+        assert!(reduced(setting, &polynomials) > 0, "{setting:?}");
     }
 }
 

@@ -2,7 +2,6 @@
 ghost use Rattle.answers.specs.Course.{RunSaid, ReductionSaid};
 
 use call::answer::Answer;
-use refusal::number_of;
 
 // The operations finished and the output places written; where there is a refusal, before it.
 #[repr(C)]
@@ -33,7 +32,7 @@ impl From<Answer> for RunAnswer {
                 places: done.places,
             },
             Err(stopped) => RunAnswer {
-                refusal: u64::from(number_of(stopped.refusal)),
+                refusal: u64::from(stopped.refusal.number()),
                 finished: stopped.finished,
                 places: stopped.places,
             },

@@ -2,7 +2,6 @@
 ghost use Rattle.answers.specs.Lister.{ListingSaid};
 
 use listing::entry::Listed;
-use refusal::number_of;
 
 // The bytes of the listing, 0 where there is a refusal. `finished` is always 0.
 #[repr(C)]
@@ -24,7 +23,7 @@ impl From<Listed> for ListingAnswer {
                 length: length as u64,
             },
             Err(refused) => ListingAnswer {
-                refusal: u64::from(number_of(refused.refusal)),
+                refusal: u64::from(refused.refusal.number()),
                 finished: refused.finished,
                 length: 0,
             },

@@ -3,7 +3,6 @@ ghost use Rattle.answers.specs.Store.{WriteSaid, ReadSaid};
 
 use blocks::read::Reading;
 use blocks::write::Writing;
-use refusal::number_of;
 
 // The blocks written, 0 where there is a refusal. `finished` is always 0.
 #[repr(C)]
@@ -39,7 +38,7 @@ impl From<Writing> for WriteAnswer {
                 blocks: written.blocks,
             },
             Err(refused) => WriteAnswer {
-                refusal: u64::from(number_of(refused.refusal)),
+                refusal: u64::from(refused.refusal.number()),
                 finished: refused.finished,
                 blocks: 0,
             },
@@ -62,7 +61,7 @@ impl From<Reading> for ReadAnswer {
                 terms: read.terms,
             },
             Err(refused) => ReadAnswer {
-                refusal: u64::from(number_of(refused.refusal)),
+                refusal: u64::from(refused.refusal.number()),
                 finished: refused.finished,
                 p: 0,
                 order: 0,

@@ -9,24 +9,16 @@ use crate::filler::clear;
 use crate::header::Header;
 use crate::number::put_number;
 use crate::places::put_places;
+use crate::{BLOCK_TERMS, CHECK_AT, HEADER_BYTES, PLACE_BYTES};
 use polynomial::setting::Setting;
+use polynomial::terms::Terms;
 
 // Puts block `number` of `count`, which holds these terms, from place `at` on.
-// Kept: the words and coefficients are two parameters. A struct of both would be taken apart for each clause,
-// `terms words coefs`, and again for `put_places`.
-pub fn put_block(
-    words: &[u64],
-    coefs: &[u32],
-    number: u32,
-    count: u32,
-    setting: Setting,
-    s: &mut [u8],
-    at: usize,
-)
-    requires { (length coefs.now ≡ length words.now) × (length words.now ≤ 41) × (at + 512 ≤ length s.old) }
-    ensures { s.new ≡ sets s.old at (block number count setting (terms words.now coefs.now)) }
+pub fn put_block(f: Terms, number: u32, count: u32, setting: Setting, s: &mut [u8], at: usize)
+    requires { (length f.words.now ≤ 41) × (at + 512 ≤ length s.old) }
+    ensures { s.new ≡ sets s.old at (block number count setting (terms f.entry.words.now f.entry.coefs.now)) }
 {
-    let here = words.len();
+    let here = f.words.len();
     let header = Header {
         number,
         count,
@@ -34,8 +26,12 @@ pub fn put_block(
         setting,
     };
     header.put(s, at);
-    put_places(words, coefs, s, at + 16);
-    clear(s, at + 16 + 12 * here, 12 * (41 - here));
+    put_places(f, s, at + HEADER_BYTES);
+    clear(
+        s,
+        at + HEADER_BYTES + PLACE_BYTES * here,
+        PLACE_BYTES * (BLOCK_TERMS - here),
+    );
     let check = check_of(s, at);
-    put_number::<4>(s, at + 508, u64::from(check));
+    put_number::<4>(s, at + CHECK_AT, u64::from(check));
 }

@@ -4,6 +4,7 @@ ghost use Rattle.std.proofs.lemmas.List.Edits.{sets};
 ghost use Rattle.merge_common.specs.Lent.{part};
 ghost use Rattle.block.specs.Block.{header, setting_bytes, same, setting_at};
 
+use crate::HEADER_BYTES;
 use crate::filler::clear;
 use crate::number::{get_number, put_number};
 use crate::weights::{weight_number, weights_of};
@@ -36,13 +37,13 @@ impl Header {
         ensures { result ≡ same (part at 16 s.now) (header self.number self.count self.here self.setting) }
     {
         // Kept: fixed memory, as the project has no heap: a header is sixteen bytes.
-        let mut bytes = [0u8; 16];
+        let mut bytes = [0u8; HEADER_BYTES];
         self.put(&mut bytes, 0);
-        s[at..at + 16] == bytes[..]
+        s[at..at + HEADER_BYTES] == bytes[..]
     }
 }
 
-// Puts the setting's ten bytes from place `at` on.
+// Puts the setting's ten bytes from place `at` on, which is byte 6 of a header.
 pub fn put_setting(s: &mut [u8], at: usize, setting: Setting)
     requires { at + 10 ≤ length s.old }
     ensures { s.new ≡ sets s.old at (setting_bytes setting) }

@@ -7,7 +7,7 @@ mod store; // the file
 
 use blocks::read::read_blocks;
 use blocks::write::write_blocks;
-use refusal::{Refused, number_of};
+use refusal::Refused;
 use std::io;
 use std::rt::Files;
 
@@ -37,15 +37,15 @@ const WEIGHTED: [u64; 5] = [
 
 fn main(rt: HostRuntime) -> io::Result<()> {
     println!(&rt; "five terms, p = 7, dp, two variables")?;
-    kept(&rt, &ONES, &WORDS, &COEFS)?;
+    round_trip(&rt, &ONES, &WORDS, &COEFS)?;
     println!(&rt; "zero")?;
-    kept(&rt, &ONES, &[], &[])?;
+    round_trip(&rt, &ONES, &[], &[])?;
     println!(&rt; "five terms, weight 2 for x1")?;
-    kept(&rt, &DOUBLE, &WEIGHTED, &COEFS)?;
+    round_trip(&rt, &DOUBLE, &WEIGHTED, &COEFS)?;
     println!(&rt; "weight 2 for x6, beyond n")?;
-    kept(&rt, &[1, 1, 1, 1, 1, 2], &WORDS, &COEFS)?;
+    round_trip(&rt, &[1, 1, 1, 1, 1, 2], &WORDS, &COEFS)?;
     println!(&rt; "terms that rise")?;
-    kept(
+    round_trip(
         &rt,
         &ONES,
         &[0x0001_0000_0000_0001, 0x0002_0000_0000_0002],
@@ -56,7 +56,7 @@ fn main(rt: HostRuntime) -> io::Result<()> {
 }
 
 // The polynomial written to the file and read back.
-fn kept(
+fn round_trip(
     rt: &(impl Files + Print + Eprint + AllocGlobal),
     weights: &[u32],
     words: &[u64],
@@ -70,7 +70,7 @@ fn kept(
             println!(rt; "blocks {}", written.blocks)?;
             store::save(rt, &bytes)?;
             show::block(rt, &bytes)?;
-            recalled(rt)
+            read_back(rt)
         }
         Err(refused) => turned_away(rt, refused),
     }
@@ -78,18 +78,18 @@ fn kept(
 
 // The number of a refusal.
 fn turned_away(rt: &impl Print, refused: Refused) -> io::Result<()> {
-    println!(rt; "refused {}", number_of(refused.refusal))
+    println!(rt; "refused {}", refused.refusal.number())
 }
 
 // What the file holds, read back.
-fn recalled(rt: &(impl Files + Print + Eprint + AllocGlobal)) -> io::Result<()> {
+fn read_back(rt: &(impl Files + Print + Eprint + AllocGlobal)) -> io::Result<()> {
     let mut bytes = [0u8; 1024];
     let len = store::load(rt, &mut bytes)?;
-    given(rt, &bytes[..len])
+    show_read(rt, &bytes[..len])
 }
 
 // What reading gives.
-fn given(rt: &impl Print, bytes: &[u8]) -> io::Result<()> {
+fn show_read(rt: &impl Print, bytes: &[u8]) -> io::Result<()> {
     let mut words = [0u64; 41];
     let mut coefs = [0u32; 41];
     match read_blocks(bytes, &mut words, &mut coefs) {
@@ -110,5 +110,5 @@ fn damaged(rt: &(impl Files + Print + Eprint + AllocGlobal)) -> io::Result<()> {
     let mut bytes = [0u8; 512];
     store::load(rt, &mut bytes)?;
     bytes[0] = 1;
-    given(rt, &bytes)
+    show_read(rt, &bytes)
 }

@@ -2,7 +2,8 @@
 // write that fails is an error.
 ghost use Rattle.std.specs.Io.{ReadsAtMost};
 
-use std::io::{Error, Read, Write};
+use programs::{fail, read_full};
+use std::io::Write;
 use std::rt::Files;
 use std::{fs, io};
 
@@ -12,7 +13,7 @@ const NAME: &str = "polynomial";
 pub fn save(rt: &(impl Files + Eprint + AllocGlobal), bytes: &[u8]) -> io::Result<()> {
     match fs::create(rt, NAME) {
         Ok(mut file) => file.write_all(bytes),
-        Err(error) => fail(rt, error),
+        Err(error) => fail(rt, NAME, error),
     }
 }
 
@@ -24,36 +25,8 @@ pub fn load(rt: &(impl Files + Eprint + AllocGlobal), bytes: &mut [u8]) -> io::R
     match fs::open(rt, NAME) {
         Ok(mut file) => read_full(&mut file, bytes),
         Err(error) => {
-            fail(rt, error)?;
+            fail(rt, NAME, error)?;
             Ok(0)
         }
     }
-}
-
-// Reads until bytes is full or the file ends, and answers how many bytes it put at the start of bytes.
-// Kept: a loop: `read_exact` fails where the file ends before bytes is full; `read_to_end` fills a `Vec`, no lent
-// slice. `read_input` of `bucketlist` promises more, of what is left unread, and so would one for both.
-fn read_full(file: &mut impl Read, bytes: &mut [u8]) -> io::Result<usize>
-    ensures { ReadsAtMost result bytes.new }
-{
-    let mut done = 0;
-    while done < bytes.len() {
-        let more = file.read(&mut bytes[done..])?;
-        if more == 0 {
-            return Ok(done);
-        }
-        done += more;
-    }
-    Ok(done)
-}
-
-// Says on standard error why the file cannot be opened, in the system's words without their number.
-// Kept: `bucketlist` has these lines too. To share them the two programs would need a third crate, a folder and
-// an entry of crates.txt with its own imports, for a function of five lines.
-fn fail(rt: &(impl Eprint + AllocGlobal), error: Error) -> io::Result<()> {
-    let text = format!(in rt.alloc(); "{error}")?;
-    if let Some((words, _)) = text.as_str().split_once(" (os error ") {
-        return eprintln!(rt; "{NAME}: {words}");
-    }
-    eprintln!(rt; "{NAME}: {text}")
 }

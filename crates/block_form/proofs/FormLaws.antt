@@ -1,8 +1,8 @@
 -- Tests over all blocks, and what bytes that have the form of blocks are. Assumes nothing.
-use Rattle.std.proofs.Common.{◌≡◌, refl, sym, ap, ap₂, ◌∙◌, Bool, true, false, ◌&&◌, List, ℕ, zero, suc, ◌+◌, ◌*◌, ◌%◌, ◌<◌, ◌≤◌, add-one, arith, eqb-true, leb-true, eq-eqb, ne_eqb, le-leb, leb, eqb, length}
-use mathlib.Core.Bool.{and-false}
+use Rattle.std.proofs.Common.{◌≡◌, refl, sym, ap, ap₂, ◌∙◌, Bool, true, false, ◌&&◌, List, ℕ, zero, suc, ◌+◌, ◌*◌, ◌%◌, ◌<◌, ◌≤◌, add-one, arith, eqb-true, leb-true, eq-eqb, le-leb, leb, eqb, length}
+use mathlib.Core.Bool.{and-true, and-false, and_assoc}
 use native.Mathlib.Decide.{dec_le}
-use borrow.Author.Tests.{lt-leb}
+use Rattle.std.specs.List.{list_all, range_with_len}
 use Rattle.limits.specs.Limits.{most_terms}
 use Rattle.monomial.proofs.Places.{and_both}
 use Rattle.polynomial.specs.Opening.{first}
@@ -16,10 +16,6 @@ use Rattle.block_form.specs.Form.{all_below, whole_blocks, count_in, total_in, h
 
 -- ---- a test of each number below another
 module _ (f : ℕ → Bool) where
-  pub all_more : (k : ℕ) → all_below k f ≡ true → f k ≡ true → all_below (k + 1) f ≡ true
-  unfolding all_below
-  all_more k a e = ap (λ (n : ℕ). all_below n f) (add-one k) ∙ ap₂ ◌&&◌ a e
-
   pub all-fails : (n k : ℕ) → k < n → f k ≡ false → false ≡ all_below n f
   unfolding all_below
   all-fails zero k h e = absurd (let z : ⊥ = omega arith in z)
@@ -42,6 +38,20 @@ module _ (f : ℕ → Bool) where
   unfolding all_below
   all_of zero e = refl
   all_of (suc n) e = ap₂ ◌&&◌ (all_of n (λ k h. e k (omega arith))) (e n (omega arith))
+
+  -- the test of each number of a range, as it is made
+  range_all : (a n : ℕ) → all_below a f && list_all f (range_with_len a n) ≡ all_below (a + n) f
+  unfolding all_below
+  range_all a zero = and-true (all_below a f) ∙ ap (λ (m : ℕ). all_below m f) (let e : a ≡ a + 0 = omega arith in e)
+  range_all a (suc n) =
+      let e : suc a + n ≡ a + suc n = omega arith in
+      sym (and_assoc (all_below a f) (f a) (list_all f (range_with_len (a + 1) n)))
+      ∙ (ap (λ (m : ℕ). all_below (suc a) f && list_all f (range_with_len m n)) (add-one a)
+      ∙ (range_all (suc a) n ∙ ap (λ (m : ℕ). all_below m f) e))
+
+  pub all-range : (n : ℕ) → list_all f (range_with_len 0 n) ≡ all_below n f
+  unfolding all_below
+  all-range n = range_all 0 n ∙ ap (λ (m : ℕ). all_below m f) (let e : 0 + n ≡ n = omega arith in e)
 
 -- ---- one block
 module _ (s : List ℕ) (k count total here : ℕ) (t : Setting) (q : Counted s count total) (e : t ≡ setting_in s) (h : here ≡ here_of total k) where
@@ -89,23 +99,6 @@ blocks-pass s h =
     let a = and_both (eqb (block_count (total_in s)) (count_in s)) (leb (total_in s) most_terms && all_below (count_in s) (block_stands s)) h in
     let b = and_both (leb (total_in s) most_terms) (all_below (count_in s) (block_stands s)) a.1 in
     record { fits = eqb-true (block_count (total_in s)) (count_in s) a.0; few = leb-true (total_in s) most_terms b.0; each = b.1 }
-
-module _ (s : List ℕ) (total n : ℕ) (e : total ≡ total_in s) (f : n ≡ block_count total) where
-  count_of : n ≡ block_count (total_in s)
-  count_of = f ∙ ap block_count e
-
-  pub wrong-count : (n ≡ count_in s → ⊥) → false ≡ blocks_stand s
-  wrong-count h = sym (ap (λ (b : Bool). b && (leb (total_in s) most_terms && all_below (count_in s) (block_stands s))) (ne_eqb (block_count (total_in s)) (count_in s) (λ q. h (count_of ∙ q))))
-
-  module _ (g : n ≡ count_in s) where
-    right-count : eqb (block_count (total_in s)) (count_in s) ≡ true
-    right-count = eq-eqb (block_count (total_in s)) (count_in s) (sym count_of ∙ g)
-
-    pub over-most_terms : most_terms < total → false ≡ blocks_stand s
-    over-most_terms h = sym (ap₂ (λ (a b : Bool). a && (b && all_below (count_in s) (block_stands s))) right-count (lt-leb (total_in s) most_terms (let k : most_terms < total_in s = omega arith in k)))
-
-    pub by-each : (r : Bool) → total ≤ most_terms → r ≡ all_below (count_in s) (block_stands s) → r ≡ blocks_stand s
-    by-each r h q = q ∙ sym (ap₂ (λ (a b : Bool). a && (b && all_below (count_in s) (block_stands s))) right-count (le-leb (total_in s) most_terms (let k : total_in s ≤ most_terms = omega arith in k)))
 
 -- ---- the form
 pub record Form (s : List ℕ) (ow oc : ℕ) : Type 0 where

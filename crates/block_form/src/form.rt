@@ -7,15 +7,15 @@ use crate::count::{block_count, here_of, total_in, whole_blocks};
 use block::check::check_stands;
 use block::filler::is_clear;
 use block::header::{Header, get_setting};
+use block::{BLOCK_BYTES, BLOCK_TERMS, HEADER_BYTES, PLACE_BYTES};
 use limits::MOST_TERMS;
 use refusal::Refusal;
 
-// The refusal for the form of the bytes: 8, 14, 15 for all blocks, 16. The last two are the lengths of
-// the lent words and coefficients.
-pub fn form_refusal(s: &[u8], ow: usize, oc: usize) -> Result<(), Refusal>
-    ensures { refusal_in result ≡ form_refusal s.now ow oc }
+// Checks the form of the bytes: 8, 14, 15 for all blocks, 16. So many words and so many coefficients are lent.
+pub fn form_refusal(s: &[u8], words_room: usize, coefs_room: usize) -> Result<(), Refusal>
+    ensures { refusal_in result ≡ form_refusal s.now words_room coefs_room }
 {
-    if ow != oc {
+    if words_room != coefs_room {
         return Err(Refusal::BadShape);
     }
     if !whole_blocks(s.len()) {
@@ -35,12 +35,7 @@ pub fn form_refusal(s: &[u8], ow: usize, oc: usize) -> Result<(), Refusal>
 fn checks_stand(s: &[u8]) -> bool
     ensures { result ≡ checks_stand s.now }
 {
-    for k in 0..s.len() / 512 {
-        if !check_stands(s, 512 * k) {
-            return false;
-        }
-    }
-    true
+    (0..s.len() / BLOCK_BYTES).all(|k| check_stands(s, BLOCK_BYTES * k))
 }
 
 // Whether every block has the header and the filler that writing would put there, for at most 4,096
@@ -49,16 +44,10 @@ fn blocks_stand(s: &[u8]) -> bool
     requires { (512 ≤ length s.now) × (length s.now ≤ 51200) }
     ensures { result ≡ blocks_stand s.now }
 {
-    let count = s.len() / 512;
+    let count = s.len() / BLOCK_BYTES;
     let total = total_in(s);
     let blocks = block_count(total);
-    if blocks != count {
-        return false;
-    }
-    if MOST_TERMS < total {
-        return false;
-    }
-    each_stands(s, count, total)
+    blocks == count && total <= MOST_TERMS && each_stands(s, count, total)
 }
 
 // Whether each block has its header and filler.
@@ -66,12 +55,7 @@ fn each_stands(s: &[u8], count: usize, total: usize) -> bool
     requires { Counted s.now count total }
     ensures { result ≡ all_below (count_in s.now) (block_stands s.now) }
 {
-    for k in 0..count {
-        if !block_stands(s, k, count, total) {
-            return false;
-        }
-    }
-    true
+    (0..count).all(|k| block_stands(s, k, count, total))
 }
 
 // Whether block k has its header and filler.
@@ -79,7 +63,7 @@ fn block_stands(s: &[u8], k: usize, count: usize, total: usize) -> bool
     requires { Counted s.now count total × (k < count) }
     ensures { result ≡ block_stands s.now k }
 {
-    let at = 512 * k;
+    let at = BLOCK_BYTES * k;
     let here = here_of(total, k);
     let header = Header {
         number: k as u32,
@@ -87,5 +71,10 @@ fn block_stands(s: &[u8], k: usize, count: usize, total: usize) -> bool
         here: here as u32,
         setting: get_setting(s, 0),
     };
-    header.stands(s, at) && is_clear(s, at + 16 + 12 * here, 12 * (41 - here))
+    header.stands(s, at)
+        && is_clear(
+            s,
+            at + HEADER_BYTES + PLACE_BYTES * here,
+            PLACE_BYTES * (BLOCK_TERMS - here),
+        )
 }

@@ -1,5 +1,5 @@
 -- The terms in blocks, and the refusal of reading (document 01, "Blocks" and "Refusals by cause"). Assumes nothing.
-use Rattle.std.specs.Prelude.{ℕ, zero, suc, ◌+◌, ◌*◌, ◌/◌, ◌%◌, Bool, true, false, List, [], ◌∷◌, ◌++◌, leb, eqb}
+use Rattle.std.specs.Prelude.{ℕ, zero, suc, ◌+◌, ◌*◌, ◌/◌, ◌%◌, List, [], ◌∷◌, ◌++◌, leb}
 use Rattle.polynomial.specs.Terms.{Term, term}
 use Rattle.polynomial.specs.Opening.{first, polynomial_refusal}
 use Rattle.opening.specs.Run.{unless, setting}
@@ -36,12 +36,9 @@ content_refusal s ow = content_with (setting_in s) s ow
 abbrev pub read_refusal : List ℕ → (ow oc : ℕ) → ℕ
 read_refusal s ow oc = first (form_refusal s ow oc) (content_refusal s ow)
 
--- ---- steps of the code
+-- ---- a step of the code
 
--- the place after the one at `at`: past the check and the next header where a block ends
-abbrev pub next_by : (ends : Bool) → ℕ → ℕ
-next_by true at = at + 32
-next_by false at = at + 12
-
-abbrev pub next_place : ℕ → ℕ
-next_place at = next_by (eqb ((at + 12) % 512) 508) at
+-- the terms of the n places from byte `at` on
+unfoldable pub terms_from : List ℕ → (at n : ℕ) → List (Term ℕ)
+terms_from s at zero = []
+terms_from s at (suc n) = terms_from s at n ++ (term (number_at 8 (at + 12 * n) s) (number_at 4 (at + 12 * n + 8) s) ∷ [])

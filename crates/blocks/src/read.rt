@@ -10,11 +10,12 @@ use block::header::get_setting;
 use block::weights::weight_number;
 use block_form::count::total_in;
 use block_form::form::form_refusal;
-use opening::setting::setting;
+use opening::setting::GivenSetting;
 use refusal::{Refusal, Refused};
 
 // What was read: the setting, with the weights as one number as a header has them, and how many terms.
-// Kept: may not change: `read_outcome` states the order and the weights of the answer as these numbers.
+// Kept: may not change: the definitions `answer_read` and `read_stated` make and read it with the order and the
+// weights as these numbers, and the theorem `demand-2-read-back` states it by them.
 #[derive(Clone, Copy, Debug, PartialEq, Eq)]
 pub struct Read {
     pub p: u32,
@@ -38,35 +39,39 @@ pub fn read_blocks(s: &[u8], words: &mut [u64], coefs: &mut [u32]) -> Reading
     let total = total_in(s);
     get_terms(s, total, words, coefs);
     let t = get_setting(s, 0);
-    let weights = t.weights;
     Ok(Read {
         p: t.p,
         order: t.order,
         n: t.n,
-        weights: u64::from(weight_number(&weights)),
+        weights: u64::from(weight_number(&t.weights)),
         terms: total as u64,
     })
 }
 
-// Checks bytes that are lent with so many words and coefficients.
-fn read_refusal(s: &[u8], ow: usize, oc: usize) -> Result<(), Refusal>
-    ensures { refusal_in result ≡ read_refusal s.now ow oc }
+// Checks bytes that are lent with so many words and so many coefficients.
+fn read_refusal(s: &[u8], words_room: usize, coefs_room: usize) -> Result<(), Refusal>
+    ensures { refusal_in result ≡ read_refusal s.now words_room coefs_room }
 {
-    form_refusal(s, ow, oc)?;
-    content_refusal(s, ow)
+    form_refusal(s, words_room, coefs_room)?;
+    content_refusal(s, words_room)
 }
 
-// Checks the polynomial in the blocks: 1 to 3, 24, 4 to 6, then 10.
-fn content_refusal(s: &[u8], ow: usize) -> Result<(), Refusal>
+// Checks the polynomial in the blocks: 1 to 3, 24, 4 to 6, then 10 where so many words have no room for it.
+fn content_refusal(s: &[u8], words_room: usize) -> Result<(), Refusal>
     requires { Formed s.now }
-    ensures { refusal_in result ≡ content_refusal s.now ow }
+    ensures { refusal_in result ≡ content_refusal s.now words_room }
 {
     let t = get_setting(s, 0);
-    let weights = t.weights;
-    setting(t.p, t.order, t.n, &weights)?;
+    let given = GivenSetting {
+        p: t.p,
+        order: t.order,
+        n: t.n,
+        weights: &t.weights,
+    };
+    given.check()?;
     let total = total_in(s);
     check_terms(t, s, total)?;
-    if ow < total {
+    if words_room < total {
         return Err(Refusal::NoOutput);
     }
     Ok(())

@@ -10,7 +10,6 @@ use Rattle.polynomial.specs.Merge.{merge, compared, merge_count}
 use Rattle.geobucket.specs.Buckets.{carry, carry_compared, place, place_compared, add, add_compared}
 use Rattle.space.specs.Space.{capacity, list_from}
 use Rattle.space.proofs.Starts.{next-capacity, cap-zero}
-use Rattle.buckets.specs.declared.level.Level.{Level}
 use Rattle.buckets.specs.Levels.{LevelFor}
 
 module _ (cmp : ℕ → ℕ → Ordering) (p : ℕ) (cap : ℕ) (f b : List (Term ℕ)) (bs : List (List (Term ℕ))) where
@@ -82,11 +81,10 @@ add-some cmp p [] bs h = absurd (let z : ⊥ = omega arith in z)
 add-some cmp p (t ∷ ts) bs h = (refl, refl)
 
 -- an addition is a carry from the bucket that f goes to
-pub add_at : (cmp : ℕ → ℕ → Ordering) (p : ℕ) (f : List (Term ℕ)) (g : ℕ → List (Term ℕ)) (l : Level) → LevelFor (length f) l → 0 < length f
-    → (add cmp p f (list_from g 0 6) ≡ list_from g 0 l.bucket ++ carry cmp p (capacity l.bucket) f (list_from g l.bucket (6 - l.bucket)))
-    × (add_compared cmp p f (list_from g 0 6) ≡ carry_compared cmp p (capacity l.bucket) f (list_from g l.bucket (6 - l.bucket)))
-add_at cmp p f g l v some =
-    let i = l.bucket in
+pub add_at : (cmp : ℕ → ℕ → Ordering) (p : ℕ) (f : List (Term ℕ)) (g : ℕ → List (Term ℕ)) (i : ℕ) → LevelFor (length f) i → 0 < length f
+    → (add cmp p f (list_from g 0 6) ≡ list_from g 0 i ++ carry cmp p (capacity i) f (list_from g i (6 - i)))
+    × (add_compared cmp p f (list_from g 0 6) ≡ carry_compared cmp p (capacity i) f (list_from g i (6 - i)))
+add_at cmp p f g i v some =
     let six : i + suc (5 - i) ≡ 6 = let w = v.within in omega arith in
     let left : suc (5 - i) ≡ 6 - i = let w = v.within in omega arith in
     let z : 0 + i ≡ i = omega arith in

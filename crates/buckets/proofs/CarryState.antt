@@ -21,8 +21,6 @@ use Rattle.space.specs.Space.{Buckets, head_at, len_at, side_at, capacity, start
 use Rattle.space.proofs.Starts.{next-capacity, zone-work, end-work, zone-areas, end-in-work}
 use Rattle.space.proofs.Joined.{SameBut, same-wider, same_left}
 use Rattle.space.proofs.SpaceLaws.{from-same, from_last, from_at, bucket-long, bucket-none, held_cons, moved-len, laid-moved, bucket-else, turned-head, turned-len, laid-turned, bucket-else-turned, side-low, side-high}
-use Rattle.buckets.specs.declared.level.Level.{Level}
-use Rattle.buckets.specs.Levels.{level_at}
 use Rattle.buckets.specs.Adding.{Carry, MergeUp, free}
 use Rattle.buckets.specs.Last.{MergeLast, LastMerged, last_at}
 use Rattle.buckets.proofs.CarryLaws.{carry-stays, count-stays, carry-goes, count-goes}
@@ -30,32 +28,30 @@ use Rattle.buckets.proofs.PlaceLaws.{in-work, in-space, all-long, stands_of, can
 use Rattle.buckets.proofs.UpLaws.{both-fit, side-end}
 use Rattle.buckets.proofs.LastLaws.{last-merged}
 
--- The len terms at `from` are merged with bucket l next; in the end the buckets are R, and the comparisons N, of which n are made.
-pub record Carries (p : ℕ) (R : List (List (Term ℕ))) (N : ℕ) (b : Buckets) (l : Level) (from len n : ℕ) (ww wc sw sc : List ℕ) : Type 0 where
+-- The len terms at `from` are merged with bucket i next; in the end the buckets are R, and the comparisons N, of which n are made.
+pub record Carries (p : ℕ) (R : List (List (Term ℕ))) (N : ℕ) (b : Buckets) (i from len n : ℕ) (ww wc sw sc : List ℕ) : Type 0 where
   pub modulus : Modulus p
   pub laid : Laid b
   pub slices : Slices ww wc sw sc
-  pub level-is : l ≡ level_at l.bucket
-  pub within : l.bucket < 6
+  pub within : i < 6
   pub some : 0 < len
   pub canon : (j : ℕ) → j < 6 → Canonical compare p (bucket_at b (ww ++ sw) (wc ++ sc) j)
   pub canonical : Canonical compare p (terms (part from len ww) (part from len wc))
-  pub fits : len ≤ capacity l.bucket
+  pub fits : len ≤ capacity i
   pub in-places : from + len ≤ work_places
-  pub apart : (from + len ≤ 4 * start l.bucket) ⊎ (free ≤ from)
-  pub room : len + held (list_from (bucket_at b (ww ++ sw) (wc ++ sc)) l.bucket (6 - l.bucket)) ≤ most_terms
-  pub lists : list_from (bucket_at b (ww ++ sw) (wc ++ sc)) 0 l.bucket ++ carry compare p (capacity l.bucket) (terms (part from len ww) (part from len wc)) (list_from (bucket_at b (ww ++ sw) (wc ++ sc)) l.bucket (6 - l.bucket)) ≡ R
-  pub count : n + length (carry_compared compare p (capacity l.bucket) (terms (part from len ww) (part from len wc)) (list_from (bucket_at b (ww ++ sw) (wc ++ sc)) l.bucket (6 - l.bucket))) ≡ N
-  pub few : n ≤ most_terms * l.bucket
+  pub apart : (from + len ≤ 4 * start i) ⊎ (free ≤ from)
+  pub room : len + held (list_from (bucket_at b (ww ++ sw) (wc ++ sc)) i (6 - i)) ≤ most_terms
+  pub lists : list_from (bucket_at b (ww ++ sw) (wc ++ sc)) 0 i ++ carry compare p (capacity i) (terms (part from len ww) (part from len wc)) (list_from (bucket_at b (ww ++ sw) (wc ++ sc)) i (6 - i)) ≡ R
+  pub count : n + length (carry_compared compare p (capacity i) (terms (part from len ww) (part from len wc)) (list_from (bucket_at b (ww ++ sw) (wc ++ sc)) i (6 - i))) ≡ N
+  pub few : n ≤ most_terms * i
 
-pub carries-start : {p : ℕ} {b : Buckets} {l : Level} {from len : ℕ} {ww wc sw sc : List ℕ} → Carry p b l from len ww wc sw sc
-    → Carries p (list_from (bucket_at b (ww ++ sw) (wc ++ sc)) 0 l.bucket ++ carry compare p (capacity l.bucket) (terms (part from len ww) (part from len wc)) (list_from (bucket_at b (ww ++ sw) (wc ++ sc)) l.bucket (6 - l.bucket)))
-    (length (carry_compared compare p (capacity l.bucket) (terms (part from len ww) (part from len wc)) (list_from (bucket_at b (ww ++ sw) (wc ++ sc)) l.bucket (6 - l.bucket)))) b l from len 0 ww wc sw sc
+pub carries-start : {p : ℕ} {b : Buckets} {i from len : ℕ} {ww wc sw sc : List ℕ} → Carry p b i from len ww wc sw sc
+    → Carries p (list_from (bucket_at b (ww ++ sw) (wc ++ sc)) 0 i ++ carry compare p (capacity i) (terms (part from len ww) (part from len wc)) (list_from (bucket_at b (ww ++ sw) (wc ++ sc)) i (6 - i)))
+    (length (carry_compared compare p (capacity i) (terms (part from len ww) (part from len wc)) (list_from (bucket_at b (ww ++ sw) (wc ++ sc)) i (6 - i)))) b i from len 0 ww wc sw sc
 carries-start a = record {
   modulus = a.stands.modulus;
   laid = a.stands.laid;
   slices = a.slices;
-  level-is = a.level-is;
   within = a.within;
   some = a.some;
   canon = canon-of a.stands;
@@ -69,10 +65,7 @@ carries-start a = record {
   few = omega arith;
 }
 
-module _ {p : ℕ} {R : List (List (Term ℕ))} {N : ℕ} {b : Buckets} {l : Level} {from len n : ℕ} {ww wc sw sc : List ℕ} (v : Carries p R N b l from len n ww wc sw sc) where
-  abbrev i : ℕ
-  i = l.bucket
-
+module _ {p : ℕ} {R : List (List (Term ℕ))} {N : ℕ} {b : Buckets} {i from len n : ℕ} {ww wc sw sc : List ℕ} (v : Carries p R N b i from len n ww wc sw sc) where
   abbrev g : ℕ → List (Term ℕ)
   g = bucket_at b (ww ++ sw) (wc ++ sc)
 
@@ -112,11 +105,10 @@ module _ {p : ℕ} {R : List (List (Term ℕ))} {N : ℕ} {b : Buckets} {l : Lev
     here : g i ≡ bucket_at b ww wc i
     here = in-work b v.laid i h v.slices
 
-    pub up-asks : MergeUp p b l from len ww wc
+    pub up-asks : MergeUp p b i from len ww wc
     up-asks = record {
       modulus = v.modulus;
       laid = v.laid;
-      level-is = v.level-is;
       within = h;
       some = v.some;
       canonical = v.canonical;
@@ -128,11 +120,10 @@ module _ {p : ℕ} {R : List (List (Term ℕ))} {N : ℕ} {b : Buckets} {l : Lev
       work-coefs = v.slices.work-coefs;
     }
 
-    pub other-asks : {s : ℕ} → s ≡ side_at b i → (l ≡ level_at i) × (i < 5) × (l.zone ≤ s) × (s ≤ l.zone + 2 * l.cap)
+    pub other-asks : {s : ℕ} → s ≡ side_at b i → (i < 5) × (4 * start i ≤ s) × (s ≤ 4 * start i + 2 * capacity i)
     other-asks {s} es =
-        let z : l.zone ≡ zone i = ap (λ (x : Level). x.zone) v.level-is ∙ sym (zone-work i h) in
-        let k : l.cap ≡ capacity i = ap (λ (x : Level). x.cap) v.level-is in
-        (v.level-is, h, omega (arith, es, z, side-low v.laid i h), omega (arith, es, z, k, side-high v.laid i h, zone-areas i h))
+        let z : 4 * start i ≡ zone i = sym (zone-work i h) in
+        (h, omega (arith, es, z, side-low v.laid i h), omega (arith, es, z, side-high v.laid i h, zone-areas i h))
 
     module _ {ww' wc' : List ℕ} {r : Placed} (d : PlacedIn compare p F (bucket_at b ww wc i) (side_at b i) (side_at b i + (len + len_at b i)) ww wc ww' wc' r) (kw : length ww' ≡ length ww) (kc : length wc' ≡ length wc) where
       abbrev M : List (Term ℕ)
@@ -176,25 +167,19 @@ module _ {p : ℕ} {R : List (List (Term ℕ))} {N : ℕ} {b : Buckets} {l : Lev
       short-count = omega (arith, count-is, M-count, v.few)
 
       -- ---- it is not larger than the bucket, and stays there
-      module _ (small : r.len ≤ l.cap) {s : ℕ} (es : s ≡ l.zone + (l.zone + 2 * l.cap - side_at b i)) {b' : Buckets} (eb : b' ≡ turned b i r.head r.len s) where
-        cap-is : l.cap ≡ capacity i
-        cap-is = ap (λ (x : Level). x.cap) v.level-is
-
-        zone-is : l.zone ≡ zone i
-        zone-is = ap (λ (x : Level). x.zone) v.level-is ∙ sym (zone-work i h)
+      module _ (fits-is : r.len ≤ capacity i) {s : ℕ} (es : s ≡ 4 * start i + (4 * start i + 2 * capacity i - side_at b i)) {b' : Buckets} (eb : b' ≡ turned b i r.head r.len s) where
+        zone-is : 4 * start i ≡ zone i
+        zone-is = sym (zone-work i h)
 
         abbrev B : Buckets
         B = turned b i r.head r.len s
-
-        fits-is : r.len ≤ capacity i
-        fits-is = omega (arith, small, cap-is)
 
         laid' : Laid B
         laid' =
             let bf = both-fit up-asks in
             ⊎_elim
-            (λ (e : side_at b i ≡ zone i). laid-turned b i r.head r.len s v.laid h low high fits-is (inr (omega (arith, es, zone-is, cap-is, e))) (inl (omega (arith, d.to_end, es, zone-is, cap-is, e, bf))))
-            (λ (e : side_at b i ≡ zone i + 2 * capacity i). laid-turned b i r.head r.len s v.laid h low high fits-is (inl (omega (arith, es, zone-is, cap-is, e))) (inr (omega (arith, d.from_low, es, zone-is, cap-is, e))))
+            (λ (e : side_at b i ≡ zone i). laid-turned b i r.head r.len s v.laid h low high fits-is (inr (omega (arith, es, zone-is, e))) (inl (omega (arith, d.to_end, es, zone-is, e, bf))))
+            (λ (e : side_at b i ≡ zone i + 2 * capacity i). laid-turned b i r.head r.len s v.laid h low high fits-is (inl (omega (arith, es, zone-is, e))) (inr (omega (arith, d.from_low, es, zone-is, e))))
             (v.laid.side-is i h)
 
         own : bucket_at B (ww' ++ sw) (wc' ++ sc) i ≡ M
@@ -226,10 +211,7 @@ module _ {p : ℕ} {R : List (List (Term ℕ))} {N : ℕ} {b : Buckets} {l : Lev
         stays = subst (λ (x : Buckets). (buckets_in x (ww' ++ sw) (wc' ++ sc) ≡ R) × (n + r.comparisons ≡ N) × (n + r.comparisons ≤ 50000) × Stands compare p x (ww' ++ sw) (wc' ++ sc)) (sym eb) (lists', all_made, omega (arith, short-count, h), stands_of v.modulus all'.0 all'.1 laid' canon')
 
       -- ---- it is larger: the bucket is emptied, and the next one comes
-      module _ (large : l.cap < r.len) {h₀ : ℕ} (eh : h₀ ≡ head_at b i) {b' : Buckets} (eb : b' ≡ moved b i h₀ 0) {l' : Level} (el : l' ≡ level_at (suc i)) where
-        cap-of : l.cap ≡ capacity i
-        cap-of = ap (λ (x : Level). x.cap) v.level-is
-
+      module _ (large : capacity i < r.len) {h₀ : ℕ} (eh : h₀ ≡ head_at b i) {b' : Buckets} (eb : b' ≡ moved b i h₀ 0) {i' : ℕ} (el : i' ≡ suc i) where
         abbrev E : Buckets
         E = moved b i h₀ 0
 
@@ -258,7 +240,7 @@ module _ {p : ℕ} {R : List (List (Term ℕ))} {N : ℕ} {b : Buckets} {l : Lev
             (ap g' (let e : 0 + i ≡ i = omega arith in e) ∙ emptied-own)
 
         over : capacity i < length M
-        over = omega (arith, large, cap-of, len_is)
+        over = omega (arith, large, len_is)
 
         cap-next : capacity (suc i) ≡ 4 * capacity i
         cap-next = next-capacity i
@@ -283,12 +265,11 @@ module _ {p : ℕ} {R : List (List (Term ℕ))} {N : ℕ} {b : Buckets} {l : Lev
         canon-on : (j : ℕ) → j < 6 → Canonical compare p (g' j)
         canon-on = each-by (λ j. Canonical compare p (g' j)) i (subst (Canonical compare p) (sym emptied-own) (record { falling = tt; reduced = tt })) (λ j k ne. subst (Canonical compare p) (sym (emptied-other j k ne)) (v.canon j k))
 
-        on-next : Carries p R N E (level_at (suc i)) r.head r.len (n + r.comparisons) ww' wc' sw sc
+        on-next : Carries p R N E (suc i) r.head r.len (n + r.comparisons) ww' wc' sw sc
         on-next = record {
           modulus = v.modulus;
           laid = emptied-laid;
           slices = slices';
-          level-is = refl;
           within = omega (arith, h);
           some = omega (arith, large);
           canon = canon-on;
@@ -302,8 +283,8 @@ module _ {p : ℕ} {R : List (List (Term ℕ))} {N : ℕ} {b : Buckets} {l : Lev
           few = omega (arith, short-count);
         }
 
-        pub goes : Carries p R N b' l' r.head r.len (n + r.comparisons) ww' wc' sw sc
-        goes = subst (λ (x : Buckets). Carries p R N x l' r.head r.len (n + r.comparisons) ww' wc' sw sc) (sym eb) (subst (λ (x : Level). Carries p R N E x r.head r.len (n + r.comparisons) ww' wc' sw sc) (sym el) on-next)
+        pub goes : Carries p R N b' i' r.head r.len (n + r.comparisons) ww' wc' sw sc
+        goes = subst (λ (x : Buckets). Carries p R N x i' r.head r.len (n + r.comparisons) ww' wc' sw sc) (sym eb) (subst (λ (x : ℕ). Carries p R N E x r.head r.len (n + r.comparisons) ww' wc' sw sc) (sym el) on-next)
 
   -- ---- the last bucket takes what comes
   module _ (h : 5 ≤ i) where

@@ -23,8 +23,6 @@ use Rattle.space.specs.Space.{Buckets, head_at, len_at, side_at, capacity, start
 use Rattle.space.proofs.Starts.{next_start, next-capacity, start_up, five, end-work, end-in-work, zone-five, end-five}
 use Rattle.space.proofs.Joined.{same-wider}
 use Rattle.space.proofs.SpaceLaws.{ButFor, from-same, from_next, from-none, from_last, part-to, bucket-but, bucket-none, bucket-long, canon-from, held-append, held_cons, side-low}
-use Rattle.buckets.specs.declared.sum.Summed.{Summed}
-use Rattle.buckets.specs.Levels.{level_at}
 use Rattle.buckets.specs.Adding.{MergeUp}
 use Rattle.buckets.specs.Last.{MergeLast, LastMerged, last_at}
 use Rattle.buckets.specs.Summing.{Summation, SumDone, Areas, AreasSummed}
@@ -175,11 +173,10 @@ module _ {p : ℕ} {b : Buckets} {ww₀ wc₀ : List ℕ} (a : Areas p b ww₀ w
 
       -- ---- any other: a merge to its free area
       module _ (some : len ≡ 0 → ⊥) {at m s : ℕ} (ea : at ≡ head_at b i) (em : m ≡ len_at b i) (es : s ≡ side_at b i) where
-        up : MergeUp p b (level_at i) from len ww wc
+        up : MergeUp p b i from len ww wc
         up = record {
           modulus = a.modulus;
           laid = a.laid;
-          level-is = refl;
           within = h;
           some = omega (arith, some);
           canonical = v.canonical;
@@ -219,7 +216,7 @@ module _ {p : ℕ} {b : Buckets} {ww₀ wc₀ : List ℕ} (a : Areas p b ww₀ w
               (omega (arith, d.to_end, side-end up))
               (omega (arith, d.len_is, ap (λ (x : List (Term ℕ)). length (merge compare p F x)) here, M-size))
 
-    pub sums-end : 5 ≤ i → AreasSummed p b ww₀ wc₀ ww wc (record { from = from; len = len; comparisons = n })
+    pub sums-end : 5 ≤ i → AreasSummed p b ww₀ wc₀ ww wc (record { head = from; len = len; comparisons = n })
     sums-end h =
         let none : list_from g i (5 - i) ≡ [] = ap (list_from g i) (let z : 5 - i ≡ 0 = omega arith in z) ∙ from-none g i in
         let e = sum-nil compare p F in
@@ -276,25 +273,25 @@ module _ {p : ℕ} {b : Buckets} {ww wc sw sc : List ℕ} (s : Summation p b ww 
   low-canonical : Canonical compare p Low
   low-canonical = sum-canonical compare p numbers-order (omega (arith, s.stands.modulus.two)) [] Five (record { falling = tt; reduced = tt }) (canon-from compare p (bucket_at b ww wc) 5 0 (λ j u w. areas-asks.canonical j (omega arith)))
 
-  module _ {ww' wc' : List ℕ} {low : Summed} (d : AreasSummed p b ww wc ww' wc' low) (kw : length ww' ≡ length ww) (kc : length wc' ≡ length wc) where
+  module _ {ww' wc' : List ℕ} {low : Placed} (d : AreasSummed p b ww wc ww' wc' low) (kw : length ww' ≡ length ww) (kc : length wc' ≡ length wc) where
     -- the part that is lent
     abbrev lent : List ℕ → List ℕ
-    lent l = take (low.from + low.len - low.from) (drop low.from l)
+    lent l = take (low.head + low.len - low.head) (drop low.head l)
 
-    pub lent-words : low.from + low.len ≤ length ww'
+    pub lent-words : low.head + low.len ≤ length ww'
     lent-words = omega (arith, kw, s.slices.work-words, d.in-places)
 
-    pub lent-coefs : low.from + low.len ≤ length wc'
+    pub lent-coefs : low.head + low.len ≤ length wc'
     lent-coefs = omega (arith, kc, s.slices.work-coefs, d.in-places)
 
     words_long : length (lent ww') ≡ low.len
-    words_long = ap length (part-to low.from low.len ww') ∙ length_part low.from low.len ww' lent-words
+    words_long = ap length (part-to low.head low.len ww') ∙ length_part low.head low.len ww' lent-words
 
     coefs-long : length (lent wc') ≡ low.len
-    coefs-long = ap length (part-to low.from low.len wc') ∙ length_part low.from low.len wc' lent-coefs
+    coefs-long = ap length (part-to low.head low.len wc') ∙ length_part low.head low.len wc' lent-coefs
 
     lent_is : terms (lent ww') (lent wc') ≡ Low
-    lent_is = ap₂ terms (part-to low.from low.len ww') (part-to low.from low.len wc') ∙ d.sum_is
+    lent_is = ap₂ terms (part-to low.head low.len ww') (part-to low.head low.len wc') ∙ d.sum_is
 
     low-long : length Low ≡ length (lent ww')
     low-long = ap length (sym lent_is) ∙ length-terms (lent ww') (lent wc') (coefs-long ∙ sym words_long)
@@ -338,7 +335,7 @@ module _ {p : ℕ} {b : Buckets} {ww wc sw sc : List ℕ} (s : Summation p b ww 
         nc : length (part (h - work_places) n sc') ≡ n
         nc = length_part (h - work_places) n sc' (omega (arith, end, m.coefs-long))
 
-        pub sum_done : {b'' : Buckets} → b'' ≡ no_buckets → SumDone p b (ww ++ sw) (wc ++ sc) b'' sw' sc' (record { from = h - work_places; len = n; comparisons = low.comparisons + r })
+        pub sum_done : {b'' : Buckets} → b'' ≡ no_buckets → SumDone p b (ww ++ sw) (wc ++ sc) b'' sw' sc' (record { head = h - work_places; len = n; comparisons = low.comparisons + r })
         sum_done e = record {
           in-space = end;
           sum_is = read;

@@ -19,17 +19,13 @@ use Rattle.merge_areas.specs.Areas.{Areas}
 use Rattle.space.specs.Space.{Buckets, head_at, len_at, side_at, capacity, zone_end, bucket_at}
 use Rattle.space.proofs.Starts.{five, start_up, zone-work, end-work, end-in-work}
 use Rattle.space.proofs.SpaceLaws.{bucket-none, part-put, side-low, side-high}
-use Rattle.buckets.specs.declared.level.Level.{Level}
 use Rattle.buckets.specs.Adding.{MergeUp, free}
 
 -- the areas end before the free places
 pub areas-end : (i : ℕ) → i < 5 → zone_end i ≤ free
 areas-end i h = omega (arith, end-work i h, start_up (suc i) 5 (omega arith), five)
 
-module _ {p : ℕ} {b : Buckets} {l : Level} {from len : ℕ} {ww wc : List ℕ} (a : MergeUp p b l from len ww wc) where
-  abbrev i : ℕ
-  i = l.bucket
-
+module _ {p : ℕ} {b : Buckets} {i from len : ℕ} {ww wc : List ℕ} (a : MergeUp p b i from len ww wc) where
   in-six : i < 6
   in-six = omega (arith, a.within)
 

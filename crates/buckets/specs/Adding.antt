@@ -9,8 +9,6 @@ use Rattle.polynomial.specs.Terms.{Term, terms, Canonical}
 use Rattle.merge_common.specs.Lent.{part}
 use Rattle.geobucket.specs.Buckets.{held, carry, carry_compared, add, add_compared}
 use Rattle.space.specs.Space.{Buckets, capacity, start, list_from, bucket_at, buckets_in, Laid, Stands, Slices, Spaces, words_in, Standing}
-use Rattle.buckets.specs.declared.level.Level.{Level}
-use Rattle.buckets.specs.Levels.{level_at}
 
 -- the buckets, in words, are those of the published addition of f, with its comparisons
 pub record Added (o : Order) (p : ℕ) (x : Spaces) (f : List (Term ℕ)) (x' : Spaces) (comparisons : ℕ) : Type 0 where
@@ -48,37 +46,35 @@ pub record AddDone (cmp : ℕ → ℕ → Ordering) (p : ℕ) (b : Buckets) (f :
   pub few : comparisons ≤ 50000
   pub stands : Stands cmp p b' sw' sc'
 
--- the len terms at `from` in the work space are to be merged with bucket l and those above it
-pub record Carry (p : ℕ) (b : Buckets) (l : Level) (from len : ℕ) (ww wc sw sc : List ℕ) : Type 0 where
+-- the len terms at `from` in the work space are to be merged with bucket i and those above it
+pub record Carry (p : ℕ) (b : Buckets) (i : ℕ) (from len : ℕ) (ww wc sw sc : List ℕ) : Type 0 where
   pub stands : Stands compare p b (ww ++ sw) (wc ++ sc)
   pub slices : Slices ww wc sw sc
-  pub level-is : l ≡ level_at l.bucket
-  pub within : l.bucket < 6
+  pub within : i < 6
   pub some : 0 < len
   pub canonical : Canonical compare p (terms (part from len ww) (part from len wc))
-  pub fits : len ≤ capacity l.bucket
+  pub fits : len ≤ capacity i
   pub in-work : from + len ≤ work_places
-  pub apart : (from + len ≤ 4 * start l.bucket) ⊎ (free ≤ from)
-  pub room : len + held (list_from (bucket_at b (ww ++ sw) (wc ++ sc)) l.bucket (6 - l.bucket)) ≤ most_terms
+  pub apart : (from + len ≤ 4 * start i) ⊎ (free ≤ from)
+  pub room : len + held (list_from (bucket_at b (ww ++ sw) (wc ++ sc)) i (6 - i)) ≤ most_terms
 
 -- the buckets are those of the published carry, with its comparisons
-pub record CarryDone (p : ℕ) (b : Buckets) (l : Level) (f : List (Term ℕ)) (sw sc : List ℕ) (b' : Buckets) (sw' sc' : List ℕ) (r : ℕ) : Type 0 where
-  pub lists-are : buckets_in b' sw' sc' ≡ list_from (bucket_at b sw sc) 0 l.bucket ++ carry compare p (capacity l.bucket) f (list_from (bucket_at b sw sc) l.bucket (6 - l.bucket))
-  pub count-is : r ≡ length (carry_compared compare p (capacity l.bucket) f (list_from (bucket_at b sw sc) l.bucket (6 - l.bucket)))
+pub record CarryDone (p : ℕ) (b : Buckets) (i : ℕ) (f : List (Term ℕ)) (sw sc : List ℕ) (b' : Buckets) (sw' sc' : List ℕ) (r : ℕ) : Type 0 where
+  pub lists-are : buckets_in b' sw' sc' ≡ list_from (bucket_at b sw sc) 0 i ++ carry compare p (capacity i) f (list_from (bucket_at b sw sc) i (6 - i))
+  pub count-is : r ≡ length (carry_compared compare p (capacity i) f (list_from (bucket_at b sw sc) i (6 - i)))
   pub few : r ≤ 50000
   pub stands : Stands compare p b' sw' sc'
 
--- the len terms at `from` are to be merged with those of bucket l, one of buckets 0 to 4, to its free area
-pub record MergeUp (p : ℕ) (b : Buckets) (l : Level) (from len : ℕ) (ww wc : List ℕ) : Type 0 where
+-- the len terms at `from` are to be merged with those of bucket i, one of buckets 0 to 4, to its free area
+pub record MergeUp (p : ℕ) (b : Buckets) (i : ℕ) (from len : ℕ) (ww wc : List ℕ) : Type 0 where
   pub modulus : Modulus p
   pub laid : Laid b
-  pub level-is : l ≡ level_at l.bucket
-  pub within : l.bucket < 5
+  pub within : i < 5
   pub some : 0 < len
   pub canonical : Canonical compare p (terms (part from len ww) (part from len wc))
-  pub there : Canonical compare p (bucket_at b ww wc l.bucket)
-  pub fits : len ≤ capacity l.bucket
+  pub there : Canonical compare p (bucket_at b ww wc i)
+  pub fits : len ≤ capacity i
   pub in-work : from + len ≤ work_places
-  pub apart : (from + len ≤ 4 * start l.bucket) ⊎ (free ≤ from)
+  pub apart : (from + len ≤ 4 * start i) ⊎ (free ≤ from)
   pub work-words : length ww ≡ work_places
   pub work-coefs : length wc ≡ work_places

@@ -10,7 +10,7 @@ ghost use Rattle.buckets.specs.Last.{Large, LastMerged, last_at};
 
 use crate::last::merge_last;
 use crate::level::{Level, level_for};
-use crate::up::{merge_up, other_area};
+use crate::up::merge_up;
 use limits::MOST_TERMS;
 use merge_common::keys::{put_keys, put_terms};
 use polynomial::ring::Ring;
@@ -19,12 +19,13 @@ use space::state::{head_of, place, side_of, turn};
 // Past the areas, the work space has room for a polynomial that is small: one of buckets 0 to 4 takes it.
 pub const FREE: usize = 5456;
 
+// The most terms that a small polynomial has: the capacity of bucket 4.
 pub const MOST_SMALL: usize = 1024;
 
 // Adds the polynomial f, and gives the comparisons.
-// Kept: the lent slices as parameters of their own, and `WordAddition`, `Slices` and `Addition` on all of them at
-// once, here and below: as fields of a struct of `&mut` slices, a contract would name each one before and after,
-// and say of each that it is still the slice that was lent, which a parameter says of itself.
+// Kept: the lent slices as parameters of their own, with `WordAddition`, `Slices` and `Addition` on all of them at
+// once, here and below: where a slice is a `&mut` field of a struct and is passed on as `&[T]`, a proof knows its
+// length afterwards and no element, so each function would take the struct apart into these slices first.
 pub fn add_polynomial(
     ring: Ring,
     b: &mut [usize],
@@ -45,6 +46,10 @@ pub fn add_polynomial(
 }
 
 // A small polynomial is put past the areas of the work space, with keys for words, and added from there.
+// Kept: this and `add_large` beside `add_tail` and `add_large` of `reducer::divide`, which fill otherwise. With the
+// filling as a closure its contract (`F.post`) would have to say what it leaves in two lent slices, in the work
+// space from `FREE` on and in local arrays alike, and what it leaves as it was. And `add_large` here fills no
+// coefficients: `merge_last` reads them where they are lent, and a common function would copy them.
 fn put_and_add(
     ring: Ring,
     b: &mut [usize],
@@ -119,8 +124,8 @@ fn carry(
     ww: &mut [u64],
     wc: &mut [u32],
 ) -> u64
-    requires { Carry p b.old lowest first amount ww.old wc.old sw.old sc.old }
-    ensures { CarryDone p b.old lowest (terms (part first amount ww.old) (part first amount wc.old)) (ww.old ++ sw.old) (wc.old ++ sc.old) b.new (ww.new ++ sw.new) (wc.new ++ sc.new) result }
+    requires { Carry p b.old lowest.bucket first amount ww.old wc.old sw.old sc.old }
+    ensures { CarryDone p b.old lowest.bucket (terms (part first amount ww.old) (part first amount wc.old)) (ww.old ++ sw.old) (wc.old ++ sc.old) b.new (ww.new ++ sw.new) (wc.new ++ sc.new) result }
 {
     let mut l = lowest;
     let mut from = first;
@@ -128,9 +133,9 @@ fn carry(
     let mut n: u64 = 0;
     while l.bucket < 5 {
         let side = side_of(b, l.bucket);
-        let m = merge_up(p, b, l, from, len, ww, wc);
+        let m = merge_up(p, b, l.bucket, from, len, ww, wc);
         if m.len <= l.cap {
-            turn(b, l.bucket, m.head, m.len, other_area(l, side));
+            turn(b, l.bucket, m.head, m.len, l.other_area(side));
             return n + m.comparisons;
         }
         let h = head_of(b, l.bucket);

@@ -10,7 +10,7 @@ use space::state::held;
 
 // The four counts of a call.
 #[repr(C)]
-#[derive(Clone, Copy)]
+#[derive(Clone, Copy, Default)]
 pub struct Tally {
     pub comparisons: u64,
     pub brought: u64,

@@ -80,18 +80,18 @@ impl State {
     pub fn close(self) -> Self
         ensures { result ≡ closed self }
     {
-        self.turn(Course::Finished)
+        self.with_course(Course::Finished)
     }
 
     // The call is stopped by a refusal.
     pub fn halt(self, refusal: Refusal) -> Self
         ensures { result ≡ halted self refusal }
     {
-        self.turn(Course::Refused(refusal))
+        self.with_course(Course::Refused(refusal))
     }
 
     // The course is set, and nothing else changes.
-    fn turn(self, course: Course) -> Self
+    fn with_course(self, course: Course) -> Self
         ensures { result ≡ turned self course }
     {
         State { course, ..self }

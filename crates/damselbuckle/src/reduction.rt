@@ -7,19 +7,18 @@ ghost use Rattle.reduction_outcome.specs.Outcome.{reduction_outcome};
 
 use answers::course::ReductionAnswer;
 use call::answer::Tally;
-use reductions::reduce;
+use reductions::reduce_in_place;
 
-// The reduction `reductions::reduce`, with the answer as numbers and the counts set in place. An opening refusal
-// changes nothing.
+// The entry `reductions::reduce_in_place`. An opening refusal changes nothing.
 #[unsafe(no_mangle)]
-pub extern "C" fn damselbuckle_reduce<'t, 'a>(
-    tally: &'t mut Tally,
+pub extern "C" fn damselbuckle_reduce(
+    tally: &mut Tally,
     p: u32,
     order: u32,
     n: u32,
     weights: &[u32],
-    words: &'a [u64],
-    coefs: &'a [u32],
+    words: &[u64],
+    coefs: &[u32],
     starts: &[usize],
     limit: u64,
     bw: &mut [u64],
@@ -33,9 +32,8 @@ pub extern "C" fn damselbuckle_reduce<'t, 'a>(
         (record { answer = reduction_stated result; tally = tally.new; bw = bw.new; bc = bc.new; ww = ww.new; wc = wc.new; ow = ow.new; oc = oc.new })
         (reduction_outcome tally.old (setting_of p order n weights.now) words.now coefs.now starts.now limit bw.old bc.old ww.old wc.old ow.old oc.old) }
 {
-    let reduced = reduce(
-        *tally, p, order, n, weights, words, coefs, starts, limit, bw, bc, ww, wc, ow, oc,
+    let answer = reduce_in_place(
+        tally, p, order, n, weights, words, coefs, starts, limit, bw, bc, ww, wc, ow, oc,
     );
-    *tally = reduced.tally;
-    ReductionAnswer::from(reduced.answer)
+    ReductionAnswer::from(answer)
 }

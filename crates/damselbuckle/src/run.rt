@@ -7,19 +7,18 @@ ghost use Rattle.run_outcome.specs.Outcome.{run_outcome};
 
 use answers::course::RunAnswer;
 use call::answer::Tally;
-use runs::run;
+use runs::run_in_place;
 
-// The run `runs::run`, with the answer as numbers and the counts set in place. An opening refusal
-// changes nothing.
+// The entry `runs::run_in_place`. An opening refusal changes nothing.
 #[unsafe(no_mangle)]
-pub extern "C" fn damselbuckle_run<'t, 'a>(
-    tally: &'t mut Tally,
+pub extern "C" fn damselbuckle_run(
+    tally: &mut Tally,
     p: u32,
     order: u32,
     n: u32,
     weights: &[u32],
-    words: &'a [u64],
-    coefs: &'a [u32],
+    words: &[u64],
+    coefs: &[u32],
     starts: &[usize],
     ops: &[usize],
     bw: &mut [u64],
@@ -33,9 +32,8 @@ pub extern "C" fn damselbuckle_run<'t, 'a>(
         (record { answer = run_stated result; tally = tally.new; bw = bw.new; bc = bc.new; ww = ww.new; wc = wc.new; ow = ow.new; oc = oc.new })
         (run_outcome tally.old (setting_of p order n weights.now) words.now coefs.now starts.now ops.now bw.old bc.old ww.old wc.old ow.old oc.old) }
 {
-    let ran = run(
-        *tally, p, order, n, weights, words, coefs, starts, ops, bw, bc, ww, wc, ow, oc,
+    let answer = run_in_place(
+        tally, p, order, n, weights, words, coefs, starts, ops, bw, bc, ww, wc, ow, oc,
     );
-    *tally = ran.tally;
-    RunAnswer::from(ran.answer)
+    RunAnswer::from(answer)
 }

@@ -5,6 +5,7 @@ use Rattle.residue.specs.Prime.{Prime}
 use Rattle.monomial.specs.Words.{Packed, divides_word}
 use Rattle.polynomial.specs.Opening.{part_of}
 use Rattle.multiple.specs.Multiplying.{highest_word}
+use Rattle.divisors.specs.declared.kept.Cache.{Cache}
 
 -- the lead of polynomial k
 abbrev pub lead_word : (words starts : List ℕ) → ℕ → ℕ
@@ -71,30 +72,37 @@ pub record Multiplying (p x kept : ℕ) : Type 0 where
   pub below : inverse_in p kept < p
   pub kept-is : kept ≡ in_one p (inverse_in p kept)
 
--- ---- what is kept of the first 1,024 divisors, as far as it was asked for: the inverses of the lead coefficients, then the highest exponents of the tails. 0 stands for what was not asked for yet
+-- ---- what is kept of the first 1,024 divisors, as far as it was asked for: the inverses of the lead coefficients, and the highest exponents of the tails, those of divisor k at k - 1. 0 stands for what was not asked for yet
 
 -- at each divisor's place is its number, or 0
-abbrev pub KeptAt : (place number : ℕ → ℕ) → List ℕ → Type 0
-KeptAt place number kept = (k : ℕ) → 1 ≤ k → k ≤ 1024 → (get_or kept (place k) 0 ≡ 0) ⊎ (get_or kept (place k) 0 ≡ number k)
+abbrev pub KeptAt : (number : ℕ → ℕ) → List ℕ → Type 0
+KeptAt number kept = (k : ℕ) → 1 ≤ k → k ≤ 1024 → (get_or kept (k - 1) 0 ≡ 0) ⊎ (get_or kept (k - 1) 0 ≡ number k)
 
-pub record KeptNumbers (p : ℕ) (words coefs starts kept : List ℕ) : Type 0 where
-  pub long : length kept ≡ 2048
-  pub inverses : KeptAt (λ k. k - 1) (λ k. in_one p (inverse_of p (lead_coef coefs starts k))) kept
-  pub tails : KeptAt (λ k. 1023 + k) (λ k. highest_word (tail_of starts k words)) kept
+pub record KeptNumbers (p : ℕ) (words coefs starts : List ℕ) (kept : Cache) : Type 0 where
+  pub inverses : KeptAt (λ k. in_one p (inverse_of p (lead_coef coefs starts k))) kept.inverses
+  pub tails : KeptAt (λ k. highest_word (tail_of starts k words)) kept.highest
 
--- the number x of divisor k belongs at this place
-pub record Keepable (k at x : ℕ) (kept : List ℕ) : Type 0 where
+-- the number x of divisor k belongs at its place
+pub record Keepable (k x : ℕ) (kept : List ℕ) : Type 0 where
   pub low : 1 ≤ k
-  pub long : length kept ≡ 2048
-  pub here : k ≤ 1024 → (get_or kept at 0 ≡ 0) ⊎ (get_or kept at 0 ≡ x)
+  pub here : k ≤ 1024 → (get_or kept (k - 1) 0 ≡ 0) ⊎ (get_or kept (k - 1) 0 ≡ x)
 
 -- it was put there, or nothing was changed
-abbrev pub PutOrNot : (k at x : ℕ) (kept kept' : List ℕ) → Type 0
-PutOrNot k at x kept kept' = (kept' ≡ kept) ⊎ ((k ≤ 1024) × (kept' ≡ set kept at x))
+abbrev pub PutOrNot : (k x : ℕ) (kept kept' : List ℕ) → Type 0
+PutOrNot k x kept kept' = (kept' ≡ kept) ⊎ ((k ≤ 1024) × (kept' ≡ set kept (k - 1) x))
+
+-- and nothing else that is kept was changed
+pub record InverseKept (k x : ℕ) (kept kept' : Cache) : Type 0 where
+  pub put : PutOrNot k x kept.inverses kept'.inverses
+  pub same : kept'.highest ≡ kept.highest
+
+pub record HighestKept (k x : ℕ) (kept kept' : Cache) : Type 0 where
+  pub put : PutOrNot k x kept.highest kept'.highest
+  pub same : kept'.inverses ≡ kept.inverses
 
 -- x is what is kept of one of the first 1,024 divisors, or was made
-abbrev pub KnownOr : (k at : ℕ) (kept : List ℕ) (Made : ℕ → Type 0) → ℕ → Type 0
-KnownOr k at kept Made x = ((k ≤ 1024) × (x ≡ get_or kept at 0) × (x ≡ 0 → ⊥)) ⊎ Made x
+abbrev pub KnownOr : (k : ℕ) (kept : List ℕ) (Made : ℕ → Type 0) → ℕ → Type 0
+KnownOr k kept Made x = ((k ≤ 1024) × (x ≡ get_or kept (k - 1) 0) × (x ≡ 0 → ⊥)) ⊎ Made x
 
 pub record Inverting (p : ℕ) (coefs starts : List ℕ) (k : ℕ) (kept : List ℕ) : Type 0 where
   pub modulus : Modulus p
@@ -103,4 +111,4 @@ pub record Inverting (p : ℕ) (coefs starts : List ℕ) (k : ℕ) (kept : List 
   pub inside : get_or starts k 0 < length coefs
   pub pos : 0 < lead_coef coefs starts k
   pub small : lead_coef coefs starts k < p
-  pub keepable : Keepable k (k - 1) (in_one p (inverse_of p (lead_coef coefs starts k))) kept
+  pub keepable : Keepable k (in_one p (inverse_of p (lead_coef coefs starts k))) kept

@@ -12,8 +12,8 @@ use polynomial::part::Polynomials;
 // the goal `returns` stays open.
 // Kept: `Leads` in three clauses, here and below. As a ghost field of a struct around `ps` it is proved at the same
 // two calls of the reducer, and every clause here names `ps` through one field more.
-pub fn keep_leads(ps: Polynomials, leads: &mut [u64])
-    requires { Leads ps.words.now ps.starts.now × (length leads.old ≡ 1024) }
+pub fn keep_leads(ps: Polynomials, leads: &mut [u64; KEPT])
+    requires { Leads ps.words.now ps.starts.now }
     ensures { KeptLeads ps.entry.words.now ps.entry.starts.now leads.new }
 {
     let n = count_kept(ps.starts);
@@ -24,7 +24,7 @@ pub fn keep_leads(ps: Polynomials, leads: &mut [u64])
 
 // The first polynomial from 1 on whose lead monomial divides `word`. Most are found among the leads that
 // are kept, which lie side by side.
-pub fn first_fit(ps: Polynomials, leads: &[u64], word: u64) -> Option<usize>
+pub fn first_fit(ps: Polynomials, leads: &[u64; KEPT], word: u64) -> Option<usize>
     requires { Leads ps.words.now ps.starts.now × KeptLeads ps.words.now ps.starts.now leads.now × Packed word }
     ensures { MatchOption result (FirstFit ps.entry.words.now ps.entry.starts.now word (length ps.entry.starts.now - 1)) (λ k. FirstFit ps.entry.words.now ps.entry.starts.now word k × (k + 1 < length ps.entry.starts.now)) }
 {

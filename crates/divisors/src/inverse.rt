@@ -5,9 +5,9 @@ ghost use Rattle.std.specs.Prelude.{◌≡◌, ◌+◌, ◌-◌, ◌*◌, ◌/�
 ghost use Rattle.residue.specs.Modular.{Modulus, product, inverse_of};
 ghost use Rattle.residue.specs.Prime.{Prime};
 ghost use Rattle.residue.specs.Share.{FactorOf};
-ghost use Rattle.divisors.specs.Divisors.{lead_coef, in_one, inverse_in, PutOrNot, Inverting, Multiplying};
+ghost use Rattle.divisors.specs.Divisors.{lead_coef, in_one, inverse_in, InverseKept, Inverting, Multiplying};
 
-use crate::kept::kept_or;
+use crate::kept::{Cache, kept_or};
 use polynomial::part::Polynomials;
 use residue::factor::Factor;
 use residue::inverse::invert;
@@ -23,12 +23,12 @@ const WORD: u64 = 0x1_0000_0000;
 const PARTS: u64 = 0x1_0000_0000_0000;
 
 // The inverse of the lead coefficient of divisor k, in one number, which is kept.
-pub fn lead_inverse(p: u32, ps: Polynomials, k: usize, kept: &mut [u64]) -> u64
-    requires { Inverting p ps.coefs.now ps.starts.now k kept.old }
-    ensures { (result ≡ in_one p (inverse_of p (lead_coef ps.entry.coefs.now ps.entry.starts.now k))) × PutOrNot k (k - 1) result kept.old kept.new }
+pub fn lead_inverse(p: u32, ps: Polynomials, k: usize, kept: &mut Cache) -> u64
+    requires { Inverting p ps.coefs.now ps.starts.now k kept.old.inverses }
+    ensures { (result ≡ in_one p (inverse_of p (lead_coef ps.entry.coefs.now ps.entry.starts.now k))) × InverseKept k result kept.old kept.new }
 {
     let c = ps.coefs[ps.starts[k]];
-    kept_or(kept, 0, k, || inverse_in_one(c, p))
+    kept_or(&mut kept.inverses, k, || inverse_in_one(c, p))
 }
 
 // The inverse of c in one number.
@@ -65,8 +65,8 @@ pub fn factor_by(p: u32, x: u32, kept: u64) -> Factor
 }
 
 // A number below p in one number with its share: the one division.
-// Kept: a value and its share in one number. A struct would take 16 bytes for each of 1,024 inverses on the stack,
-// since for a small p the share has 48 bits; and 0 could not stand for one that was not asked for.
+// Kept: a value and its share in one number. A struct of both would take 16 bytes, since for a small p the share has
+// 48 bits: 8,192 bytes more for the 1,024 that are kept on the stack (see `kept`).
 fn in_one(value: u32, p: u32) -> u64
     requires { Modulus p × (value < p) }
     ensures { result ≡ in_one p value }

@@ -1,31 +1,35 @@
 // What is kept of the divisors, so that it is made once for each.
-ghost use Rattle.std.specs.Prelude.{◌≡◌, ◌+◌, ◌-◌, ◌≤◌, length};
+ghost use Rattle.std.specs.Prelude.{◌≤◌};
 ghost use Rattle.divisors.specs.Divisors.{KnownOr, PutOrNot};
 
 // How many divisors have something kept of them.
 pub const KEPT: usize = 1024;
 
-// A number of divisor k, which `make` makes. Those of the first 1,024 divisors are kept from place `first`
-// on, and 0 stands for one that was not asked for yet.
-// Kept: 0 for one that was not asked for. A reduction has 2,048 of these numbers on its stack, 16,384 bytes; as
-// `Option<u64>` they take 32,768 in the code that is made, of the 100,000 that docs/INTEGRATION.md names.
-// Kept: one slice for both numbers of a divisor: as two, `step`, `divide` and their clauses would each have one
-// more, and `kept_or` would be no shorter.
-pub fn kept_or<F: FnOnce() -> u64>(kept: &mut [u64], first: usize, k: usize, make: F) -> u64
+// What is kept of the first 1,024 divisors, that of divisor k at k - 1: the inverse of its lead coefficient, and the
+// highest exponents of its tail. 0 stands for one that was not asked for yet.
+// Kept: 0 for that: fixed memory, as the project has no heap. As `Option<u64>` the two arrays would take 16,384 bytes
+// more of a stack of 100,000 (docs/INTEGRATION.md), of which a reduction by many terms needs some 80,000 already.
+#[derive(Drop)]
+pub struct Cache {
+    pub inverses: [u64; KEPT],
+    pub highest: [u64; KEPT],
+}
+
+// A number of divisor k, which `make` makes, and which is kept of the first 1,024 divisors.
+pub(crate) fn kept_or<F: FnOnce() -> u64>(kept: &mut [u64; KEPT], k: usize, make: F) -> u64
     requires callable { F.IsAlwaysCallable make }
-    requires room { (1 ≤ k) × (first ≤ 1024) × (length kept.old ≡ 2048) }
-    ensures value { KnownOr k (first + k - 1) kept.old (F.post make) result }
-    ensures put { PutOrNot k (first + k - 1) result kept.old kept.new }
+    requires counted { 1 ≤ k }
+    ensures value { KnownOr k kept.old (F.post make) result }
+    ensures put { PutOrNot k result kept.old kept.new }
 {
     if k > KEPT {
         return make();
     }
-    let at = first + k - 1;
-    let known = kept[at];
+    let known = kept[k - 1];
     if known != 0 {
         return known;
     }
     let made = make();
-    kept[at] = made;
+    kept[k - 1] = made;
     made
 }

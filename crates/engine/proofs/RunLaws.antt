@@ -3,13 +3,12 @@ use mathlib.Core.Path.{◌≡◌, refl, sym, ap, ap₂, ◌∙◌, subst}
 use mathlib.Core.Bool.{Bool, true, false}
 use mathlib.Core.List.{List, [], ◌∷◌}
 use mathlib.Core.Logic.{◌⊎◌, ⊎_elim}
-use Prim.Native.Nat.{ℕ, zero, suc, ◌+◌, ◌-◌, ◌*◌, ◌/◌, ◌<◌, ◌≤◌, Ordering}
+use Prim.Native.Nat.{ℕ, suc, ◌+◌, ◌-◌, ◌*◌, ◌<◌, ◌≤◌, Ordering}
 use native.Mathlib.Numerals.{add-one}
 use native.Mathlib.Omega.{arith}
 use lib.Dec.{eqb}
 use lib.ListN.{length, drop, get_or, drop_of_length-le}
 use lib.Seq.{drop-cons, drop-drop}
-use Rattle.std.specs.Simd.{first_chunks}
 use Rattle.monomial.specs.declared.order.Order.{Order}
 use Rattle.monomial.specs.Words.{compare_words}
 use Rattle.polynomial.specs.Terms.{terms}
@@ -66,21 +65,6 @@ module _ (cmp : ℕ → ℕ → Ordering) (p places : ℕ) where
   resume-stopped : (os : List Operation) (t : Running) → eqb t.stop 0 ≡ false → resume os t ≡ t
   unfolding resume
   resume-stopped os t e = rw (e, resume) refl
-
--- ---- pair j of a list of whole pairs
-pair-at : (k j : ℕ) (ops : List ℕ) → j < k → length ops ≡ 2 * k → (get_or (get_or (first_chunks 2 k ops) j []) 0 0 ≡ get_or ops (2 * j) 0) × (get_or (get_or (first_chunks 2 k ops) j []) 1 0 ≡ get_or ops (2 * j + 1) 0)
-pair-at zero j ops h e = absurd (let z : ⊥ = omega arith in z)
-pair-at (suc k) j [] h e = absurd (let z : ⊥ = omega arith in z)
-pair-at (suc k) j (a ∷ []) h e = absurd (let z : ⊥ = omega arith in z)
-pair-at (suc k) zero (a ∷ (b ∷ ops)) h e = (refl, refl)
-pair-at (suc k) (suc j) (a ∷ (b ∷ ops)) h e =
-    let r = pair-at k j ops (omega arith) (omega arith) in
-    (r.0 ∙ ap (λ (n : ℕ). get_or (a ∷ (b ∷ ops)) n 0) (let z : suc (suc (2 * j)) ≡ 2 * suc j = omega arith in z), r.1 ∙ ap (λ (n : ℕ). get_or (a ∷ (b ∷ ops)) n 0) (let z : suc (suc (2 * j + 1)) ≡ 2 * suc j + 1 = omega arith in z))
-
-pub asked-at : {q : Asked} {ps : List (List ℕ)} (ops : List ℕ) (j : ℕ) → ps ≡ first_chunks 2 (length ops / 2) ops → j < length ops / 2 → length ops ≡ 2 * (length ops / 2) → q ≡ operation (get_or (get_or ps j []) 0 0) (get_or (get_or ps j []) 1 0) → q ≡ operation (get_or ops (2 * j) 0) (get_or ops (2 * j + 1) 0)
-asked-at ops j front h e is =
-    let r = pair-at (length ops / 2) j ops h e in
-    is ∙ (ap (λ (ps : List (List ℕ)). operation (get_or (get_or ps j []) 0 0) (get_or (get_or ps j []) 1 0)) front ∙ ap₂ operation r.0 r.1)
 
 -- ---- the loop: the next operation is pair j, at place i
 pub record Going (o : Order) (p : ℕ) (words coefs starts ops ow₀ oc₀ : List ℕ) (x : Spaces) (ww wc bw bc ow oc : List ℕ) (s : State) (i : ℕ) : Type 0 where

@@ -13,8 +13,9 @@ use polynomial::part::Polynomials;
 use polynomial::ring::Ring;
 
 // One operation of a list that passed the opening checks.
-// Kept: the lent slices as parameters of their own, here and below: in a struct of `&mut` slices a contract would
-// name each one before and after, and say of each that it is still the slice that was lent.
+// Kept: the lent slices as parameters of their own, here and below. In a struct of `&mut` slices each function would
+// have to ensure of every field that it still has the ghost name of the slice that was lent; and of a field that is
+// passed on as `&[T]`, without a name of its own first, a proof knows the length, and no element.
 pub fn operate(
     ring: Ring,
     ps: Polynomials,
@@ -33,9 +34,8 @@ pub fn operate(
 {
     match operation {
         Operation::Add(k) => {
-            let fw = ps.words_of(k);
-            let fc = ps.coefs_of(k);
-            add_operation(ring, s, b, fw, fc, bw, bc, ww, wc)
+            let f = ps.part(k);
+            add_operation(ring, s, b, f.words, f.coefs, bw, bc, ww, wc)
         }
         Operation::Lead => lead_operation(ring, s, b, bw, bc, ww, wc, ow, oc),
         Operation::Sum => sum_operation(ring, s, b, bw, bc, ww, wc, ow, oc),
@@ -60,11 +60,11 @@ pub fn operate_all(
 {
     let mut s = State::new();
     let (pairs, _) = ops.as_chunks::<2>();
-    for pair in pairs {
+    for &[code, k] in pairs {
         if !s.goes_on() {
             return s;
         }
-        let operation = Operation::of(pair[0], pair[1]);
+        let operation = Operation::of(code, k);
         s = operate(ring, ps, operation, s, b, bw, bc, ww, wc, ow, oc);
     }
     s

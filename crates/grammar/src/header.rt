@@ -29,6 +29,8 @@ fn number_behind(s: &[u8], word: &[u8]) -> Option<u32>
 }
 
 // The order that a line names.
+// Kept: no `match` on the three texts, which was tried: its arm `_` leaves a goal for each byte at which a text can
+// differ, twelve under names that may change, where each test here leaves one.
 fn read_order(s: &[u8]) -> Option<Order>
     ensures { result ≡ found (order_read s.now) }
 {

@@ -33,6 +33,13 @@ use Rattle.listing_lines.specs.Listing.{answers_text, cost_text, refused_text}
 use Rattle.listing.specs.Whole.{ran_by, ran_text, RanRoom, no_tally, loaded_text}
 use Rattle.listing_lines.proofs.PutLaws.{put_both, put_same}
 
+same-tally : {a b c d a' b' c' d' : ℕ} → a ≡ a' → b ≡ b' → c ≡ c' → d ≡ d' → ◌≡◌ {A = Tally} (record { comparisons = a; brought = b; given = c; held = d }) (record { comparisons = a'; brought = b'; given = c'; held = d' })
+same-tally p q r s = cc
+
+-- the default of a tally
+pub tally-none : (t : Tally) → t.comparisons ≡ 0 → t.brought ≡ 0 → t.given ≡ 0 → t.held ≡ 0 → t ≡ no_tally
+tally-none t p q r s = same-tally p q r s
+
 pub places-done : {tally : Tally} {answer : Result Done Stopped} {ow oc : ℕ} {d : Done} → RanRoom tally (stated answer) ow oc → answer ≡ Ok d → d.places ≤ ow
 places-done r e = rw e at r.places-in
 

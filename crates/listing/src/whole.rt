@@ -7,10 +7,11 @@ ghost use Rattle.listing.specs.Whole.{ran_text, RanRoom, loaded_text, listing_of
 
 use call::answer::{Returned, Tally};
 use limits::{BUCKET_PLACES, SCRIPT_NUMBERS, SCRIPT_STARTS, SCRIPT_TERMS, WORK_PLACES};
-use listing_lines::answers::put_answers;
 use listing_lines::ending::{put_cost, put_refused};
+use listing_lines::term::Variables;
 use polynomial::part::Polynomials;
-use refusal::{Refusal, number_of};
+use polynomial::terms::Terms;
+use refusal::Refusal;
 use runs::run;
 use script::reader::{Loaded, read_script};
 
@@ -22,10 +23,18 @@ fn put_ran(ran: Returned, l: Loaded, ops: &[usize], ow: &[u64], oc: &[u32], out:
     match ran.answer {
         Ok(done) => {
             let m = done.places as usize;
-            let at = put_answers(l.order, l.vars, ops, &ow[..m], &oc[..m], out);
+            let variables = Variables {
+                order: l.order,
+                n: l.vars,
+            };
+            let given = Terms {
+                words: &ow[..m],
+                coefs: &oc[..m],
+            };
+            let at = variables.put_answers(ops, given, out);
             put_cost(ran.tally.comparisons, ran.tally.brought, out, at)
         }
-        Err(stopped) => put_refused(number_of(stopped.refusal), stopped.finished, out, 0),
+        Err(stopped) => put_refused(stopped.refusal.number(), stopped.finished, out, 0),
     }
 }
 
@@ -41,12 +50,7 @@ fn list_run(l: Loaded, ps: Polynomials<'_>, ops: &[usize], out: &mut [u8]) -> us
     let mut wc = [0u32; WORK_PLACES];
     let mut ow = [0u64; SCRIPT_TERMS];
     let mut oc = [0u32; SCRIPT_TERMS];
-    let none = Tally {
-        comparisons: 0,
-        brought: 0,
-        given: 0,
-        held: 0,
-    };
+    let none = Tally::default();
     let order = l.order.number();
     let ran = run(
         none, l.prime, order, l.vars, &l.weights, ps.words, ps.coefs, ps.starts, ops, &mut bw,
@@ -65,7 +69,7 @@ pub fn put_listing(script: &[u8], out: &mut [u8]) -> usize
     let mut ops = [0usize; SCRIPT_NUMBERS];
     let found = read_script(script, &mut words, &mut coefs, &mut starts, &mut ops);
     let Some(l) = found else {
-        return put_refused(number_of(Refusal::BadScript), 0, out, 0);
+        return put_refused(Refusal::BadScript.number(), 0, out, 0);
     };
     let counts = l.counts;
     let ps = Polynomials {

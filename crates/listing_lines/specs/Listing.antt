@@ -79,20 +79,20 @@ answers_text o n (code ∷ []) ts = []
 answers_text o n (code ∷ (k ∷ os)) ts = answer_by (eqb code 1) (eqb code 2) o n ts ++ answers_text o n os (behind_by (eqb code 1) (eqb code 2) ts)
 
 -- ---- what the code hands back
-pub record TermsPut (o : Order) (n i : ℕ) (ow oc : List ℕ) (at : ℕ) (out out' : List ℕ) (r : Next) : Type 0 where
-  pub put : Put (terms_text o n (sum_terms (drop i (terms ow oc)))) at out out' r.at
-  pub place : r.place ≡ i + length (sum_terms (drop i (terms ow oc)))
-  pub within : r.place ≤ length ow
+pub record TermsPut (o : Order) (n : ℕ) (ow oc : List ℕ) (at : ℕ) (out out' : List ℕ) (r : Next) : Type 0 where
+  pub put : Put (terms_text o n (sum_terms (terms ow oc))) at out out' r.at
+  pub read : r.read ≡ length (sum_terms (terms ow oc))
+  pub within : r.read ≤ length ow
 
-pub record AnswerPut (o : Order) (n code i : ℕ) (ow oc : List ℕ) (at : ℕ) (out out' : List ℕ) (r : Next) : Type 0 where
-  pub put : Put (answer_by (eqb code 1) (eqb code 2) o n (drop i (terms ow oc))) at out out' r.at
-  pub behind : drop r.place (terms ow oc) ≡ behind_by (eqb code 1) (eqb code 2) (drop i (terms ow oc))
-  pub within : r.place ≤ length ow
+pub record SumPut (o : Order) (n : ℕ) (ow oc : List ℕ) (at : ℕ) (out out' : List ℕ) (r : Next) : Type 0 where
+  pub put : Put (sum_text o n (terms ow oc)) at out out' r.at
+  pub read : r.read ≡ length (sum_terms (terms ow oc))
+  pub within : r.read ≤ length ow
 
-pub record SumPut (o : Order) (n i : ℕ) (ow oc : List ℕ) (at : ℕ) (out out' : List ℕ) (r : Next) : Type 0 where
-  pub put : Put (sum_text o n (drop i (terms ow oc))) at out out' r.at
-  pub place : r.place ≡ i + length (sum_terms (drop i (terms ow oc)))
-  pub within : r.place ≤ length ow
+pub record AnswerPut (o : Order) (n code : ℕ) (ow oc : List ℕ) (at : ℕ) (out out' : List ℕ) (r : Next) : Type 0 where
+  pub put : Put (answer_by (eqb code 1) (eqb code 2) o n (terms ow oc)) at out out' r.at
+  pub behind : drop r.read (terms ow oc) ≡ behind_by (eqb code 1) (eqb code 2) (terms ow oc)
+  pub within : r.read ≤ length ow
 
 -- ---- the last line
 

@@ -43,8 +43,8 @@ pub fn put_cost(comparisons: u64, brought: u64, out: &mut [u8], at: usize) -> us
 }
 
 // Puts `refused R at K`.
-// Kept: the refusal as a number: the clause `Put (refused_text number finished)` speaks of every number, and with a
-// `Refusal` here it would promise less.
+// Kept: may not change: the clause `Put (refused_text number finished)` is of every number, and a `Refusal` here would
+// be a narrower type than its `u32`.
 pub fn put_refused(number: u32, finished: u64, out: &mut [u8], at: usize) -> usize
     ensures { Put (refused_text number finished) at out.old out.new result }
 {

@@ -9,6 +9,13 @@ use crate::put::{put_byte, put_decimal};
 use monomial::exponents::exponent;
 use monomial::order::Order;
 
+// What a term's text follows: the number of variables, and the order, which lays their exponents out in a word.
+#[derive(Clone, Copy)]
+pub struct Variables {
+    pub order: Order,
+    pub n: u32,
+}
+
 // Puts the exponent of variable i, from 0, behind a dot unless it is the first.
 fn put_exponent(order: Order, w: u64, i: u32, out: &mut [u8], at: usize) -> usize
     requires { i < 6 }
@@ -22,24 +29,25 @@ fn put_exponent(order: Order, w: u64, i: u32, out: &mut [u8], at: usize) -> usiz
     put_decimal(u64::from(e), out, next)
 }
 
-// Puts the exponents of a word in n variables, parted by dots.
-pub fn put_exponents(order: Order, n: u32, w: u64, out: &mut [u8], at: usize) -> usize
-    ensures { Put (exponents_text order n w) at out.old out.new result }
-{
-    let most = n.min(6);
-    let mut to = at.min(out.len());
-    for i in 0..most {
-        to = put_exponent(order, w, i, out, to);
+impl Variables {
+    // Puts the exponents of a word, parted by dots.
+    pub fn put_exponents(self, w: u64, out: &mut [u8], at: usize) -> usize
+        ensures { Put (exponents_text self.order self.n w) at out.old out.new result }
+    {
+        let mut to = at.min(out.len());
+        for i in 0..self.n.min(6) {
+            to = put_exponent(self.order, w, i, out, to);
+        }
+        to
     }
-    to
-}
 
-// Puts a term behind a space.
-pub fn put_term(order: Order, n: u32, w: u64, c: u32, out: &mut [u8], at: usize) -> usize
-    ensures { Put (term_text order n (term w c)) at out.old out.new result }
-{
-    let from = put_byte(b' ', out, at);
-    let colon = put_decimal(u64::from(c), out, from);
-    let exps = put_byte(b':', out, colon);
-    put_exponents(order, n, w, out, exps)
+    // Puts a term behind a space.
+    pub fn put_term(self, w: u64, c: u32, out: &mut [u8], at: usize) -> usize
+        ensures { Put (term_text self.order self.n (term w c)) at out.old out.new result }
+    {
+        let from = put_byte(b' ', out, at);
+        let colon = put_decimal(u64::from(c), out, from);
+        let exps = put_byte(b':', out, colon);
+        self.put_exponents(w, out, exps)
+    }
 }

@@ -159,7 +159,7 @@ four R a b c d q = rw (a, b, c, d) q
 module _ {p : ℕ} {ww wc : List ℕ} {s : Ends} (y : Ready ww wc s) (g : Reducing p ww wc s) (hi : s.i < s.ie) (hj : s.j < s.je) where
   -- what a turn makes of the term that it stores
   abbrev After : (place : ℕ) → (Joined ℕ → Ends) → Joined ℕ → Type 0
-  After place next t = Turned p ww wc s (set ww place t.word) (set wc place t.coef) (next t)
+  After place next t = Turned p ww wc s (set ww place t.key) (set wc place t.coef) (next t)
 
   abbrev at_front : Joined ℕ → Ends
   at_front t = record { i = s.i + t.left; ie = s.ie; j = s.j + t.right; je = s.je; d = s.d + t.kept; e = s.e; turns = s.turns + 1 }

@@ -1,4 +1,5 @@
 // The merge of two areas of the work space to a third one, from both ends, for keys of one word or two.
+// Kept: words and coefficients are two slices, here, in `rest` and in `turns`, as C lends them (`damselbuckle_run`).
 #![tactic(auto)]
 
 ghost use Rattle.std.specs.Prelude.{◌≡◌};

@@ -42,6 +42,8 @@ pub fn source(i: usize, ie: usize, j: usize) -> usize
 }
 
 // Moves the rest of either list that is below the other one's last term to the end of the free places.
+// Kept: `Ready` and the bounds of `s`, here and below: the lent slices, of which `Ready` speaks, are not in `Ends`,
+// and a list may be used up.
 pub fn move_rest<K: Key>(ww: &mut [u64], wc: &mut [u32], s: Ends) -> Ends
     requires { Ready (key_numbers K.width ww.old) wc.old s × (s.i < s.ie) × (s.j < s.je) }
     ensures { Rested (key_numbers K.width ww.old) wc.old s (key_numbers K.width ww.new) wc.new result }
@@ -57,13 +59,10 @@ pub fn move_rest<K: Key>(ww: &mut [u64], wc: &mut [u32], s: Ends) -> Ends
     let e = s.e - left;
     move_terms::<K>(ww, wc, from, e, left);
     Ends {
-        i: s.i,
         ie: i,
-        j: s.j,
         je: j,
-        d: s.d,
         e,
-        turns: s.turns,
+        ..s
     }
 }
 
@@ -78,11 +77,9 @@ pub fn move_left<K: Key>(ww: &mut [u64], wc: &mut [u32], s: Ends) -> Ends
     move_terms::<K>(ww, wc, from, d, left);
     Ends {
         i: s.ie,
-        ie: s.ie,
         j: s.je,
-        je: s.je,
         d: d + left,
-        e: s.e,
         turns: s.turns + left as u64,
+        ..s
     }
 }

@@ -8,8 +8,8 @@ use merge_common::places::Key;
 
 // What is left of the two lists, at places i up to ie and j up to je, and the places d up to e that are
 // free for their merge, with the turns made.
-// Kept: `Ready`, `Reducing` and `s.i < s.ie` stand in the contracts here and in `rest`, and not in this type:
-// the first two say what lies in the lent slices, which it does not hold, and a list may be used up.
+// Kept: `Ready`, `Reducing` and `s.i < s.ie` are clauses and no part of this type: the first two say what lies in
+// the lent slices, which it does not hold, and a list may be used up.
 #[derive(Clone, Copy)]
 pub struct Ends {
     pub i: usize,
@@ -30,20 +30,21 @@ fn front<K: Key>(p: u32, ww: &mut [u64], wc: &mut [u32], s: Ends) -> Ends
     let j = s.j;
     let d = s.d;
     let t = join(K::at(ww, i), wc[i], K::at(ww, j), wc[j], p);
-    t.word.put(ww, d);
+    t.key.put(ww, d);
     wc[d] = t.coef;
     Ends {
         i: i + t.left,
-        ie: s.ie,
         j: j + t.right,
-        je: s.je,
         d: d + t.kept,
-        e: s.e,
         turns: s.turns + 1,
+        ..s
     }
 }
 
 // A turn at the back: the smaller of the two last terms is stored, or the sum of like ones, unless it is 0.
+// Kept: beside `front`. One function for both, with a const parameter as `join_by` has, would share the three lines
+// from the join to the stores: the places before them and the result would have two forms by it, and so would what it
+// is proved by (`front-step`, `back_step`).
 fn back<K: Key>(p: u32, ww: &mut [u64], wc: &mut [u32], s: Ends) -> Ends
     requires { Ready (key_numbers K.width ww.old) wc.old s × Reducing p (key_numbers K.width ww.old) wc.old s × (s.i < s.ie) × (s.j < s.je) }
     ensures { Turned p (key_numbers K.width ww.old) wc.old s (key_numbers K.width ww.new) wc.new result }
@@ -52,16 +53,14 @@ fn back<K: Key>(p: u32, ww: &mut [u64], wc: &mut [u32], s: Ends) -> Ends
     let j = s.je - 1;
     let d = s.e - 1;
     let t = join_last(K::at(ww, i), wc[i], K::at(ww, j), wc[j], p);
-    t.word.put(ww, d);
+    t.key.put(ww, d);
     wc[d] = t.coef;
     Ends {
-        i: s.i,
         ie: s.ie - t.left,
-        j: s.j,
         je: s.je - t.right,
-        d: s.d,
         e: s.e - t.kept,
         turns: s.turns + 1,
+        ..s
     }
 }
 

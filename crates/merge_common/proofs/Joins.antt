@@ -1,7 +1,7 @@
 -- What a turn makes of a term of each list: by the comparison, and by the flags of the code. Assumes nothing.
 use mathlib.Core.Path.{◌≡◌, refl, sym, ap, ap₂, ◌∙◌, subst}
-use mathlib.Core.Bool.{not}
-use Prim.Native.Nat.{ℕ, zero, suc, ◌+◌, ◌-◌, ◌%◌, ◌≤◌, compare, Ordering}
+use mathlib.Core.Bool.{Bool, true, false, not, ◌||◌}
+use Prim.Native.Nat.{ℕ, ◌+◌, ◌%◌, ◌≤◌, compare, Ordering}
 use native.Mathlib.Omega.{arith}
 use lib.Dec.{eqb}
 use Rattle.monomial.specs.TotalOrder.{turned}
@@ -9,7 +9,7 @@ use Rattle.monomial.proofs.OrderLaws.{numbers-order}
 use Rattle.polynomial.specs.Opening.{is_larger}
 use Rattle.polynomial.proofs.MergeLaws.{Stands, less, same, more, stands}
 use Rattle.merge_common.specs.Lent.{flag, chosen}
-use Rattle.merge_common.specs.Joining.{made, joined, joined_last}
+use Rattle.merge_common.specs.Joining.{made, joined, joined_last, joined_by}
 use Rattle.merge_common.specs.declared.merging.Joined.{Joined}
 use Rattle.merge_common.proofs.Steps.{flag_small}
 
@@ -23,24 +23,24 @@ by_order {C} cmp x y l s m = go (stands cmp x y)
     go (more h) = m h
 
 -- x is larger for l, y is for m
-pub record Flags (x y l m : ℕ) : Type 0 where
-  pub x-larger : l ≡ flag (is_larger (compare x y))
-  pub y-larger : m ≡ flag (is_larger (compare y x))
+pub record Flags (x y : ℕ) (l m : Bool) : Type 0 where
+  pub x-larger : l ≡ is_larger (compare x y)
+  pub y-larger : m ≡ is_larger (compare y x)
 
 back : (x y : ℕ) {o : Ordering} → compare x y ≡ o → compare y x ≡ turned o
 back x y h = numbers-order.turn x y ∙ ap turned h
 
 -- the same by two numbers that compare as x and y do
-pub flags_as : (a b x y : ℕ) {l m : ℕ} → compare a b ≡ compare x y → l ≡ flag (is_larger (compare a b)) → m ≡ flag (is_larger (compare b a)) → Flags x y l m
+pub flags_as : (a b x y : ℕ) {l m : Bool} → compare a b ≡ compare x y → l ≡ is_larger (compare a b) → m ≡ is_larger (compare b a) → Flags x y l m
 flags_as a b x y like el em = record {
-  x-larger = el ∙ ap (λ (o : Ordering). flag (is_larger o)) like;
-  y-larger = em ∙ ap (λ (o : Ordering). flag (is_larger o)) (back a b like ∙ sym (back x y refl));
+  x-larger = el ∙ ap is_larger like;
+  y-larger = em ∙ ap is_larger (back a b like ∙ sym (back x y refl));
 }
 
 -- the number of what is chosen
-pub chosen-as : {K : Type 0} (number : K → ℕ) (f : ℕ) (x y : K) {w : K} → w ≡ chosen f x y → number w ≡ chosen f (number x) (number y)
-chosen-as number zero x y e = ap number e
-chosen-as number (suc f) x y e = ap number e
+pub chosen-as : {K : Type 0} (number : K → ℕ) (f : Bool) (x y : K) {w : K} → w ≡ chosen (flag f) x y → number w ≡ chosen (flag f) (number x) (number y)
+chosen-as number true x y e = ap number e
+chosen-as number false x y e = ap number e
 
 module _ (x c y d p : ℕ) where
   -- ---- by the comparison
@@ -68,30 +68,36 @@ module _ (x c y d p : ℕ) where
   unfolding joined_last
   last_more h = rw (h, joined_last)
 
-  -- ---- by the flags: what is made of them where the larger one is first, and where the smaller one is
-  abbrev flagged : Ordering → Ordering → Joined ℕ
-  flagged o q = made (chosen (flag (is_larger q)) y x) (chosen (flag (is_larger o) + flag (is_larger q)) (chosen (flag (is_larger o)) c d) ((c + d) % p)) (1 - flag (is_larger q)) (1 - flag (is_larger o))
+  -- ---- by the flags l and m: x is taken for l, y for m, and both for neither
+  abbrev flagged : Bool → Bool → Joined ℕ
+  flagged l m = record {
+    key = chosen (flag m) y x;
+    coef = chosen (flag (l || m)) (chosen (flag l) c d) ((c + d) % p);
+    left = flag (not m);
+    right = flag (not l);
+    kept = flag (not (eqb (chosen (flag (l || m)) (chosen (flag l) c d) ((c + d) % p)) 0));
+  }
 
-  abbrev flagged_last : Ordering → Ordering → Joined ℕ
-  flagged_last o q = made (chosen (flag (is_larger o)) y x) (chosen (flag (is_larger o) + flag (is_larger q)) (chosen (flag (is_larger o)) d c) ((c + d) % p)) (1 - flag (is_larger o)) (1 - flag (is_larger q))
+  by_flags : Stands compare x y → flagged (is_larger (compare x y)) (is_larger (compare y x)) ≡ joined x c y d p
+  by_flags (less h) = ap₂ (λ (o q : Ordering). flagged (is_larger o) (is_larger q)) h (back x y h) ∙ sym (joined-less h)
+  by_flags (same h) = ap₂ (λ (o q : Ordering). flagged (is_larger o) (is_larger q)) h (back x y h) ∙ sym (joined_same h)
+  by_flags (more h) = ap₂ (λ (o q : Ordering). flagged (is_larger o) (is_larger q)) h (back x y h) ∙ sym (joined-more h)
 
-  by_flags : Stands compare x y → flagged (compare x y) (compare y x) ≡ joined x c y d p
-  by_flags (less h) = ap₂ flagged h (back x y h) ∙ sym (joined-less h)
-  by_flags (same h) = ap₂ flagged h (back x y h) ∙ sym (joined_same h)
-  by_flags (more h) = ap₂ flagged h (back x y h) ∙ sym (joined-more h)
+  by-flags-last : Stands compare x y → flagged (is_larger (compare y x)) (is_larger (compare x y)) ≡ joined_last x c y d p
+  by-flags-last (less h) = ap₂ (λ (o q : Ordering). flagged (is_larger q) (is_larger o)) h (back x y h) ∙ sym (last_less h)
+  by-flags-last (same h) = ap₂ (λ (o q : Ordering). flagged (is_larger q) (is_larger o)) h (back x y h) ∙ sym (last-same h)
+  by-flags-last (more h) = ap₂ (λ (o q : Ordering). flagged (is_larger q) (is_larger o)) h (back x y h) ∙ sym (last_more h)
 
-  by-flags-last : Stands compare x y → flagged_last (compare x y) (compare y x) ≡ joined_last x c y d p
-  by-flags-last (less h) = ap₂ flagged_last h (back x y h) ∙ sym (last_less h)
-  by-flags-last (same h) = ap₂ flagged_last h (back x y h) ∙ sym (last-same h)
-  by-flags-last (more h) = ap₂ flagged_last h (back x y h) ∙ sym (last_more h)
+  -- x is taken for l, y for m: for the larger one, or for the smaller
+  taken : {above below : Bool} → Flags x y above below → (last : Bool) {l m : Bool} → l ≡ chosen (flag last) below above → m ≡ chosen (flag last) above below → flagged l m ≡ joined_by last x c y d p
+  taken f true el em = rw (el, em, f.y-larger, f.x-larger) (by-flags-last (stands compare x y))
+  taken f false el em = rw (el, em, f.y-larger, f.x-larger) (by_flags (stands compare x y))
 
-  -- u is the sum of the coefficients, v the one of the term that is first, s the one that is stored
-  module _ {l m u v s w z : ℕ} (f : Flags x y l m) (eu : u ≡ (c + d) % p) (es : s ≡ chosen (l + m) v u) (ez : z ≡ flag (not (eqb s 0))) where
-    pub joined_is : v ≡ chosen l c d → w ≡ chosen m y x → ◌≡◌ {A = Joined ℕ} (record { word = w; coef = s; left = 1 - m; right = 1 - l; kept = z }) (joined x c y d p)
-    joined_is ev ew = rw (ez, ew, es, eu, ev, f.y-larger, f.x-larger) (by_flags (stands compare x y))
-
-    pub last-is : v ≡ chosen l d c → w ≡ chosen l y x → ◌≡◌ {A = Joined ℕ} (record { word = w; coef = s; left = 1 - l; right = 1 - m; kept = z }) (joined_last x c y d p)
-    last-is ev ew = rw (ez, ew, es, eu, ev, f.y-larger, f.x-larger) (by-flags-last (stands compare x y))
+  -- u is the sum of the coefficients, v the one of the term that is taken, s the one that is stored
+  pub joined_by_is : {above below : Bool} → Flags x y above below → (last : Bool) {l m : Bool} → l ≡ chosen (flag last) below above → m ≡ chosen (flag last) above below → {u v s w i j z : ℕ}
+      → u ≡ (c + d) % p → v ≡ chosen (flag l) c d → s ≡ chosen (flag (l || m)) v u → w ≡ chosen (flag m) y x → i ≡ flag (not m) → j ≡ flag (not l) → z ≡ flag (not (eqb s 0))
+      → ◌≡◌ {A = Joined ℕ} (record { key = w; coef = s; left = i; right = j; kept = z }) (joined_by last x c y d p)
+  joined_by_is f last el em eu ev es ew ei ej ez = rw (ez, ew, ei, ej, es, ev, eu) (taken f last el em)
 
 -- ---- at most one term of each is used, and one made
 abbrev pub Small : Joined ℕ → Type 0

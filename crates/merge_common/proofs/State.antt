@@ -1,11 +1,11 @@
 -- A merge under way, over lists alone: what a turn makes of what is left of the two. Assumes nothing.
 use mathlib.Core.Path.{◌≡◌, refl, sym, ap, ◌∙◌, subst}
-use mathlib.Core.Bool.{Bool, not}
+use mathlib.Core.Bool.{Bool, true, false, not}
 use mathlib.Core.List.{List, [], ◌∷◌}
 use Prim.Native.Nat.{ℕ, zero, suc, ◌+◌, ◌%◌, ◌<◌, ◌≤◌, compare, Ordering}
 use native.Mathlib.Nat.{add-zero}
 use native.Mathlib.Omega.{arith}
-use borrow.Author.Tests.{ne_eqb}
+use borrow.Author.Tests.{clash, ne_eqb}
 use lib.Dec.{eqb}
 use lib.ListN.{length}
 use Rattle.monomial.specs.TotalOrder.{TotalOrder}
@@ -18,15 +18,12 @@ use Rattle.merge_common.specs.Joining.{joined}
 use Rattle.merge_common.specs.declared.merging.Joined.{Joined}
 use Rattle.merge_common.proofs.Joins.{by_order, joined-less, joined_same, joined-more}
 
--- ---- by branches: l is 1 where a is larger
-pub more_by : (cmp : ℕ → ℕ → Ordering) (a b l : ℕ) → l ≡ flag (is_larger (cmp a b)) → l ≡ 1 → cmp a b ≡ Ordering.gt
-more_by cmp a b l el h = by_order cmp a b (λ k. absurd (not-one k (omega arith))) (λ k. absurd (not-one k (omega arith))) (λ k. k)
-  where
-    not-one : {o : Ordering} → cmp a b ≡ o → (flag (is_larger o) ≡ 0) → ⊥
-    not-one k z = omega (arith, el ∙ ap (λ (t : Ordering). flag (is_larger t)) k)
+-- ---- by branches
+pub more_by : (cmp : ℕ → ℕ → Ordering) (a b : ℕ) → is_larger (cmp a b) ≡ true → cmp a b ≡ Ordering.gt
+more_by cmp a b h = by_order cmp a b (λ k. absurd (clash (sym (ap is_larger k) ∙ h))) (λ k. absurd (clash (sym (ap is_larger k) ∙ h))) (λ k. k)
 
-pub less_by : (cmp : ℕ → ℕ → Ordering) → TotalOrder ℕ cmp → (a b l : ℕ) → l ≡ flag (is_larger (cmp a b)) → (l ≡ 1 → ⊥) → (a ≡ b → ⊥) → cmp a b ≡ Ordering.lt
-less_by cmp O a b l el h ne = by_order cmp a b (λ k. k) (λ k. absurd (ne (O.same a b k))) (λ k. absurd (h (el ∙ ap (λ (t : Ordering). flag (is_larger t)) k)))
+pub less_by : (cmp : ℕ → ℕ → Ordering) → TotalOrder ℕ cmp → (a b : ℕ) → is_larger (cmp a b) ≡ false → (a ≡ b → ⊥) → cmp a b ≡ Ordering.lt
+less_by cmp O a b h ne = by_order cmp a b (λ k. k) (λ k. absurd (ne (O.same a b k))) (λ k. absurd (clash (sym h ∙ ap is_larger k)))
 
 pub same_by : (cmp : ℕ → ℕ → Ordering) → TotalOrder ℕ cmp → (a b : ℕ) → a ≡ b → cmp a b ≡ Ordering.eq
 same_by cmp O a b e = ap (cmp a) (sym e) ∙ O.like a
@@ -45,9 +42,9 @@ kept-is w (suc v) = ap (λ (b : Bool). flag (not b)) (ne_eqb (suc v) 0 (λ e. le
 
 -- where i and j terms are used, `left i` and `right j` are left, and a turn makes t of their leads
 pub record Turn (p : ℕ) (left right : ℕ → List (Term ℕ)) (i j : ℕ) (t : Joined ℕ) : Type 0 where
-  pub whole : merge compare p (left i) (right j) ≡ keep t.word t.coef (merge compare p (left (i + t.left)) (right (j + t.right)))
+  pub whole : merge compare p (left i) (right j) ≡ keep t.key t.coef (merge compare p (left (i + t.left)) (right (j + t.right)))
   pub count : merge_count compare (left i) (right j) ≡ suc (merge_count compare (left (i + t.left)) (right (j + t.right)))
-  pub kept : t.kept ≡ length (keep t.word t.coef [])
+  pub kept : t.kept ≡ length (keep t.key t.coef [])
   pub some : 1 ≤ t.left + t.right
 
 module _ (p : ℕ) (left right : ℕ → List (Term ℕ)) (i j x c y d : ℕ) (ex : left i ≡ term x c ∷ left (i + 1)) (ey : right j ≡ term y d ∷ right (j + 1)) (hc : 0 < c) (hd : 0 < d) where

@@ -17,14 +17,7 @@ use Rattle.place.specs.Numbers.{pairs_by, word_pairs, word_numbers, key_by, from
 use Rattle.place.proofs.PlaceLaws.{paired-fits}
 use Rattle.polynomial.specs.Terms.{Term, term, terms, All}
 use Rattle.polynomial.proofs.TermLists.{length-terms, term-at}
-use Rattle.merge_common.specs.Lent.{Poly, flag, chosen}
-
--- ---- the choice by a flag
-pub chosen-one : {A : Type 0} (f : ℕ) (x y : A) → f ≡ 1 → x ≡ chosen f x y
-chosen-one f x y h = rw h
-
-pub chosen_none : {A : Type 0} (f : ℕ) (x y : A) → f ≤ 1 → (f ≡ 1 → ⊥) → y ≡ chosen f x y
-chosen_none f x y h ne = let e : f ≡ 0 = omega arith in rw e
+use Rattle.merge_common.specs.Lent.{Poly, flag}
 
 -- the words of the keys of 64-bit words are these
 pub keys-back : (o : Order) (ws : List ℕ) → ((i : ℕ) → get_or ws i 0 < 2 ^ 64) → map (from_key o) (map (key_of o) ws) ≡ ws

@@ -21,15 +21,15 @@ use Rattle.merge_common.proofs.Lists.{Begun, begun_more, begun_all, begun-on, ge
 use Rattle.merge_common.proofs.Shifts.{Left, left_less}
 
 -- the second words decide where the first are alike
-pub decides : (a1 a2 b1 b2 : ℕ) → a2 < 2 ^ 64 → b2 < 2 ^ 64 → {l x y : ℕ} → l ≡ flag (eqb a1 b1) → x ≡ chosen l a2 a1 → y ≡ chosen l b2 b1 → compare x y ≡ compare (keyed a1 a2) (keyed b1 b2)
-decides a1 a2 b1 b2 ha hb {l} {x} {y} el ex ey = go (tri a1 b1)
+pub decides : (a1 a2 b1 b2 : ℕ) → a2 < 2 ^ 64 → b2 < 2 ^ 64 → {x y : ℕ} → x ≡ chosen (flag (eqb a1 b1)) a2 a1 → y ≡ chosen (flag (eqb a1 b1)) b2 b1 → compare x y ≡ compare (keyed a1 a2) (keyed b1 b2)
+decides a1 a2 b1 b2 ha hb {x} {y} ex ey = go (tri a1 b1)
   where
     unlike : (a1 ≡ b1 → ⊥) → compare x y ≡ compare a1 b1
-    unlike ne = let z : l ≡ 0 = el ∙ ap flag (ne_eqb a1 b1 ne) in rw (ex, ey, z)
+    unlike ne = rw (ex, ey, ne_eqb a1 b1 ne)
 
     go : Tri a1 b1 → compare x y ≡ compare (keyed a1 a2) (keyed b1 b2)
     go (less h e) = unlike (λ q. omega arith) ∙ (e ∙ sym (compare-digits (2 ^ 64) a1 b1 a2 b2 ha hb ∙ ap (λ (o : Ordering). or_else o (compare a2 b2)) e))
-    go (same h e) = (let z : l ≡ 1 = el ∙ ap flag (eq-eqb a1 b1 h) in rw (ex, ey, z)) ∙ sym (compare-digits (2 ^ 64) a1 b1 a2 b2 ha hb ∙ ap (λ (o : Ordering). or_else o (compare a2 b2)) e)
+    go (same h e) = (rw (ex, ey, eq-eqb a1 b1 h)) ∙ sym (compare-digits (2 ^ 64) a1 b1 a2 b2 ha hb ∙ ap (λ (o : Ordering). or_else o (compare a2 b2)) e)
     go (more h e) = unlike (λ q. omega arith) ∙ (e ∙ sym (compare-digits (2 ^ 64) a1 b1 a2 b2 ha hb ∙ ap (λ (o : Ordering). or_else o (compare a2 b2)) e))
 
 -- the words of so many places are there

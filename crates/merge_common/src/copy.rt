@@ -1,8 +1,5 @@
 // Lists of words and of coefficients, each put from one slice into another or moved within one, and how many
 // words a place has.
-// Kept: here, in `keys`, `multiple` and `block`, a place of a slice is a number, with a clause that it is there
-// (`to + length src ≤ length dst`, `j ≤ length b`): a type of slice and place would be made for one call each.
-// Kept: here and in the crates above, words and coefficients are two slices, as C lends them (`damselbuckle_run`).
 ghost use Rattle.std.specs.Prelude.{◌≡◌, ◌+◌, ◌-◌, ◌≤◌, length, drop, replicate};
 ghost use Rattle.std.proofs.lemmas.List.Edits.{sets};
 ghost use Rattle.place.specs.Numbers.{key_numbers, word_numbers, Whole};
@@ -40,14 +37,14 @@ pub fn rest_words<'a>(a: &'a [u64], i: usize, b: &'a [u64], j: usize) -> &'a [u6
     &b[j..]
 }
 
-// The same by places of one word or two, which are whole.
+// The same by places of one word or two, which are whole: places i and j begin at words `a_word` and `b_word`.
 pub fn rest_places<'a, K: Key>(a: &'a [u64], i: usize, b: &'a [u64], j: usize) -> &'a [u64]
     requires { Whole K.width a.now × Whole K.width b.now × (i ≤ length (key_numbers K.width a.now)) × (j ≤ length (key_numbers K.width b.now)) }
     ensures { (key_numbers K.width result.now ≡ rest_of (drop i (key_numbers K.width a.now)) (drop j (key_numbers K.width b.now))) × Whole K.width result.now }
 {
-    let from = K::WORDS * i;
-    let start = K::WORDS * j;
-    rest_words(a, from, b, start)
+    let a_word = K::WORDS * i;
+    let b_word = K::WORDS * j;
+    rest_words(a, a_word, b, b_word)
 }
 
 // Puts what is in src into dst from place `to` on.
@@ -80,16 +77,16 @@ pub fn clear_places<K: Key>(s: &mut [u64], at: usize, n: usize)
 }
 
 // Puts the n terms from place `from` on also from `to` on, where the two places lie apart.
-// Kept: one loop, here and in `shift_terms`: terms are mostly few. Tried as two `copy_within`, in plain Rust: one
-// term or two took 7 ns, and 5 by the loop; from eight terms on the loop is the slower one.
+// Kept: one loop: terms are mostly few. Tried as two `copy_within`, in plain Rust: one term or two took 7 ns, and
+// 5 by the loop; from eight terms on the loop is the slower one.
 pub fn move_terms<K: Key>(ww: &mut [u64], wc: &mut [u32], from: usize, to: usize, n: usize)
     requires { (from + n ≤ length (key_numbers K.width ww.old)) × (to + n ≤ length (key_numbers K.width ww.old)) × (from + n ≤ length wc.old) × (to + n ≤ length wc.old) × Apart from n to n }
     ensures { (key_numbers K.width ww.new ≡ sets (key_numbers K.width ww.old) to (part from n (key_numbers K.width ww.old))) × (wc.new ≡ sets wc.old to (part from n wc.old)) }
 {
     for i in 0..n {
-        let read = from + i;
-        let put = to + i;
-        K::at(ww, read).put(ww, put);
-        wc[put] = wc[read];
+        let source = from + i;
+        let target = to + i;
+        K::at(ww, source).put(ww, target);
+        wc[target] = wc[source];
     }
 }

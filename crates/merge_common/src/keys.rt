@@ -31,9 +31,9 @@ pub fn put_terms<K: Key>(
     ensures { (key_numbers K.width ww.new ≡ sets (key_numbers K.width ww.old) to (map (key_by K.width order) (word_numbers K.width fw.now))) × (wc.new ≡ sets wc.old to fc.now) × (map (from_key_by K.width order) (map (key_by K.width order) (word_numbers K.width fw.now)) ≡ word_numbers K.width fw.now) }
 {
     for i in 0..fc.len() {
-        let put = to + i;
-        K::at(fw, i).key(order).put(ww, put);
-        wc[put] = fc[i];
+        let target = to + i;
+        K::at(fw, i).key(order).put(ww, target);
+        wc[target] = fc[i];
     }
 }
 

@@ -6,7 +6,6 @@ ghost use Rattle.wide_monomial.specs.declared.width.Width.TheVariants.{One, Two}
 ghost use Rattle.wide_monomial.specs.Wide.{paired};
 ghost use Rattle.wide_monomial.specs.Widths.{words_each};
 ghost use Rattle.place.specs.Numbers.{keyed, key_numbers, word_numbers, key_by, from_key_by};
-ghost use Rattle.merge_common.specs.Lent.{flag};
 
 use crate::merging::choose;
 use monomial::order::Order;
@@ -41,8 +40,8 @@ pub trait Key: Copy {
 
     // Two words that compare as two keys do. Both flags of a turn come from this one pair, which is
     // faster than comparing all words twice.
-    // Kept: order by hand. A derived `Ord` would order the words of a Pair too, which is right in Dp alone; and a
-    // turn needs two flags without a branch, where `Ord` gives one Ordering.
+    // Kept: no bound `Ord` instead: a turn needs two flags without a branch, where `cmp` gives one Ordering, and `<`,
+    // asked both ways, would compare both words of a Pair twice.
     fn deciding(self, other: Self) -> Pair
         ensures { compare result.first result.second ≡ compare (number self) (number other) };
 
@@ -120,8 +119,13 @@ impl Key for Pair {
         ww[2 * k + 1] = self.second;
     }
 
+    // The second keys where the first are alike, and else the first.
     fn deciding(self, other: Pair) -> Pair {
-        deciding(self.first, self.second, other.first, other.second)
+        let like = self.first == other.first;
+        Pair {
+            first: choose(like, self.second, self.first),
+            second: choose(like, other.second, other.first),
+        }
     }
 
     fn key(self, order: Order) -> Pair {
@@ -133,22 +137,4 @@ impl Key for Pair {
     }
 
     ghost words_are = { refl };
-}
-
-// 1 where the two words are alike, and else 0.
-fn alike(x: u64, y: u64) -> usize
-    ensures { (result ≡ flag (eqb x y)) × (result ≤ 1) }
-{
-    (x == y) as usize
-}
-
-// The second keys where the first are alike, and else the first.
-fn deciding(a1: u64, a2: u64, b1: u64, b2: u64) -> Pair
-    ensures { compare result.first result.second ≡ compare (keyed a1 a2) (keyed b1 b2) }
-{
-    let like = alike(a1, b1);
-    Pair {
-        first: choose(like, a2, a1),
-        second: choose(like, b2, b1),
-    }
 }

@@ -21,14 +21,15 @@ pub fn close_gap<K: Key>(sw: &mut [u64], sc: &mut [u32], from: usize, k: usize, 
 }
 
 // Puts the n terms from place `from` on also from `to` on, the last one first: the places may overlap.
+// Kept: one loop for words and coefficients, as in `move_terms`, where it was measured.
 fn shift_terms<K: Key>(sw: &mut [u64], sc: &mut [u32], from: usize, to: usize, n: usize)
     requires { (from ≤ to) × (to + n ≤ length (key_numbers K.width sw.old)) × (to + n ≤ length sc.old) }
     ensures { (key_numbers K.width sw.new ≡ sets (key_numbers K.width sw.old) to (part from n (key_numbers K.width sw.old))) × (sc.new ≡ sets sc.old to (part from n sc.old)) }
 {
     for i in (0..n).rev() {
-        let read = from + i;
-        let put = to + i;
-        K::at(sw, read).put(sw, put);
-        sc[put] = sc[read];
+        let source = from + i;
+        let target = to + i;
+        K::at(sw, source).put(sw, target);
+        sc[target] = sc[source];
     }
 }

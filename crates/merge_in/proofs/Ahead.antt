@@ -99,18 +99,18 @@ module _ {p : ℕ} {fw fc sw₀ sc₀ : List ℕ} {h e : ℕ} (pre : Into p fw f
         pub turn-less : (length fw - (i + t.left)) + (e - (j + t.right)) < (length fw - i) + (e - j)
         turn-less = omega (arith, turned.some)
 
-        pub turn-ahead : Ahead p fw fc sw₀ sc₀ h e (set sw k t.word) (set sc k t.coef) (i + t.left) (j + t.right) (k + t.kept) (n + 1)
+        pub turn-ahead : Ahead p fw fc sw₀ sc₀ h e (set sw k t.key) (set sc k t.coef) (i + t.left) (j + t.right) (k + t.kept) (n + 1)
         turn-ahead =
             let u = turned in
             let b = joined_small _ _ _ _ _ q in
             let o : k < j = omega (arith, s.behind) in
             record {
-              done = s.done ++ keep t.word t.coef [];
-              at = omega (arith, s.at, u.kept, length-append s.done (keep t.word t.coef []));
-              whole = keep-before t.word t.coef s.done _ ∙ (ap (λ (l : List (Term ℕ)). s.done ++ l) (sym u.whole) ∙ s.whole);
+              done = s.done ++ keep t.key t.coef [];
+              at = omega (arith, s.at, u.kept, length-append s.done (keep t.key t.coef []));
+              whole = keep-before t.key t.coef s.done _ ∙ (ap (λ (l : List (Term ℕ)). s.done ++ l) (sym u.whole) ∙ s.whole);
               count = omega (arith, u.count, s.count);
-              words-held = held_more s.words-held s.at (j + t.right) t.word o (omega arith) t.word t.coef refl (omega (arith, pre.words-end));
-              coefs-held = held_more s.coefs-held s.at (j + t.right) t.coef o (omega arith) t.word t.coef refl (omega (arith, pre.coefs-end));
+              words-held = held_more s.words-held s.at (j + t.right) t.key o (omega arith) t.key t.coef refl (omega (arith, pre.words-end));
+              coefs-held = held_more s.coefs-held s.at (j + t.right) t.coef o (omega arith) t.key t.coef refl (omega (arith, pre.coefs-end));
               in_f = omega arith;
               first = omega (arith, s.first);
               in-s = omega arith;

@@ -46,7 +46,7 @@ pub fn merge_into<K: Key>(
     // Kept: no plainer: two places go forward, each by what the turn used.
     while i < fc.len() && j < e {
         let t = join(K::at(fw, i), fc[i], K::at(sw, j), sc[j], p);
-        t.word.put(sw, k);
+        t.key.put(sw, k);
         sc[k] = t.coef;
         i += t.left;
         j += t.right;

@@ -4,14 +4,14 @@ use mathlib.Core.Bool.{false}
 use mathlib.Core.List.{List, [], ◌∷◌, reverse}
 use mathlib.Core.Logic.{◌⊎◌, inl, inr}
 use Prim.Native.Nat.{ℕ, zero, suc, ◌+◌, ◌-◌, ◌*◌, ◌/◌, ◌%◌, ◌^◌, ◌<◌, ◌≤◌, zero-le, compare}
-use native.Mathlib.Nat.{mul-pos, zero-mul, mod-eq_of_lt, div-div-eq-div-mul, mul-le-mul}
+use native.Mathlib.Nat.{mul-pos, zero-mul, mod-eq_of_lt, div-one, div-div-eq-div-mul, mul-le-mul, zero-add}
 use native.Mathlib.Numerals.{add-one}
 use native.Mathlib.Omega.{arith}
 use borrow.Author.Tests.{lt-ltb, le-ltb, eq-eqb, ne_eqb}
 use Rattle.std.specs.Ordering.{nat_cmp}
 use lib.Dec.{eqb, lit<}
 use lib.Bits.{bit_and, bit_xor, xor_add_and, and_mask, and_high}
-use lib.Pow.{pow_mono, pow_pos, mod-mod-pow, field}
+use lib.Pow.{pow-add, pow_mono, pow_pos, mod-mod-pow, field}
 use lib.ListN.{length, get_or, take, drop}
 use lib.Seq.{take-suc, take_all, length-take-le}
 use Rattle.monomial.specs.declared.order.Order.{Order}
@@ -139,12 +139,41 @@ beyond-clear Lex n w h = below-bits n w h
 beyond-clear DegLex n w h = below-bits n w h
 beyond-clear DegRevLex n w h = above-bits n w h
 
-grouped : (a b c d e f : ℕ) → a + b + c + d + e + f ≡ a + (b + (c + (d + (e + (f + 0)))))
-grouped a b c d e f = omega arith
+-- s has the products of the first i pairs of bytes; those of the others stand beside it
+pub record Summing (v w s i : ℕ) : Type 0 where
+  pub within : i ≤ 6
+  pub small : s ≤ 65536 * i
+  pub sums : s + weighted (bytes (6 - i) (v / 2 ^ (8 * i))) (bytes (6 - i) (w / 2 ^ (8 * i))) ≡ weighted (bytes 6 v) (bytes 6 w)
 
-pub sum-products : (v w : ℕ) → v % 256 * (w % 256) + v / 256 % 256 * (w / 256 % 256) + v / 65536 % 256 * (w / 65536 % 256) + v / 16777216 % 256 * (w / 16777216 % 256) + v / 4294967296 % 256 * (w / 4294967296 % 256) + v / 1099511627776 % 256 * (w / 1099511627776 % 256) ≡ weighted (bytes 6 v) (bytes 6 w)
+pub none-summed : (v w : ℕ) → Summing v w 0 0
+none-summed v w = record { within = omega arith; small = omega arith; sums = simp (div-one, zero-add) refl }
+
+next-byte : (x i : ℕ) → x / 2 ^ (8 * (i + 1)) ≡ x / 2 ^ (8 * i) / 256
+next-byte x i =
+    let e : 8 * (i + 1) ≡ 8 * i + 8 = omega arith in
+    ap (λ (n : ℕ). x / 2 ^ n) e ∙ (ap (λ (n : ℕ). x / n) (pow-add 2 (8 * i) 8) ∙ sym (div-div-eq-div-mul x (2 ^ (8 * i)) 256))
+
+pub next-summed : (v w s i p : ℕ) → Summing v w s i → i < 6 → p ≡ v / 2 ^ (8 * i) % 256 * (w / 2 ^ (8 * i) % 256) → p < 65536 → Summing v w (s + p) (i + 1)
 unfolding bytes
-sum-products v w = simp div-div-eq-div-mul (grouped (v % 256 * (w % 256)) (v / 256 % 256 * (w / 256 % 256)) (v / 65536 % 256 * (w / 65536 % 256)) (v / 16777216 % 256 * (w / 16777216 % 256)) (v / 4294967296 % 256 * (w / 4294967296 % 256)) (v / 1099511627776 % 256 * (w / 1099511627776 % 256)))
+next-summed v w s i p m l is h =
+    let a = v / 2 ^ (8 * i) in
+    let b = w / 2 ^ (8 * i) in
+    let k = 6 - (i + 1) in
+    let e : 6 - i ≡ suc k = omega arith in
+    let z : s + (a % 256 * (b % 256) + weighted (bytes k (a / 256)) (bytes k (b / 256))) ≡ weighted (bytes 6 v) (bytes 6 w) =
+    subst (λ (n : ℕ). s + weighted (bytes n a) (bytes n b) ≡ weighted (bytes 6 v) (bytes 6 w)) e m.sums
+    in
+    let q = ap₂ (λ (x y : ℕ). weighted (bytes k x) (bytes k y)) (next-byte v i) (next-byte w i) in
+    record { within = omega arith; small = omega (arith, m.small); sums = omega (arith, q, z, is) }
+
+pub all-summed : (v w s i : ℕ) → Summing v w s i → 6 ≤ i → s ≡ weighted (bytes 6 v) (bytes 6 w)
+unfolding bytes
+all-summed v w s i m l =
+    let e : 6 - i ≡ 0 = omega arith in
+    let z : s + 0 ≡ weighted (bytes 6 v) (bytes 6 w) =
+    subst (λ (n : ℕ). s + weighted (bytes n (v / 2 ^ (8 * i))) (bytes n (w / 2 ^ (8 * i))) ≡ weighted (bytes 6 v) (bytes 6 w)) e m.sums
+    in
+    omega (arith, z)
 
 module _ (o : Order) (n v w : ℕ) where
   clear : below 128 (fields o w) ≡ eqb (bit_and w (tops 6)) 0

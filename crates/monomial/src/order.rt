@@ -3,6 +3,7 @@ ghost use Rattle.std.specs.Prelude.{◌≡◌};
 ghost use Rattle.monomial.specs.Exponents.{order_of, order_number};
 ghost use Rattle.monomial.specs.Words.{key_of, from_key, compare_words, answer};
 
+use crate::layout::FIELDS;
 use std::cmp::Ordering;
 use std::fmt;
 
@@ -25,7 +26,7 @@ impl fmt::Display for Order {
     }
 }
 
-// The order of a number. Whoever takes a number from outside refuses all but 1 to 3 first.
+// The order of a number: 3 for each number but 1 and 2.
 // Kept: may not change: it answers for every number, where `TryFrom` would answer a Result: `probe_key`, which C
 // calls with any number, promises the key in that order.
 pub fn order_of(number: u32) -> Order
@@ -55,7 +56,7 @@ impl Order {
         match self {
             Order::Lex => w % 0x1_0000_0000_0000 * 0x1_0000 + w / 0x1_0000_0000_0000,
             Order::DegLex => w,
-            Order::DegRevLex => w ^ 0xffff_ffff_ffff,
+            Order::DegRevLex => w ^ FIELDS,
         }
     }
 
@@ -66,7 +67,7 @@ impl Order {
         match self {
             Order::Lex => k % 0x1_0000 * 0x1_0000_0000_0000 + k / 0x1_0000,
             Order::DegLex => k,
-            Order::DegRevLex => k ^ 0xffff_ffff_ffff,
+            Order::DegRevLex => k ^ FIELDS,
         }
     }
 

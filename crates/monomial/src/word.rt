@@ -7,6 +7,7 @@ pub const TOPS: u64 = 0x8080_8080_8080;
 
 // Whether the monomial y divides x. With each field's top bit set in x and clear in y, no field
 // borrows from the next, and a top bit stays set exactly where the exponent of y is not above.
+// Kept: `Packed` as clauses: words come from lent slices of plain numbers, so a type would be made at each call.
 pub fn divides(y: u64, x: u64) -> bool
     requires { Packed y × Packed x }
     ensures { result ≡ divides_word y x }

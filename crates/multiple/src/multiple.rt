@@ -12,8 +12,8 @@ use monomial::word::TOPS;
 use residue::factor::Factor;
 
 // Whether a product of the monomial q with one of the words has an exponent over 127.
-// Kept: `Packed` and `AllPacked words`, here, below, in `divisors` and in `divides`: C lends the words as plain
-// numbers, which are no slice of another type without a copy, and a type for q alone would leave `AllPacked`.
+// Kept: `Packed` and `AllPacked words`, here and below: C lends the words as plain numbers, which are no slice of
+// another type without a copy, and a type for q alone would leave `AllPacked`.
 pub fn any_over(q: u64, words: &[u64]) -> bool
     requires { Packed q × AllPacked words.now }
     ensures { result ≡ any_over q words.now }
@@ -58,8 +58,9 @@ fn raise(h: u64, w: u64) -> u64
 
 // Puts the polynomial times factor·q, as keys and coefficients, into the output from place `to` on: a
 // loop for the keys and one for the coefficients, so that each makes several at once.
-// Kept: eight parameters, four of them slices: `Multiplied` says of each what it holds, so that a struct of two
-// would make the names in the clauses longer (`out.words.new`), and a struct at each call.
+// Kept: eight parameters, four of them slices. The two of the output are `&mut`: of a struct of these a contract
+// would have to say as well that it holds the same borrows at return. And `to` is a number, here and below, with a
+// clause that the places are there: a type of slice and place would be made for this call alone.
 pub fn put_multiple(
     order: Order,
     factor: Factor,
@@ -88,6 +89,8 @@ fn put_products(order: Order, q: u64, words: &[u64], ow: &mut [u64], to: usize)
 }
 
 // Puts the products of the factor with the coefficients.
+// Kept: may not change: `Prepared factor` stays a clause: docs/changes/4-larger-primes.md names `Factor::times` by what
+// it asks, so `Factor` gets no invariant.
 fn put_scaled(factor: Factor, coefs: &[u32], oc: &mut [u32], to: usize)
     requires { Prepared factor × Below factor.prime coefs.now × (to + length coefs.now ≤ length oc.old) }
     ensures { oc.new ≡ sets oc.old to (map (λ c. product factor.prime factor.value c) coefs.now) }

@@ -8,8 +8,8 @@ use native.Mathlib.Omega.{arith}
 use lib.ListN.{length, get_or, drop, length-take, length-drop}
 use Rattle.polynomial.specs.declared.setting.Setting.{Setting}
 use Rattle.polynomial.specs.Terms.{terms}
-use Rattle.polynomial.specs.Opening.{starts_good, part_of, first, polynomial_refusal, Within}
-use Rattle.polynomial.proofs.StartLaws.{none-bad, good-within}
+use Rattle.polynomial.specs.Opening.{starts_good, part_of, first, polynomial_refusal}
+use Rattle.polynomial.proofs.StartLaws.{none-bad}
 use Rattle.opening.specs.Run.{refusal_at, refusal_from, polynomials_refusal}
 use Rattle.polynomial.proofs.OpeningLaws.{first-none}
 use Rattle.opening.proofs.Tests.{first_some}
@@ -21,10 +21,6 @@ some-starts ss len h = go ss h
     go : (l : List ℕ) → starts_good l len ≡ true → 1 ≤ length l
     go [] e = let f = none-bad [] len refl in let z : ◌≡◌ {A = ℕ} 0 1 = cc in absurd (let y : ⊥ = omega arith in y)
     go (s ∷ l) e = omega arith
-
--- good starts give the parts of a slice of the same length
-pub part-there : (ss : List ℕ) (a b k : ℕ) → a ≡ b → starts_good ss a ≡ true → k + 1 < length ss → Within ss k b
-part-there ss a b k e h l = good-within ss b (sym (ap (starts_good ss) e) ∙ h) k l
 
 -- the parts of two slices of one length have one length
 pub part_length : (ss : List ℕ) (k : ℕ) (ws cs : List ℕ) → length ws ≡ length cs → length (part_of ss k cs) ≡ length (part_of ss k ws)

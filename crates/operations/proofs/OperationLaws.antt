@@ -8,6 +8,7 @@ use borrow.Author.Tests.{le-leb, lt-leb, eq-eqb, ne_eqb}
 use lib.Dec.{eqb}
 use lib.ListN.{length, take, drop, set, length-append, length-map}
 use lib.Seq.{sets}
+use Rattle.std.specs.Option.{MatchOption}
 use Rattle.limits.specs.Limits.{most_operations, most_terms}
 use Rattle.refusal.specs.declared.Refusal.{Refusal}
 use Rattle.refusal.specs.declared.Refusal.TheVariants.{NoOutput, TooManyTerms}
@@ -30,10 +31,10 @@ use Rattle.space.specs.Space.{Buckets, list_from, Slices, Spaces, spaces, words_
 use Rattle.space.proofs.SpaceLaws.{part-to}
 use Rattle.space.proofs.InWords.{held-words, six-words, good-words, words-none}
 use Rattle.space.proofs.InWords as spaced
-use Rattle.search.specs.declared.candidate.Candidate.{Candidate}
-use Rattle.search.specs.Candidates.{candidate_of}
+use Rattle.search.specs.declared.candidate.LeadSearch.{LeadSearch}
+use Rattle.search.specs.Candidates.{search_of}
 use Rattle.search.specs.Searching.{Taken}
-use Rattle.buckets.specs.declared.sum.Summed.{Summed}
+use Rattle.merge_common.specs.declared.merging.Placed.{Placed}
 use Rattle.buckets.specs.Adding.{WordAddition, Added}
 use Rattle.buckets.specs.Summing.{Summation, SumDone}
 use Rattle.buckets.proofs.SumWords.{sum-words, sum-count, sum-len}
@@ -135,24 +136,24 @@ module _ {o : Order} {p : ℕ} {s : State} {x : Spaces} (c : Counting o p s x) w
     unfolding operate
     lead-refused h = halted-done R.leads NoOutput refl out (λ t z. ap (λ (y : Bool). taken_by (compare_words o) p y t) (lt-leb (length t.output + 1) (length ow) (omega (arith, h, written z))))
 
-    module _ (h : s.places < length ow) {x' : Spaces} {k : Candidate} (d : Taken o p x x' k) where
+    module _ (h : s.places < length ow) {x' : Spaces} {k : LeadSearch} (d : Taken o p x x' k) (word coef : ℕ) (place : MatchOption k.lead ((word ≡ 0) × (coef ≡ 0)) (λ l. (word ≡ l.word) × (coef ≡ l.coef))) where
       abbrev bs : List (List (Term ℕ))
       bs = words_in o x
 
       pos : 0 < p
       pos = omega (arith, c.stands.modulus.two)
 
-      place-by : (y : Lead ℕ) (n : ℕ) → term (candidate_of y n).word (candidate_of y n).coef ≡ place_of y
-      place-by none n = refl
-      place-by (lead at t) n = refl
+      place-by : (y : Lead ℕ) (n : ℕ) → MatchOption (search_of y n).lead ((word ≡ 0) × (coef ≡ 0)) (λ l. (word ≡ l.word) × (coef ≡ l.coef)) → term word coef ≡ place_of y
+      place-by none n e = ap₂ (λ (m c : ℕ). term m c) e.0 e.1
+      place-by (lead at t) n e = ap₂ (λ (m c : ℕ). term m c) e.0 e.1
 
-      placed : term k.word k.coef ≡ place_of (search (compare_words o) p bs).answer
-      placed = ap (λ (y : Candidate). term y.word y.coef) d.candidate-is ∙ place-by (search (compare_words o) p bs).answer (length (search (compare_words o) p bs).pairs)
+      placed : term word coef ≡ place_of (search (compare_words o) p bs).answer
+      placed = place-by (search (compare_words o) p bs).answer (length (search (compare_words o) p bs).pairs) (subst (λ (y : LeadSearch). MatchOption y.lead ((word ≡ 0) × (coef ≡ 0)) (λ l. (word ≡ l.word) × (coef ≡ l.coef))) d.search-is place)
 
-      counted-given : flag (not (eqb k.coef 0)) ≡ length (lead_terms (search (compare_words o) p bs).answer)
-      counted-given = ap (λ (y : Candidate). flag (not (eqb y.coef 0))) d.candidate-is ∙ by (search (compare_words o) p bs).answer (finds (compare_words o) p (words-order o) pos bs (good-canon (compare_words o) p 4 bs (good-words o c.stands))).leads
+      counted-given : flag (not (eqb coef 0)) ≡ length (lead_terms (search (compare_words o) p bs).answer)
+      counted-given = ap (λ (y : Term ℕ). flag (not (eqb y.coef 0))) placed ∙ by (search (compare_words o) p bs).answer (finds (compare_words o) p (words-order o) pos bs (good-canon (compare_words o) p 4 bs (good-words o c.stands))).leads
         where
-          by : (y : Lead ℕ) → Leads (compare_words o) p y (search (compare_words o) p bs).buckets → flag (not (eqb (candidate_of y (length (search (compare_words o) p bs).pairs)).coef 0)) ≡ length (lead_terms y)
+          by : (y : Lead ℕ) → Leads (compare_words o) p y (search (compare_words o) p bs).buckets → flag (not (eqb (place_of y).coef 0)) ≡ length (lead_terms y)
           by none l = ap (λ (b : Bool). flag (not b)) (eq-eqb 0 0 refl)
           by (lead at t) l = ap (λ (b : Bool). flag (not b)) (ne_eqb t.coef 0 (λ e. let z : ⊥ = omega (arith, l.0) in z))
 
@@ -164,23 +165,23 @@ module _ {o : Order} {p : ℕ} {s : State} {x : Spaces} (c : Counting o p s x) w
           by (lead at t) l = omega (arith, l)
 
       count : k.count ≡ length (search (compare_words o) p bs).pairs
-      count = ap (λ (y : Candidate). y.count) d.candidate-is ∙ by (search (compare_words o) p bs).answer (length (search (compare_words o) p bs).pairs)
+      count = ap (λ (y : LeadSearch). y.count) d.search-is ∙ by (search (compare_words o) p bs).answer (length (search (compare_words o) p bs).pairs)
         where
-          by : (y : Lead ℕ) (n : ℕ) → (candidate_of y n).count ≡ n
+          by : (y : Lead ℕ) (n : ℕ) → (search_of y n).count ≡ n
           by none n = refl
           by (lead at t) n = refl
 
-      pub lead-operated : s.finished < most_operations → {n : ℕ} → n ≡ flag (not (eqb k.coef 0)) → n ≤ 1 → Operated o p R.leads s x ow oc (finished_one (gave (counted s k.count) n 1)) x' (set ow s.places k.word) (set oc s.places k.coef)
+      pub lead-operated : s.finished < most_operations → {n : ℕ} → n ≡ flag (not (eqb coef 0)) → n ≤ 1 → Operated o p R.leads s x ow oc (finished_one (gave (counted s k.count) n 1)) x' (set ow s.places word) (set oc s.places coef)
       unfolding operate
       lead-operated more {n} en small =
-          let w = k.word ∷ [] in
-          let v = k.coef ∷ [] in
+          let w = word ∷ [] in
+          let v = coef ∷ [] in
           let s' = finished_one (gave (counted s k.count) n 1) in
           let fit : s.places + length w ≤ length ow = omega (arith, h) in
           record {
             counting = counting-on d.stands (omega (arith, ap held d.lists-are, left, c.room)) more refl (omega (arith, d.few)) (omega arith) (omega (arith, small));
             output = grown-output out w v refl fit;
-            is = λ t z. subst (λ (y : Bool). StandsFor o s' x' (set ow s.places k.word) (set oc s.places k.coef) (taken_by (compare_words o) p y t)) (sym (le-leb (length t.output + 1) (length ow) (omega (arith, h, written z)))) (record {
+            is = λ t z. subst (λ (y : Bool). StandsFor o s' x' (set ow s.places word) (set oc s.places coef) (taken_by (compare_words o) p y t)) (sym (le-leb (length t.output + 1) (length ow) (omega (arith, h, written z)))) (record {
               counts = record {
                 buckets-are = rw z.counts.buckets-are at d.lists-are;
                 comparisons-are = rw length-append (ap₂ ◌+◌ z.counts.comparisons-are (rw z.counts.buckets-are at count));
@@ -210,7 +211,7 @@ module _ {o : Order} {p : ℕ} {s : State} {b : Buckets} {ww wc bw bc : List ℕ
   pub sum-asks : Summation p b ww wc bw bc
   sum-asks = record { stands = c.stands; room = omega (arith, c.room, held-words o x); slices = q }
 
-  module _ {ow oc : List ℕ} (out : Output s.places ow oc) (h : held_in b + 1 ≤ length ow - s.places) {b' : Buckets} {ww' wc' bw' bc' : List ℕ} {r : Summed} (d : SumDone p b (ww ++ bw) (wc ++ bc) b' bw' bc' r) (q' : Slices ww' wc' bw' bc') where
+  module _ {ow oc : List ℕ} (out : Output s.places ow oc) (h : held_in b + 1 ≤ length ow - s.places) {b' : Buckets} {ww' wc' bw' bc' : List ℕ} {r : Placed} (d : SumDone p b (ww ++ bw) (wc ++ bc) b' bw' bc' r) (q' : Slices ww' wc' bw' bc') where
     abbrev all : List (List (Term ℕ))
     all = words_in o x
 
@@ -227,16 +228,16 @@ module _ {o : Order} {p : ℕ} {s : State} {b : Buckets} {ww wc bw bc : List ℕ
 
     -- the words of the sum, which lies there by keys
     abbrev W : List ℕ
-    W = map (from_key o) (part r.from r.len bw')
+    W = map (from_key o) (part r.head r.len bw')
 
     abbrev C : List ℕ
-    C = part r.from r.len bc'
+    C = part r.head r.len bc'
 
     W-long : length W ≡ r.len
-    W-long = length-map (part r.from r.len bw') (from_key o) ∙ length_part r.from r.len bw' (omega (arith, d.in-space, q'.words_long))
+    W-long = length-map (part r.head r.len bw') (from_key o) ∙ length_part r.head r.len bw' (omega (arith, d.in-space, q'.words_long))
 
     C-long : length C ≡ r.len
-    C-long = length_part r.from r.len bc' (omega (arith, d.in-space, q'.coefs-long))
+    C-long = length_part r.head r.len bc' (omega (arith, d.in-space, q'.coefs-long))
 
     pub sum-short : r.len ≤ held_in b
     sum-short = omega (arith, sum-len o ww wc bw bc d, sum-size (compare_words o) p [] all, held-is c)

@@ -1,7 +1,7 @@
 // The operations of a run, each with its refusal.
 #![tactic(auto)]
 
-ghost use Rattle.std.specs.Prelude.{◌<◌};
+ghost use Rattle.std.specs.Prelude.{◌≡◌, ◌<◌, MatchOption};
 ghost use Rattle.limits.specs.Limits.{most_operations};
 ghost use Rattle.monomial.specs.Words.{compare_words};
 ghost use Rattle.polynomial.specs.Terms.{terms};
@@ -16,23 +16,24 @@ use call::state::State;
 use limits::MOST_TERMS;
 use merge_common::copy::put;
 use merge_common::keys::put_words_of;
-use merge_common::merging::not_zero;
 use polynomial::ring::Ring;
 use refusal::Refusal;
+use search::candidate::Lead;
 use search::lead::take_lead;
 use space::state::held;
 
 // Adds the polynomial f, or refuses with 11 where the buckets would hold over 4,096 terms.
 // Kept: `s.finished < most_operations`, here and below, not a ghost field of State: each operation adds one to it,
 // and a reduction counts the leads removed in the same field, up to a limit of its own.
-// Kept: the lent slices as parameters of their own, here and below: in a struct of `&mut` slices a contract would
-// name each one before and after, and say of each that it is still the slice that was lent.
-pub fn add_operation<'a>(
+// Kept: the lent slices as parameters of their own, here and below: where a slice is a `&mut` field of a struct and
+// is passed on as `&[T]`, as `b` is to `held`, a proof knows its length afterwards and no element, so each operation
+// would take the struct apart into these slices first.
+pub fn add_operation(
     ring: Ring,
     s: State,
     b: &mut [usize],
-    fw: &'a [u64],
-    fc: &'a [u32],
+    fw: &[u64],
+    fc: &[u32],
     bw: &mut [u64],
     bc: &mut [u32],
     ww: &mut [u64],
@@ -68,10 +69,23 @@ pub fn lead_operation(
     if at >= ow.len() {
         return s.halt(Refusal::NoOutput);
     }
-    let c = take_lead(ring, b, bw, bc, ww, wc);
-    ow[at] = c.word;
-    oc[at] = c.coef;
-    s.compare(c.count).give(not_zero(c.coef), 1).finish()
+    let found = take_lead(ring, b, bw, bc, ww, wc);
+    let (word, coef) = place_of(found.lead);
+    ow[at] = word;
+    oc[at] = coef;
+    s.compare(found.count)
+        .give(usize::from(coef != 0), 1)
+        .finish()
+}
+
+// The word and the coefficient of the lead, or zero for both where there is none.
+fn place_of(lead: Option<Lead>) -> (u64, u32)
+    ensures { MatchOption lead ((result.0 ≡ 0) × (result.1 ≡ 0)) (λ l. (result.0 ≡ l.word) × (result.1 ≡ l.coef)) }
+{
+    match lead {
+        Some(lead) => (lead.word, lead.coef),
+        None => (0, 0),
+    }
 }
 
 // Gives the full sum out, with a zero place past it, or refuses with 10 where the output has too few
@@ -95,7 +109,7 @@ pub fn sum_operation(
         return s.halt(Refusal::NoOutput);
     }
     let r = full_sum(ring.p, b, bw, bc, ww, wc);
-    let from = r.from;
+    let from = r.head;
     let past = from + r.len;
     put_words_of::<u64>(ring.order, &bw[from..past], ow, at);
     put(&bc[from..past], oc, at);

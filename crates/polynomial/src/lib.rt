@@ -6,3 +6,4 @@ pub mod part;
 pub mod ring;
 pub mod setting;
 pub mod starts;
+pub mod terms;

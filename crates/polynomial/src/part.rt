@@ -2,6 +2,8 @@
 ghost use Rattle.std.specs.Prelude.{◌≡◌, ◌-◌, ◌≤◌, length};
 ghost use Rattle.polynomial.specs.Opening.{part_of, Within};
 
+use crate::terms::Terms;
+
 // The polynomials that are lent: polynomial k lies from start k to start k + 1 of words and coefficients.
 #[derive(Clone, Copy)]
 pub struct Polynomials<'a> {
@@ -19,22 +21,16 @@ impl<'a> Polynomials<'a> {
         self.starts.len() - 1
     }
 
-    // The words of polynomial k.
-    // Kept: two names for `part_of`, here and below, as words and coefficients are two slices in the C interface. And
-    // `Within`: k is a plain number of the loops, so a type of k that is there would be made at each call.
-    pub fn words_of(self, k: usize) -> &'a [u64]
-        requires { Within self.starts.now k (length self.words.now) }
-        ensures { result.now ≡ part_of self.entry.starts.now k self.entry.words.now }
+    // Polynomial k.
+    // Kept: `Within`: k is a plain number of the loops, so a type of k that is there would be made at each call.
+    pub fn part(self, k: usize) -> Terms<'a>
+        requires { Within self.starts.now k (length self.words.now) × (length self.coefs.now ≡ length self.words.now) }
+        ensures { (result.words.now ≡ part_of self.entry.starts.now k self.entry.words.now) × (result.coefs.now ≡ part_of self.entry.starts.now k self.entry.coefs.now) }
     {
-        part_of(self.words, self.starts, k)
-    }
-
-    // Its coefficients.
-    pub fn coefs_of(self, k: usize) -> &'a [u32]
-        requires { Within self.starts.now k (length self.coefs.now) }
-        ensures { result.now ≡ part_of self.entry.starts.now k self.entry.coefs.now }
-    {
-        part_of(self.coefs, self.starts, k)
+        Terms {
+            words: part_of(self.words, self.starts, k),
+            coefs: part_of(self.coefs, self.starts, k),
+        }
     }
 }
 

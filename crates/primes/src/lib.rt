@@ -19,7 +19,7 @@ pub fn is_prime(p: u32) -> bool
     if !prime_to_317(p) {
         return false;
     }
-    if p < 100489 {
+    if p < 317 * 317 {
         return true;
     }
     if !prime_to_46349(p) {

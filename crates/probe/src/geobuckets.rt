@@ -19,21 +19,26 @@ use buckets::add::add_polynomial;
 use buckets::sum::full_sum;
 use monomial::order::order_of;
 use polynomial::ring::Ring;
-use search::candidate::Candidate;
+use search::candidate::{Lead, LeadSearch};
 use search::lead::{find_lead, remove_lead, take_lead};
 use space::settle::settle;
 use space::state::clear;
 
-// Puts the lead's bucket, word and coefficient, and gives the comparisons.
+// Puts the lead's bucket, word and coefficient, or 6, 0 and 0 for none, and gives the comparisons.
 // Kept: the C interface: a slice of three places, here and in the two functions on leads below.
-fn put_lead(c: Candidate, lead: &mut [u64]) -> u64
+fn put_lead(found: LeadSearch, lead: &mut [u64]) -> u64
     requires { length lead.old ≡ 3 }
-    ensures { result ≡ c.count }
+    ensures { result ≡ found.count }
 {
-    lead[0] = c.bucket as u64;
-    lead[1] = c.word;
-    lead[2] = u64::from(c.coef);
-    c.count
+    let put = found.lead.unwrap_or(Lead {
+        bucket: 6,
+        word: 0,
+        coef: 0,
+    });
+    lead[0] = put.bucket as u64;
+    lead[1] = put.word;
+    lead[2] = u64::from(put.coef);
+    found.count
 }
 
 #[unsafe(no_mangle)]
@@ -80,8 +85,8 @@ pub extern "C" fn probe_buckets_lead(
     ensures { result ≡ length (search (compare_words (order_of order)) p (words_in (order_of order) (spaces state.old ww.now wc.old sw.now sc.old))).pairs }
 {
     let order = order_of(order);
-    let c = find_lead(Ring { order, p }, state, sw, sc, ww, wc);
-    put_lead(c, lead)
+    let found = find_lead(Ring { order, p }, state, sw, sc, ww, wc);
+    put_lead(found, lead)
 }
 
 // The same, with the lead removed.
@@ -100,8 +105,8 @@ pub extern "C" fn probe_buckets_take_lead(
     ensures { result ≡ length (search (compare_words (order_of order)) p (words_in (order_of order) (spaces state.old ww.now wc.old sw.now sc.old))).pairs }
 {
     let order = order_of(order);
-    let c = take_lead(Ring { order, p }, state, sw, sc, ww, wc);
-    put_lead(c, lead)
+    let found = take_lead(Ring { order, p }, state, sw, sc, ww, wc);
+    put_lead(found, lead)
 }
 
 // Removes the lead of a bucket that is not empty.
@@ -129,7 +134,7 @@ pub extern "C" fn probe_buckets_sum(
     ensures { result ≡ length (sum_compared compare p [] (buckets_in state.old (ww.old ++ sw.old) (wc.old ++ sc.old))) }
 {
     let r = full_sum(p, state, sw, sc, ww, wc);
-    at[0] = r.from;
+    at[0] = r.head;
     at[1] = r.len;
     r.comparisons
 }

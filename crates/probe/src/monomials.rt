@@ -9,9 +9,9 @@ ghost use Rattle.monomial.specs.Words.{key_of, from_key, compare_words, answer, 
 ghost use Rattle.probe.specs.Answers.{packed, comparison_number, weights_fit};
 
 use crate::weights::weights_fit;
-use limits::LARGEST_WEIGHT;
+use limits::{LARGEST_WEIGHT, MOST_VARIABLES};
 use monomial::exponents::{exponent, weight_word, word_of};
-use monomial::layout::{beyond_bits, in_layout};
+use monomial::layout::Layout;
 use monomial::order::order_of;
 use monomial::word::{TOPS, divides, quotient};
 use std::cmp::Ordering;
@@ -59,14 +59,14 @@ fn comparison_number(c: Ordering) -> u32
 pub extern "C" fn probe_in_layout(order: u32, n: u32, weights: &[u32], w: u64) -> bool
     ensures { result ≡ (leb n 6 && (weights_fit largest_weight weights.now && in_layout (order_of order) n weights.now w)) }
 {
-    if n > 6 {
+    if n > MOST_VARIABLES {
         return false;
     }
     if !weights_fit(weights, LARGEST_WEIGHT) {
         return false;
     }
     let order = order_of(order);
-    in_layout(beyond_bits(order, n), weight_word(order, weights), w)
+    Layout::new(order, n, weights).holds(w)
 }
 
 // Whether y divides x: 0 or 1, and 2 where a word is not packed.
@@ -95,10 +95,10 @@ pub extern "C" fn probe_quotient(x: u64, y: u64) -> u64
 pub extern "C" fn probe_word_of(order: u32, weights: &[u32], exps: &[u8]) -> u64
     ensures { result ≡ cond (leb (length exps.now) 6 && weights_fit 17 weights.now) (word_of (order_of order) weights.now exps.now) 18446744073709551615 }
 {
-    if exps.len() > 6 {
+    if exps.len() > MOST_VARIABLES as usize {
         return REFUSED;
     }
-    if !weights_fit(weights, 17) {
+    if !weights_fit(weights, LARGEST_WEIGHT + 1) {
         return REFUSED;
     }
     let order = order_of(order);
@@ -110,7 +110,7 @@ pub extern "C" fn probe_word_of(order: u32, weights: &[u32], exps: &[u8]) -> u64
 pub extern "C" fn probe_exponent(order: u32, w: u64, i: u32) -> u32
     ensures { result ≡ cond (ltb i 6) (get_or (fields (order_of order) w) i 0) 256 }
 {
-    if i >= 6 {
+    if i >= MOST_VARIABLES {
         return 256;
     }
     u32::from(exponent(order_of(order), w, i))

@@ -9,23 +9,24 @@ ghost use Rattle.monomial.specs.Words.{Packed};
 ghost use Rattle.polynomial.specs.Settings.{setting_of};
 ghost use Rattle.polynomial.specs.Terms.{terms};
 ghost use Rattle.polynomial.specs.Opening.{polynomial_refusal, starts_good, part_of};
-ghost use Rattle.polynomial.specs.Checking.{polynomial_on};
+ghost use Rattle.polynomial.specs.Checking.{carried_by, polynomial_on};
 ghost use Rattle.merge_common.specs.Lent.{part};
 ghost use Rattle.merge_common.specs.Placing.{PlacedIn};
 ghost use Rattle.merge_areas.specs.Areas.{Areas};
 ghost use Rattle.multiple.specs.Multiplying.{AllPacked, any_over, Multiplied};
-ghost use Rattle.probe.specs.Lending.{checkable, numbers, check_numbers, part_there, placed, Factors};
+ghost use Rattle.probe.specs.Lending.{checkable, numbers, part_there, Factors};
 
 use crate::weights::weights_fit;
-use limits::LARGEST_WEIGHT;
+use limits::{LARGEST_WEIGHT, MOST_VARIABLES};
 use merge_areas::merge_areas;
+use merge_common::merging::Placed;
 use monomial::order::order_of;
 use multiple::multiple::{any_over, put_multiple};
 use polynomial::check::{Checking, check, check_on};
 use polynomial::part::part_of;
 use polynomial::setting::setting_of;
 use polynomial::starts::starts_good;
-use refusal::number_of;
+use polynomial::terms::Terms;
 use residue::factor::Factor;
 
 // Kept: the C interface: numbers for answers, here and below, as C has neither Option nor Result: NO_WORD,
@@ -35,27 +36,6 @@ const NO_WORD: u64 = 0xffff_ffff_ffff_ffff;
 const NO_COEF: u32 = 0xffff_ffff;
 
 const NOT_CHECKED: u32 = 0xffff_ffff;
-
-// Where a merge lies, and the comparisons.
-// Kept: the C interface: `Placed`, and below it `Checking`, with their fields laid out as C has them. Each is made
-// of its like at one place, field by field: a `From` would name the same, and need a clause on what it gives.
-#[repr(C)]
-#[derive(Clone, Copy)]
-pub struct Places {
-    pub head: usize,
-    pub len: usize,
-    pub comparisons: u64,
-}
-
-// What a check carries from one part to the next.
-#[repr(C)]
-#[derive(Clone, Copy)]
-pub struct CheckNumbers {
-    pub stop: u32,
-    pub late: u32,
-    pub seen: bool,
-    pub last: u64,
-}
 
 // The refusal of a polynomial, 0 for none, or NOT_CHECKED where it cannot be checked.
 #[unsafe(no_mangle)]
@@ -72,9 +52,9 @@ pub extern "C" fn probe_check(
     if !is_checkable(n, weights, words.len(), coefs.len()) {
         return NOT_CHECKED;
     }
-    match check(setting_of(p, order, n, weights), words, coefs) {
+    match check(setting_of(p, order, n, weights), Terms { words, coefs }) {
         Ok(()) => 0,
-        Err(refusal) => number_of(refusal),
+        Err(refusal) => refusal.number(),
     }
 }
 
@@ -92,11 +72,11 @@ pub extern "C" fn probe_check_on(
     late: u32,
     seen: bool,
     last: u64,
-) -> CheckNumbers
-    ensures { check_numbers result ≡ cond (checkable n weights.now (length words.now) (length coefs.now)) (polynomial_on (setting_of p order n weights.now) (numbers stop late seen last) (terms words.now coefs.now)) (numbers 4294967295 0 false 0) }
+) -> Checking
+    ensures { carried_by result ≡ cond (checkable n weights.now (length words.now) (length coefs.now)) (polynomial_on (setting_of p order n weights.now) (numbers stop late seen last) (terms words.now coefs.now)) (numbers 4294967295 0 false 0) }
 {
     if !is_checkable(n, weights, words.len(), coefs.len()) {
-        return CheckNumbers {
+        return Checking {
             stop: NOT_CHECKED,
             late: 0,
             seen: false,
@@ -109,13 +89,11 @@ pub extern "C" fn probe_check_on(
         seen,
         last,
     };
-    let to = check_on(setting_of(p, order, n, weights), words, coefs, from);
-    CheckNumbers {
-        stop: to.stop,
-        late: to.late,
-        seen: to.seen,
-        last: to.last,
-    }
+    check_on(
+        setting_of(p, order, n, weights),
+        Terms { words, coefs },
+        from,
+    )
 }
 
 // Whether a polynomial in n variables with these weights, and so many words and coefficients, can be
@@ -124,7 +102,7 @@ pub extern "C" fn probe_check_on(
 fn is_checkable(n: u32, weights: &[u32], words: usize, coefs: usize) -> bool
     ensures { result ≡ checkable n weights.now words coefs }
 {
-    n <= 6 && weights_fit(weights, LARGEST_WEIGHT) && coefs == words
+    n <= MOST_VARIABLES && weights_fit(weights, LARGEST_WEIGHT) && coefs == words
 }
 
 #[unsafe(no_mangle)]
@@ -176,16 +154,11 @@ pub extern "C" fn probe_merge_areas(
     b: usize,
     m: usize,
     to: usize,
-) -> Places
+) -> Placed
     requires { Areas p ww.old wc.old a n b m to }
-    ensures { PlacedIn compare p (terms (part a n ww.old) (part a n wc.old)) (terms (part b m ww.old) (part b m wc.old)) to (to + (n + m)) ww.old wc.old ww.new wc.new (placed result) × ((placed result).head + (placed result).len ≡ to + (n + m)) }
+    ensures { PlacedIn compare p (terms (part a n ww.old) (part a n wc.old)) (terms (part b m ww.old) (part b m wc.old)) to (to + (n + m)) ww.old wc.old ww.new wc.new result × (result.head + result.len ≡ to + (n + m)) }
 {
-    let made = merge_areas::<u64>(p, ww, wc, a, n, b, m, to);
-    Places {
-        head: made.head,
-        len: made.len,
-        comparisons: made.comparisons,
-    }
+    merge_areas::<u64>(p, ww, wc, a, n, b, m, to)
 }
 
 // Whether a product of the monomial q with one of the words has an exponent over 127.

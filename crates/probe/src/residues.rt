@@ -5,6 +5,7 @@ ghost use Rattle.residue.specs.Prime.{is_prime};
 ghost use Rattle.residue.specs.Modular.{sum, negative, product, inverse_of};
 ghost use Rattle.probe.specs.Answers.{able};
 
+use limits::LARGEST_PRIME;
 use primes::is_prime;
 use residue::arithmetic::{add, multiply, negate};
 use residue::factor::Factor;
@@ -24,7 +25,7 @@ pub extern "C" fn probe_is_prime(p: u32) -> bool
 pub extern "C" fn probe_add(a: u32, b: u32, p: u32) -> u32
     ensures { result ≡ cond (able p a b) (sum p a b) 4294967295 }
 {
-    if !takes(p, a, b) {
+    if !are_residues(p, a, b) {
         return REFUSED;
     }
     add(a, b, p)
@@ -34,7 +35,7 @@ pub extern "C" fn probe_add(a: u32, b: u32, p: u32) -> u32
 pub extern "C" fn probe_negate(a: u32, p: u32) -> u32
     ensures { result ≡ cond (able p a 0) (negative p a) 4294967295 }
 {
-    if !takes(p, a, 0) {
+    if !are_residues(p, a, 0) {
         return REFUSED;
     }
     negate(a, p)
@@ -44,7 +45,7 @@ pub extern "C" fn probe_negate(a: u32, p: u32) -> u32
 pub extern "C" fn probe_multiply_residues(a: u32, b: u32, p: u32) -> u32
     ensures { result ≡ cond (able p a b) (product p a b) 4294967295 }
 {
-    if !takes(p, a, b) {
+    if !are_residues(p, a, b) {
         return REFUSED;
     }
     multiply(a, b, p)
@@ -55,7 +56,7 @@ pub extern "C" fn probe_multiply_residues(a: u32, b: u32, p: u32) -> u32
 pub extern "C" fn probe_factor_times(a: u32, b: u32, p: u32) -> u32
     ensures { result ≡ cond (able p a b) (product p a b) 4294967295 }
 {
-    if !takes(p, a, b) {
+    if !are_residues(p, a, b) {
         return REFUSED;
     }
     Factor::new(a, p).times(b)
@@ -66,7 +67,7 @@ pub extern "C" fn probe_factor_times(a: u32, b: u32, p: u32) -> u32
 pub extern "C" fn probe_invert(a: u32, p: u32) -> u32
     ensures { result ≡ cond (able p a 0 && (ltb 0 a && is_prime p)) (inverse_of p a) 4294967295 }
 {
-    if !takes(p, a, 0) {
+    if !are_residues(p, a, 0) {
         return REFUSED;
     }
     if a == 0 {
@@ -79,8 +80,8 @@ pub extern "C" fn probe_invert(a: u32, p: u32) -> u32
 }
 
 // Whether p is a modulus, and a and b are below it.
-fn takes(p: u32, a: u32, b: u32) -> bool
+fn are_residues(p: u32, a: u32, b: u32) -> bool
     ensures { result ≡ able p a b }
 {
-    p >= 2 && p <= 2147483647 && a < p && b < p
+    (2..=LARGEST_PRIME).contains(&p) && a < p && b < p
 }

@@ -27,14 +27,15 @@ use Rattle.space.proofs.InWords.{held-is as held-places}
 use Rattle.refusal.specs.declared.Refusal.TheVariants.{TooManyTerms, ExponentOver}
 use Rattle.call.specs.declared.state.State.{State}
 use Rattle.call.specs.States.{counted, brought, finished_one, halted}
-use Rattle.search.specs.declared.candidate.Candidate.{Candidate}
+use Rattle.search.specs.declared.candidate.Lead.{Lead}
 use Rattle.search.specs.Searching.{without}
 use Rattle.buckets.specs.Adding.{Added}
 use Rattle.division.specs.Divisors.{Valid}
 use Rattle.division.specs.Steps.{any_too_large, over_word}
 use Rattle.division.proofs.TailLaws.{multiplier-good, Added as Addable, tail-added}
 use Rattle.division.proofs.WordOperations.{word-operations}
-use Rattle.divisors.specs.Divisors.{lead_word, lead_coef, tail_of, in_one, inverse_in, KeptNumbers, Keepable, PutOrNot, Inverting, Multiplying}
+use Rattle.divisors.specs.declared.kept.Cache.{Cache}
+use Rattle.divisors.specs.Divisors.{lead_word, lead_coef, tail_of, in_one, inverse_in, KeptNumbers, Keepable, InverseKept, HighestKept, Inverting, Multiplying}
 use Rattle.reducer.specs.Divisors.{OfLayout}
 use Rattle.reducer.specs.Dividing.{times_tail, TailAddition, TailAdded, Dividing, to_add, DividedTo, over, many, divided, Divided}
 use Rattle.divisors.proofs.InverseLaws.{multiplying}
@@ -71,7 +72,7 @@ part-cons starts k l w rises = by (get_or starts (k + 1) 0 - get_or starts k 0) 
 pub from_one : (l : List ℕ) → 1 ≤ length l → take (length l - 1) (drop 1 l) ≡ drop 1 l
 from_one l h = take_all (length l - 1) (drop 1 l) (omega (arith, length-drop 1 l))
 
-module _ {o : Order} {p : ℕ} {words coefs starts : List ℕ} {k : ℕ} {s : State} {lead : Candidate} {kept : List ℕ} {x : Spaces} (a : Dividing o p words coefs starts k s lead kept x) where
+module _ {o : Order} {p : ℕ} {words coefs starts : List ℕ} {k : ℕ} {s : State} {lead : Lead} {kept : Cache} {x : Spaces} (a : Dividing o p words coefs starts k s lead kept x) where
   -- ---- the divisor
   pub words-part : Within starts k (length words)
   words-part = a.checked.parts k a.high
@@ -179,7 +180,7 @@ module _ {x : ℕ} {l gs : List ℕ} (cons : l ≡ x ∷ drop 1 l) (e : gs ≡ l
   part-tail = from_one gs part-some ∙ ap (drop 1) e
 
 -- ---- what the code finds and tests: gw and gc are the divisor, q' is the quotient
-module _ {o : Order} {p : ℕ} {words coefs starts : List ℕ} {k : ℕ} {s : State} {lead : Candidate} {kept : List ℕ} {x : Spaces} (a : Dividing o p words coefs starts k s lead kept x) where
+module _ {o : Order} {p : ℕ} {words coefs starts : List ℕ} {k : ℕ} {s : State} {lead : Lead} {kept : Cache} {x : Spaces} (a : Dividing o p words coefs starts k s lead kept x) where
   module _ {n : ℕ} (en : n ≡ held_in x.places) where
     pub held-some : 1 ≤ n
     held-some = omega (arith, a.one_less, held-is a)
@@ -214,18 +215,18 @@ module _ {o : Order} {p : ℕ} {words coefs starts : List ℕ} {k : ℕ} {s : St
     packed : AllPacked tw
     packed = subst AllPacked (sym tail-is) (tail-packed a)
 
-    pub highest-asks : AllPacked tw × Keepable k (1023 + k) (highest_word tw) kept
+    pub highest-asks : AllPacked tw × Keepable k (highest_word tw) kept.highest
     highest-asks = (packed, tail-asks a.numbers a.low tail-is)
 
     -- h are the highest exponents of the tail
-    module _ {h : ℕ} {kept₁ : List ℕ} (eh : (h ≡ highest_word tw) × PutOrNot k (1023 + k) h kept kept₁) where
+    module _ {h : ℕ} {kept₁ : Cache} (eh : (h ≡ highest_word tw) × HighestKept k h kept kept₁) where
       pub over-asks : Packed q' × Packed h
       over-asks = (subst Packed (sym quotient_is) (quotient-packed a), subst Packed (sym eh.0) (highest-packed tw packed))
 
       still_kept : KeptNumbers p words coefs starts kept₁
       still_kept = tail-kept a.numbers a.low tail-is eh.0 eh.1
 
-      pub inverting : Inverting p coefs starts k kept₁
+      pub inverting : Inverting p coefs starts k kept₁.inverses
       inverting = record {
         modulus = a.checked.modulus;
         prime = a.checked.prime;
@@ -250,7 +251,7 @@ module _ {o : Order} {p : ℕ} {words coefs starts : List ℕ} {k : ℕ} {s : St
           pub many-done : most_terms < n - 1 + length tw → {s' : State} → s' ≡ halted s TooManyTerms → Divided o p words coefs starts k s lead x s' kept₁ x
           many-done l e = record { numbers = still_kept; done = many not-over (let z : most_terms < held (words_in o (without lead.bucket x)) + length (tail_of starts k words) = omega (arith, a.one_less, held-is a, ap length tail-is) in z) e refl }
 
-          module _ (l : n - 1 + length tw ≤ most_terms) {gc : List ℕ} (ec : gc ≡ part_of starts k coefs) {i : ℕ} {kept₂ : List ℕ} (ei : (i ≡ in_one p (inverse_of p (lead_coef coefs starts k))) × PutOrNot k (k - 1) i kept₁ kept₂) {v : ℕ} (ev : v ≡ negative p lead.coef) {f : Factor} (ef : FactorOf p (product p v (inverse_in p i)) f) {b₁ : Buckets} (eb₁ : b₁ ≡ dropped x.places lead.bucket) {r : State} (er : r ≡ finished_one s) where
+          module _ (l : n - 1 + length tw ≤ most_terms) {gc : List ℕ} (ec : gc ≡ part_of starts k coefs) {i : ℕ} {kept₂ : Cache} (ei : (i ≡ in_one p (inverse_of p (lead_coef coefs starts k))) × InverseKept k i kept₁ kept₂) {v : ℕ} (ev : v ≡ negative p lead.coef) {f : Factor} (ef : FactorOf p (product p v (inverse_in p i)) f) {b₁ : Buckets} (eb₁ : b₁ ≡ dropped x.places lead.bucket) {r : State} (er : r ≡ finished_one s) where
             abbrev tc : List ℕ
             tc = take (length gc - 1) (drop 1 gc)
 

@@ -28,6 +28,7 @@ use Rattle.division.specs.Divisors.{AllOf}
 use Rattle.division.specs.Steps.{over_word, steps_from, reduction_of_words}
 use Rattle.division.proofs.HeldTerms.{Every, add-every}
 use Rattle.division.proofs.Endings.{begins, begins-not}
+use Rattle.divisors.specs.declared.kept.Cache.{Cache}
 use Rattle.divisors.specs.Divisors.{KeptLeads, KeptNumbers}
 use Rattle.reducer.specs.Divisors.{OfLayout}
 use Rattle.reducer.specs.Stepping.{Ended, Going, Reaches, Sound, Stepping, Stepped, Beginning, Begun, refused, added, Reducible, Reduced}
@@ -39,7 +40,7 @@ abbrev pub left_by : Bool → ℕ → ℕ
 left_by true n = suc n
 left_by false n = 0
 
-pub record Turning (o : Order) (p : ℕ) (words coefs starts : List ℕ) (limit : ℕ) (ow₀ oc₀ : List ℕ) (x : Spaces) (ww wc bw bc ow oc kept : List ℕ) (s : State) : Type 0 where
+pub record Turning (o : Order) (p : ℕ) (words coefs starts : List ℕ) (limit : ℕ) (ow₀ oc₀ : List ℕ) (x : Spaces) (ww wc bw bc ow oc : List ℕ) (kept : Cache) (s : State) : Type 0 where
   pub sound : Sound o p words coefs starts limit s x ow oc
   pub numbers : KeptNumbers p words coefs starts kept
   pub slices : Slices ww wc bw bc
@@ -72,7 +73,7 @@ module _ {o : Order} {p : ℕ} {words coefs starts : List ℕ} {limit : ℕ} (a 
       pub beginning : Beginning p b
       beginning = record { none = l.none; modulus = a.checked.modulus }
 
-      module _ {kept ww' wc' bw' bc' : List ℕ} (i : KeptNumbers p words coefs starts kept) (q' : Slices ww' wc' bw' bc') where
+      module _ {kept : Cache} {ww' wc' bw' bc' : List ℕ} (i : KeptNumbers p words coefs starts kept) (q' : Slices ww' wc' bw' bc') where
         pub turn-start : {s : State} {x' : Spaces} → Begun o p (terms fw fc) (spaces b ww wc bw bc) s x' → Turning o p words coefs starts limit ow oc x' ww' wc' bw' bc' ow oc kept s
         turn-start {s} {x'} d = by d
           where
@@ -160,7 +161,7 @@ module _ {o : Order} {p : ℕ} {words coefs starts : List ℕ} {limit : ℕ} (a 
                 }))
 
   -- ---- in a turn
-  module _ {ow₀ oc₀ : List ℕ} {x : Spaces} {ww wc bw bc ow oc kept : List ℕ} {s : State} (v : Turning o p words coefs starts limit ow₀ oc₀ x ww wc bw bc ow oc kept s) where
+  module _ {ow₀ oc₀ : List ℕ} {x : Spaces} {ww wc bw bc ow oc : List ℕ} {kept : Cache} {s : State} (v : Turning o p words coefs starts limit ow₀ oc₀ x ww wc bw bc ow oc kept s) where
     module _ (more : goes_on s.course ≡ true) where
       pub turn-asks : {leads : List ℕ} → KeptLeads words starts leads → Stepping o p words coefs starts leads limit s kept x ow oc
       turn-asks l = record {
@@ -171,7 +172,7 @@ module _ {o : Order} {p : ℕ} {words coefs starts : List ℕ} {limit : ℕ} (a 
         numbers = v.numbers;
       }
 
-      module _ {s' : State} {kept' : List ℕ} {x' : Spaces} {ow' oc' : List ℕ} (d : Stepped o p words coefs starts limit s x ow oc s' kept' x' ow' oc') where
+      module _ {s' : State} {kept' : Cache} {x' : Spaces} {ow' oc' : List ℕ} (d : Stepped o p words coefs starts limit s x ow oc s' kept' x' ow' oc') where
         past : {i j : ℕ} (l m : List ℕ) → i ≤ j → drop i l ≡ drop i m → drop j l ≡ drop j m
         past {i} {j} l m le e =
             let z : i + (j - i) ≡ j = omega arith in

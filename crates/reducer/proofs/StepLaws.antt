@@ -7,6 +7,7 @@ use native.Mathlib.Decide.{dec_le}
 use native.Mathlib.Numerals.{add-one}
 use native.Mathlib.Omega.{arith}
 use lib.ListN.{length, set, length-append}
+use Rattle.std.specs.Prelude.{Some, None}
 use Rattle.limits.specs.Limits.{most_terms}
 use Rattle.monomial.specs.declared.order.Order.{Order}
 use Rattle.monomial.specs.TotalOrder.{TotalOrder}
@@ -32,10 +33,10 @@ use Rattle.call.specs.declared.state.State.{State}
 use Rattle.call.specs.States.{counted, brought, gave, finished_one, turned, closed, halted, goes_on, stop_of, Countable}
 use Rattle.call.specs.Counts.{Counts}
 use Rattle.call.proofs.OutputLaws.{written-long, grown, grown-output, words-past, coefs-past}
-use Rattle.search.specs.declared.candidate.Candidate.{Candidate}
-use Rattle.search.specs.Candidates.{candidate_of}
+use Rattle.search.specs.declared.candidate.Lead.{Lead as FoundLead}
+use Rattle.search.specs.declared.candidate.LeadSearch.{LeadSearch}
+use Rattle.search.specs.Candidates.{search_of}
 use Rattle.search.specs.Searching.{Found, Taken, without}
-use Rattle.search.proofs.TakeLaws.{Has}
 use Rattle.buckets.specs.Adding.{Added}
 use Rattle.division.specs.Divisors.{AllOf}
 use Rattle.division.specs.Choice.{unfit, fits, chosen}
@@ -46,11 +47,12 @@ use Rattle.division.proofs.TailLaws.{Added as Addable}
 use Rattle.division.proofs.Lasts.{with-every}
 use Rattle.division.proofs.WholeLaws.{left-none, left-held}
 use Rattle.division.proofs.StepLaws.{step-none, step-limit, step_kept, step-full, step-large, step-many, step-divided}
+use Rattle.divisors.specs.declared.kept.Cache.{Cache}
 use Rattle.divisors.specs.Divisors.{lead_word, lead_coef, tail_of, Leads, FirstFit, KeptLeads, KeptNumbers}
 use Rattle.call.specs.Lending.{divisors_of}
 use Rattle.reducer.specs.Divisors.{OfLayout}
 use Rattle.reducer.specs.Dividing.{Dividing, DividedTo, over, many, divided, Divided}
-use Rattle.reducer.specs.Stepping.{Searched, no_lead, no_step, one-step, Keeping, Kept, full, put, remainder_in, Ended, Sound, Stepping, Stepped}
+use Rattle.reducer.specs.Stepping.{Keeping, Kept, full, put, remainder_in, Ended, Sound, Stepping, Stepped}
 use Rattle.reducer.proofs.DivideLaws.{placed, over-terms, tail-long, to-add}
 use Rattle.reducer.proofs.FirstLaws.{leads-there, fit_none, fit-some}
 use Rattle.reducer.proofs.LeadLaws.{words-canon, finds-lead, no_answer, the-lead}
@@ -70,12 +72,12 @@ of-every P [] a = tt
 of-every P (b ∷ bs) a = (a.0, of-every P bs a.1)
 
 -- ---- the search
-pub searches : {o : Order} {p : ℕ} {words coefs starts leads : List ℕ} {limit : ℕ} {s : State} {kept : List ℕ} {x₀ : Spaces} {ow oc : List ℕ} → Stepping o p words coefs starts leads limit s kept x₀ ow oc → {x₁ : Spaces} {k : Candidate} → Found o p x₀ x₁ k → Countable s.comparisons k.count
+pub searches : {o : Order} {p : ℕ} {words coefs starts leads : List ℕ} {limit : ℕ} {s : State} {kept : Cache} {x₀ : Spaces} {ow oc : List ℕ} → Stepping o p words coefs starts leads limit s kept x₀ ow oc → {x₁ : Spaces} {seen : LeadSearch} → Found o p x₀ x₁ seen → Countable s.comparisons seen.count
 searches a d = omega (arith, a.sound.few-comparisons a.more, a.sound.few-leads, a.few-steps, d.few)
 
 -- ---- once the lead was searched for
-module _ {o : Order} {p : ℕ} {words coefs starts leads : List ℕ} {limit : ℕ} {s : State} {kept : List ℕ} {x₀ : Spaces} {ow oc : List ℕ} (a : Stepping o p words coefs starts leads limit s kept x₀ ow oc)
-    {x₁ : Spaces} {k : Candidate} (d : Found o p x₀ x₁ k) {t : State} (et : t ≡ counted s k.count) where
+module _ {o : Order} {p : ℕ} {words coefs starts leads : List ℕ} {limit : ℕ} {s : State} {kept : Cache} {x₀ : Spaces} {ow oc : List ℕ} (a : Stepping o p words coefs starts leads limit s kept x₀ ow oc)
+    {x₁ : Spaces} {seen : LeadSearch} (d : Found o p x₀ x₁ seen) {t : State} (et : t ≡ counted s seen.count) where
   abbrev cmp : ℕ → ℕ → Ordering
   cmp = compare_words o
 
@@ -104,15 +106,15 @@ module _ {o : Order} {p : ℕ} {words coefs starts leads : List ℕ} {limit : �
       by none e = omega (arith, left-none cmp p O pos bs canon e)
       by (lead at u) e = let f : held (search cmp p bs).buckets < held bs = subst (λ (x : Lead ℕ). Fewer cmp p x (search cmp p bs).buckets bs) e found.fewer in omega (arith, left-held cmp p O pos bs canon at u e, a.sound.room)
 
-  count-is : k.count ≡ length (search (compare_words o) p (words_in o x₀)).pairs
-  count-is = ap (λ (x : Candidate). x.count) d.candidate-is ∙ by (search cmp p bs).answer (length (search cmp p bs).pairs)
+  count-is : seen.count ≡ length (search (compare_words o) p (words_in o x₀)).pairs
+  count-is = ap (λ (x : LeadSearch). x.count) d.search-is ∙ by (search cmp p bs).answer (length (search cmp p bs).pairs)
     where
-      by : (x : Lead ℕ) (n : ℕ) → (candidate_of x n).count ≡ n
+      by : (x : Lead ℕ) (n : ℕ) → (search_of x n).count ≡ n
       by none n = refl
       by (lead at u) n = refl
 
   -- ---- the step ends the reduction with the lead left where it is
-  halted-sound : (r : Course) → goes_on r ≡ false → Sound o p words coefs starts limit (turned (counted s k.count) r) x₁ ow oc
+  halted-sound : (r : Course) → goes_on r ≡ false → Sound o p words coefs starts limit (turned (counted s seen.count) r) x₁ ow oc
   halted-sound r off = record {
     checked = a.sound.checked;
     stands = d.stands;
@@ -126,9 +128,9 @@ module _ {o : Order} {p : ℕ} {words coefs starts leads : List ℕ} {limit : �
     few-brought = λ e. absurd (false-true (sym off ∙ e));
   }
 
-  halted-ended : (r : Course) (R : Reduction ℕ) (w : events.Work ℕ) → Counts o s x₀ w → stopped_by (compare_words o) p (stop_of r) s.finished (remainder_in s ow oc) w ≡ R → Ended o (turned (counted s k.count) r) x₁ ow oc R
+  halted-ended : (r : Course) (R : Reduction ℕ) (w : events.Work ℕ) → Counts o s x₀ w → stopped_by (compare_words o) p (stop_of r) s.finished (remainder_in s ow oc) w ≡ R → Ended o (turned (counted s seen.count) r) x₁ ow oc R
   halted-ended r R w c e =
-      subst (Ended o (turned (counted s k.count) r) x₁ ow oc) e
+      subst (Ended o (turned (counted s seen.count) r) x₁ ow oc) e
       (record {
         stop_is = refl;
         leads-are = refl;
@@ -141,7 +143,7 @@ module _ {o : Order} {p : ℕ} {words coefs starts leads : List ℕ} {limit : �
       })
 
   halted-step : (r : Course) → goes_on r ≡ false → ((w : events.Work ℕ) → Counts o s x₀ w → steps_from (compare_words o) (chosen divides_word (divisors_of words coefs starts)) ◌-◌ ◌+◌ over_word p (length ow) (limit - s.finished) s.finished (remainder_in s ow oc) w ≡ stopped_by (compare_words o) p (stop_of r) s.finished (remainder_in s ow oc) w)
-      → {s' : State} → s' ≡ turned t r → {kept' : List ℕ} → KeptNumbers p words coefs starts kept' → Stepped o p words coefs starts limit s x₀ ow oc s' kept' x₁ ow oc
+      → {s' : State} → s' ≡ turned t r → {kept' : Cache} → KeptNumbers p words coefs starts kept' → Stepped o p words coefs starts limit s x₀ ow oc s' kept' x₁ ow oc
   halted-step r off steps {s'} es {kept'} i =
       subst (λ (x : State). Stepped o p words coefs starts limit s x₀ ow oc x kept' x₁ ow oc) (sym (es ∙ ap (λ (x : State). turned x r) et))
       (record {
@@ -158,43 +160,31 @@ module _ {o : Order} {p : ℕ} {words coefs starts leads : List ℕ} {limit : �
       })
 
   -- ---- zero was found
-  pub zero-step : k.bucket ≡ 6 → {s' : State} → s' ≡ closed t → Stepped o p words coefs starts limit s x₀ ow oc s' kept x₁ ow oc
+  pub zero-step : seen.lead ≡ None → {s' : State} → s' ≡ closed t → Stepped o p words coefs starts limit s x₀ ow oc s' kept x₁ ow oc
   zero-step h es =
       halted-step Finished refl
       (λ w c. step-none cmp (chosen divides_word (divisors_of words coefs starts)) ◌-◌ ◌+◌ over_word p (length ow) (limit - s.finished) s.finished (remainder_in s ow oc) w (ap (λ (x : List (List (Term ℕ))). (search cmp p x).answer) (sym c.buckets-are) ∙ no_answer a.sound.stands d h))
       es a.numbers
 
   -- ---- a lead was found
-  module _ (ne : k.bucket ≡ 6 → ⊥) where
-    L : Has (search (compare_words o) p (words_in o x₀)).answer
-    L = the-lead a.sound.stands d ne
+  module _ {k : FoundLead} (is : seen.lead ≡ Some k) where
+    lead_is : (search (compare_words o) p (words_in o x₀)).answer ≡ lead k.bucket (term k.word k.coef)
+    lead_is = the-lead a.sound.stands d is
 
-    in-work : (w : events.Work ℕ) → Counts o s x₀ w → (search (compare_words o) p w.buckets).answer ≡ lead L.at L.term
-    in-work w c = ap (λ (x : List (List (Term ℕ))). (search cmp p x).answer) (sym c.buckets-are) ∙ L.is
+    in-work : (w : events.Work ℕ) → Counts o s x₀ w → (search (compare_words o) p w.buckets).answer ≡ lead k.bucket (term k.word k.coef)
+    in-work w c = ap (λ (x : List (List (Term ℕ))). (search cmp p x).answer) (sym c.buckets-are) ∙ lead_is
 
-    candidate : k ≡ candidate_of (lead L.at L.term) (length (search (compare_words o) p (words_in o x₀)).pairs)
-    candidate = d.candidate-is ∙ ap (λ (x : Lead ℕ). candidate_of x (length (search cmp p bs).pairs)) L.is
-
-    word-is : k.word ≡ L.term.mono
-    word-is = ap (λ (x : Candidate). x.word) candidate
-
-    coef-is : k.coef ≡ L.term.coef
-    coef-is = ap (λ (x : Candidate). x.coef) candidate
-
-    term_is : term k.word k.coef ≡ L.term
-    term_is = ap₂ (λ (m c : ℕ). term m c) word-is coef-is
-
-    reduced : LeadOf (compare_words o) p (lead L.at L.term) (search (compare_words o) p (words_in o x₀)).buckets
-    reduced = subst (λ (x : Lead ℕ). LeadOf cmp p x (search cmp p bs).buckets) L.is found.leads
+    reduced : LeadOf (compare_words o) p (lead k.bucket (term k.word k.coef)) (search (compare_words o) p (words_in o x₀)).buckets
+    reduced = subst (λ (x : Lead ℕ). LeadOf cmp p x (search cmp p bs).buckets) lead_is found.leads
 
     word-layout : OfLayout o a.sound.checked.weights k.word
-    word-layout = subst (OfLayout o a.sound.checked.weights) (sym word-is) (subst (OfLead (OfLayout o a.sound.checked.weights)) L.is every.0)
+    word-layout = subst (OfLead (OfLayout o a.sound.checked.weights)) lead_is every.0
 
     fewer : held (search (compare_words o) p (words_in o x₀)).buckets < held (words_in o x₀)
-    fewer = subst (λ (x : Lead ℕ). Fewer cmp p x (search cmp p bs).buckets bs) L.is found.fewer
+    fewer = subst (λ (x : Lead ℕ). Fewer cmp p x (search cmp p bs).buckets bs) lead_is found.fewer
 
-    taken : Taken o p x₀ (without k.bucket x₁) k
-    taken = d.removed ne
+    taken : Taken o p x₀ (without k.bucket x₁) seen
+    taken = d.removed k is
 
     -- no step is left
     pub limit-step : t.finished ≡ limit → {s' : State} → s' ≡ halted t StepLimit → Stepped o p words coefs starts limit s x₀ ow oc s' kept x₁ ow oc
@@ -202,7 +192,7 @@ module _ {o : Order} {p : ℕ} {words coefs starts leads : List ℕ} {limit : �
         let h' : s.finished ≡ limit = ap (λ (x : State). x.finished) (sym et) ∙ h in
         let none_left : limit - s.finished ≡ 0 = omega arith in
         halted-step (Refused StepLimit) refl
-        (λ w c. ap (λ (m : ℕ). steps_from cmp (chosen divides_word (divisors_of words coefs starts)) ◌-◌ ◌+◌ over_word p (length ow) m s.finished (remainder_in s ow oc) w) none_left ∙ step-limit cmp (chosen divides_word (divisors_of words coefs starts)) ◌-◌ ◌+◌ over_word p (length ow) s.finished (remainder_in s ow oc) w L.at L.term (in-work w c))
+        (λ w c. ap (λ (m : ℕ). steps_from cmp (chosen divides_word (divisors_of words coefs starts)) ◌-◌ ◌+◌ over_word p (length ow) m s.finished (remainder_in s ow oc) w) none_left ∙ step-limit cmp (chosen divides_word (divisors_of words coefs starts)) ◌-◌ ◌+◌ over_word p (length ow) s.finished (remainder_in s ow oc) w k.bucket (term k.word k.coef) (in-work w c))
         es a.numbers
 
     pub first-asks : Leads words starts × KeptLeads words starts leads × Packed k.word
@@ -233,12 +223,12 @@ module _ {o : Order} {p : ℕ} {words coefs starts leads : List ℕ} {limit : �
               fits = f.here high;
               stands = d.stands;
               room = omega (arith, ap held d.lists-are, left-few);
-              removal = d.removal ne;
+              removal = d.removal k is;
               rest = taken.stands;
-              one_less = ap held d.lists-are ∙ (left-held cmp p O pos bs canon L.at L.term L.is ∙ (let z : suc (held (search cmp p bs).buckets) ≡ held (words_in o (without k.bucket x₁)) + 1 = omega (arith, ap held taken.lists-are) in z));
+              one_less = ap held d.lists-are ∙ (left-held cmp p O pos bs canon k.bucket (term k.word k.coef) lead_is ∙ (let z : suc (held (search cmp p bs).buckets) ≡ held (words_in o (without k.bucket x₁)) + 1 = omega (arith, ap held taken.lists-are) in z));
               of-layout = word-layout;
-              coef-pos = omega (arith, coef-is, reduced.0);
-              coef-small = omega (arith, coef-is, reduced.1);
+              coef-pos = omega (arith, reduced.0);
+              coef-small = omega (arith, reduced.1);
               numbers = a.numbers;
               few-leads = subst (λ (x : State). x.finished < 10000000000000) (sym et) (omega (arith, few, a.few-steps));
               few-comparisons = subst (λ (x : State). x.comparisons < 2000000000000000000) (sym et) (omega (arith, few, a.few-steps, a.sound.few-comparisons a.more, d.few));
@@ -248,7 +238,7 @@ module _ {o : Order} {p : ℕ} {words coefs starts leads : List ℕ} {limit : �
         pub keep-asks : Keeping t k x₁.places ow oc
         keep-asks =
             subst (λ (x : State). Keeping x k x₁.places ow oc) (sym et)
-            (record { removal = d.removal ne; few-leads = omega (arith, few, a.few-steps); given-are = a.sound.given-are; few-places = a.sound.few-places; output = a.sound.output })
+            (record { removal = d.removal k is; few-leads = omega (arith, few, a.few-steps); given-are = a.sound.given-are; few-places = a.sound.few-places; output = a.sound.output })
 
         -- the definition finds the same divisor
         module _ (high : i + 1 < length starts) where
@@ -264,11 +254,11 @@ module _ {o : Order} {p : ℕ} {words coefs starts leads : List ℕ} {limit : �
           tail-is : length (terms (tail_of starts i words) (tail_of starts i coefs)) ≡ length (tail_of starts i words)
           tail-is = length-terms (tail_of starts i words) (tail_of starts i coefs) (tail-long D)
 
-          fit : chosen divides_word (divisors_of words coefs starts) L.term.mono ≡ fits i (term (lead_word words starts i) (lead_coef coefs starts i)) (terms (tail_of starts i words) (tail_of starts i coefs))
-          fit = ap (chosen divides_word (divisors_of words coefs starts)) (sym word-is) ∙ fit-some a.sound.checked f high
+          fit : chosen divides_word (divisors_of words coefs starts) k.word ≡ fits i (term (lead_word words starts i) (lead_coef coefs starts i)) (terms (tail_of starts i words) (tail_of starts i coefs))
+          fit = fit-some a.sound.checked f high
 
-          large_is : any_too_large over_word (L.term.mono - lead_word words starts i) (terms (tail_of starts i words) (tail_of starts i coefs)) ≡ any_over (k.word - lead_word words starts i) (tail_of starts i words)
-          large_is = over-terms (L.term.mono - lead_word words starts i) (tail_of starts i words) (tail_of starts i coefs) (tail-long D) ∙ ap (λ (m : ℕ). any_over (m - lead_word words starts i) (tail_of starts i words)) (sym word-is)
+          large_is : any_too_large over_word (k.word - lead_word words starts i) (terms (tail_of starts i words) (tail_of starts i coefs)) ≡ any_over (k.word - lead_word words starts i) (tail_of starts i words)
+          large_is = over-terms (k.word - lead_word words starts i) (tail_of starts i words) (tail_of starts i coefs) (tail-long D)
 
           rest-is : (w : events.Work ℕ) → Counts o s x₀ w → (search (compare_words o) p w.buckets).buckets ≡ words_in o (without k.bucket x₁)
           rest-is w c = ap (λ (x : List (List (Term ℕ))). (search cmp p x).buckets) (sym c.buckets-are) ∙ sym taken.lists-are
@@ -280,11 +270,11 @@ module _ {o : Order} {p : ℕ} {words coefs starts leads : List ℕ} {limit : �
           at_more : (w : events.Work ℕ) {x : Reduction ℕ} → Steps (suc (limit - suc s.finished)) s.finished (remainder_in s ow oc) w ≡ x → Steps (limit - s.finished) s.finished (remainder_in s ow oc) w ≡ x
           at_more w e = ap (λ (m : ℕ). Steps m s.finished (remainder_in s ow oc) w) one_left ∙ e
 
-          divided-to : {kept' : List ℕ} → KeptNumbers p words coefs starts kept' → {x' : Spaces} {m : ℕ}
+          divided-to : {kept' : Cache} → KeptNumbers p words coefs starts kept' → {x' : Spaces} {m : ℕ}
               → any_over (k.word - lead_word words starts i) (tail_of starts i words) ≡ false → held (words_in o (without k.bucket x₁)) + length (tail_of starts i words) ≤ most_terms
-              → Added o p (without k.bucket x₁) (tail_multiple ◌-◌ ◌+◌ p L.term (term (lead_word words starts i) (lead_coef coefs starts i)) (terms (tail_of starts i words) (tail_of starts i coefs))) x' m
-              → Addable (compare_words o) p (OfLayout o a.sound.checked.weights) L.term (tail_multiple ◌-◌ ◌+◌ p L.term (term (lead_word words starts i) (lead_coef coefs starts i)) (terms (tail_of starts i words) (tail_of starts i coefs)))
-              → Stepped o p words coefs starts limit s x₀ ow oc (brought (counted (finished_one (counted s k.count)) m) (length (tail_of starts i words))) kept' x' ow oc
+              → Added o p (without k.bucket x₁) (tail_multiple ◌-◌ ◌+◌ p (term k.word k.coef) (term (lead_word words starts i) (lead_coef coefs starts i)) (terms (tail_of starts i words) (tail_of starts i coefs))) x' m
+              → Addable (compare_words o) p (OfLayout o a.sound.checked.weights) (term k.word k.coef) (tail_multiple ◌-◌ ◌+◌ p (term k.word k.coef) (term (lead_word words starts i) (lead_coef coefs starts i)) (terms (tail_of starts i words) (tail_of starts i coefs)))
+              → Stepped o p words coefs starts limit s x₀ ow oc (brought (counted (finished_one (counted s seen.count)) m) (length (tail_of starts i words))) kept' x' ow oc
           divided-to i' {x'} {m} no-over small e u = record {
             sound = record {
               checked = a.sound.checked;
@@ -308,7 +298,7 @@ module _ {o : Order} {p : ℕ} {words coefs starts leads : List ℕ} {limit : �
                   comparisons-are = pairs-are v.work v.counts;
                   brought-are = ap (λ (n : ℕ). n + length (tail_of starts i words)) v.counts.brought-are ∙ (ap (λ (n : ℕ). length v.work.brought + n) (sym h-long) ∙ sym (length-append v.work.brought h));
                 };
-                comes-to = ap (λ (n : ℕ). Steps (limit - n) n (remainder_in s ow oc) (events.added cmp p h (events.removed cmp p v.work))) (add-one s.finished) ∙ (sym (at_more v.work (step-divided cmp (chosen divides_word (divisors_of words coefs starts)) ◌-◌ ◌+◌ over_word p (length ow) (limit - suc s.finished) s.finished (remainder_in s ow oc) v.work L.at L.term (in-work v.work v.counts) i (term (lead_word words starts i) (lead_coef coefs starts i)) (terms (tail_of starts i words) (tail_of starts i coefs)) fit (large_is ∙ no-over) (omega (arith, ap held (rest-is v.work v.counts), tail-is)))) ∙ v.comes-to);
+                comes-to = ap (λ (n : ℕ). Steps (limit - n) n (remainder_in s ow oc) (events.added cmp p h (events.removed cmp p v.work))) (add-one s.finished) ∙ (sym (at_more v.work (step-divided cmp (chosen divides_word (divisors_of words coefs starts)) ◌-◌ ◌+◌ over_word p (length ow) (limit - suc s.finished) s.finished (remainder_in s ow oc) v.work k.bucket (term k.word k.coef) (in-work v.work v.counts) i (term (lead_word words starts i) (lead_coef coefs starts i)) (terms (tail_of starts i words) (tail_of starts i coefs)) fit (large_is ∙ no-over) (omega (arith, ap held (rest-is v.work v.counts), tail-is)))) ∙ v.comes-to);
               };
               ended = λ q. absurd (false-true (sym q ∙ a.more));
             };
@@ -318,22 +308,22 @@ module _ {o : Order} {p : ℕ} {words coefs starts leads : List ℕ} {limit : �
           }
             where
               h : List (Term ℕ)
-              h = tail_multiple ◌-◌ ◌+◌ p L.term (term (lead_word words starts i) (lead_coef coefs starts i)) (terms (tail_of starts i words) (tail_of starts i coefs))
+              h = tail_multiple ◌-◌ ◌+◌ p (term k.word k.coef) (term (lead_word words starts i) (lead_coef coefs starts i)) (terms (tail_of starts i words) (tail_of starts i coefs))
 
               cs : List (List (Term ℕ))
               cs = words_in o (without k.bucket x₁)
 
-              h-long : length (tail_multiple ◌-◌ ◌+◌ p L.term (term (lead_word words starts i) (lead_coef coefs starts i)) (terms (tail_of starts i words) (tail_of starts i coefs))) ≡ length (tail_of starts i words)
+              h-long : length (tail_multiple ◌-◌ ◌+◌ p (term k.word k.coef) (term (lead_word words starts i) (lead_coef coefs starts i)) (terms (tail_of starts i words) (tail_of starts i coefs))) ≡ length (tail_of starts i words)
               h-long = length-multiple ◌+◌ p _ _ (terms (tail_of starts i words) (tail_of starts i coefs)) ∙ tail-is
 
-              pairs-are : (w : events.Work ℕ) (c : Counts o s x₀ w) → s.comparisons + k.count + m ≡ length ((w.pairs ++ (search cmp p w.buckets).pairs) ++ add_compared cmp p h (search cmp p w.buckets).buckets)
+              pairs-are : (w : events.Work ℕ) (c : Counts o s x₀ w) → s.comparisons + seen.count + m ≡ length ((w.pairs ++ (search cmp p w.buckets).pairs) ++ add_compared cmp p h (search cmp p w.buckets).buckets)
               pairs-are w c =
                   let x : s.comparisons ≡ length w.pairs = c.comparisons-are in
-                  let y : k.count ≡ length (search cmp p w.buckets).pairs = count-is ∙ ap (λ (x : List (List (Term ℕ))). length (search cmp p x).pairs) c.buckets-are in
+                  let y : seen.count ≡ length (search cmp p w.buckets).pairs = count-is ∙ ap (λ (x : List (List (Term ℕ))). length (search cmp p x).pairs) c.buckets-are in
                   let z : m ≡ length (add_compared cmp p h (search cmp p w.buckets).buckets) = e.count-is ∙ ap (λ (x : List (List (Term ℕ))). length (add_compared cmp p h x)) (sym (rest-is w c)) in
                   omega (arith, x, y, z, length-append w.pairs (search cmp p w.buckets).pairs, length-append (w.pairs ++ (search cmp p w.buckets).pairs) (add_compared cmp p h (search cmp p w.buckets).buckets))
 
-          pub divided-step : {s' : State} {kept' : List ℕ} {x' : Spaces} → Divided o p words coefs starts i t k x₁ s' kept' x' → Stepped o p words coefs starts limit s x₀ ow oc s' kept' x' ow oc
+          pub divided-step : {s' : State} {kept' : Cache} {x' : Spaces} → Divided o p words coefs starts i t k x₁ s' kept' x' → Stepped o p words coefs starts limit s x₀ ow oc s' kept' x' ow oc
           unfolding D divide-asks
           divided-step {s'} {kept'} {x'} v = by v.done
             where
@@ -341,23 +331,22 @@ module _ {o : Order} {p : ℕ} {words coefs starts leads : List ℕ} {limit : �
               by (over h es ex) =
                   rw ex
                   (halted-step (Refused ExponentOver) refl
-                  (λ w c. at_more w (step-large cmp (chosen divides_word (divisors_of words coefs starts)) ◌-◌ ◌+◌ over_word p (length ow) (limit - suc s.finished) s.finished (remainder_in s ow oc) w L.at L.term (in-work w c) i (term (lead_word words starts i) (lead_coef coefs starts i)) (terms (tail_of starts i words) (tail_of starts i coefs)) fit (large_is ∙ h)))
+                  (λ w c. at_more w (step-large cmp (chosen divides_word (divisors_of words coefs starts)) ◌-◌ ◌+◌ over_word p (length ow) (limit - suc s.finished) s.finished (remainder_in s ow oc) w k.bucket (term k.word k.coef) (in-work w c) i (term (lead_word words starts i) (lead_coef coefs starts i)) (terms (tail_of starts i words) (tail_of starts i coefs)) fit (large_is ∙ h)))
                   es v.numbers)
               by (many h l es ex) =
                   rw ex
                   (halted-step (Refused TooManyTerms) refl
-                  (λ w c. at_more w (step-many cmp (chosen divides_word (divisors_of words coefs starts)) ◌-◌ ◌+◌ over_word p (length ow) (limit - suc s.finished) s.finished (remainder_in s ow oc) w L.at L.term (in-work w c) i (term (lead_word words starts i) (lead_coef coefs starts i)) (terms (tail_of starts i words) (tail_of starts i coefs)) fit (large_is ∙ h) (omega (arith, ap held (rest-is w c), tail-is))))
+                  (λ w c. at_more w (step-many cmp (chosen divides_word (divisors_of words coefs starts)) ◌-◌ ◌+◌ over_word p (length ow) (limit - suc s.finished) s.finished (remainder_in s ow oc) w k.bucket (term k.word k.coef) (in-work w c) i (term (lead_word words starts i) (lead_coef coefs starts i)) (terms (tail_of starts i words) (tail_of starts i coefs)) fit (large_is ∙ h) (omega (arith, ap held (rest-is w c), tail-is))))
                   es v.numbers)
               by (divided h l m e es) =
                   subst (λ (x : State). Stepped o p words coefs starts limit s x₀ ow oc x kept' x' ow oc) (sym (es ∙ ap (λ (x : State). brought (counted (finished_one x) m) (length (tail_of starts i words))) et))
                   (divided-to v.numbers h l
-                  (subst (λ (x : Term ℕ). Added o p (without k.bucket x₁) (tail_multiple ◌-◌ ◌+◌ p x (term (lead_word words starts i) (lead_coef coefs starts i)) (terms (tail_of starts i words) (tail_of starts i coefs))) x' m) term_is e)
-                  (subst (λ (x : Term ℕ). Addable cmp p (OfLayout o a.sound.checked.weights) x (tail_multiple ◌-◌ ◌+◌ p x (term (lead_word words starts i) (lead_coef coefs starts i)) (terms (tail_of starts i words) (tail_of starts i coefs)))) term_is (to-add D h l)))
+                  e (to-add D h l))
 
         -- ---- the lead goes to the remainder
         module _ (low : length starts ≤ i + 1) where
-          no-fit : chosen divides_word (divisors_of words coefs starts) L.term.mono ≡ unfit
-          no-fit = ap (chosen divides_word (divisors_of words coefs starts)) (sym word-is) ∙ fit_none a.sound.checked f low
+          no-fit : chosen divides_word (divisors_of words coefs starts) k.word ≡ unfit
+          no-fit = fit_none a.sound.checked f low
 
           at_next : (w : events.Work ℕ) {x : Reduction ℕ} → steps_from (compare_words o) (chosen divides_word (divisors_of words coefs starts)) ◌-◌ ◌+◌ over_word p (length ow) (suc (limit - suc s.finished)) s.finished (remainder_in s ow oc) w ≡ x → steps_from (compare_words o) (chosen divides_word (divisors_of words coefs starts)) ◌-◌ ◌+◌ over_word p (length ow) (limit - s.finished) s.finished (remainder_in s ow oc) w ≡ x
           at_next w e = ap (λ (m : ℕ). steps_from cmp (chosen divides_word (divisors_of words coefs starts)) ◌-◌ ◌+◌ over_word p (length ow) m s.finished (remainder_in s ow oc) w) one_left ∙ e
@@ -368,13 +357,13 @@ module _ {o : Order} {p : ℕ} {words coefs starts leads : List ℕ} {limit : �
               terms-same : t.places ≡ s.places
               terms-same = ap (λ (x : State). x.places) et
 
-              put-to : s.places < length ow → Stepped o p words coefs starts limit s x₀ ow oc (gave (finished_one (counted s k.count)) 1 1) kept (without k.bucket x₁) (set ow s.places k.word) (set oc s.places k.coef)
+              put-to : s.places < length ow → Stepped o p words coefs starts limit s x₀ ow oc (gave (finished_one (counted s seen.count)) 1 1) kept (without k.bucket x₁) (set ow s.places k.word) (set oc s.places k.coef)
               put-to h =
                   let out = a.sound.output in
                   let x = k.word ∷ [] in
                   let y = k.coef ∷ [] in
                   let fit : s.places + length x ≤ length ow = omega arith in
-                  let grows : remainder_in (gave (finished_one (counted s k.count)) 1 1) (set ow s.places k.word) (set oc s.places k.coef) ≡ remainder_in s ow oc ++ L.term ∷ [] = grown out x y refl fit ∙ ap (λ (u : Term ℕ). remainder_in s ow oc ++ (u ∷ [])) term_is in
+                  let grows : remainder_in (gave (finished_one (counted s seen.count)) 1 1) (set ow s.places k.word) (set oc s.places k.coef) ≡ remainder_in s ow oc ++ (term k.word k.coef) ∷ [] = grown out x y refl fit in
                   record {
                     sound = record {
                       checked = a.sound.checked;
@@ -398,7 +387,7 @@ module _ {o : Order} {p : ℕ} {words coefs starts leads : List ℕ} {limit : �
                           comparisons-are = ap₂ (λ (m n : ℕ). m + n) g.counts.comparisons-are (count-is ∙ ap (λ (x : List (List (Term ℕ))). length (search cmp p x).pairs) g.counts.buckets-are) ∙ sym (length-append g.work.pairs (search cmp p g.work.buckets).pairs);
                           brought-are = g.counts.brought-are;
                         };
-                        comes-to = place_at R g.work grows (sym (at_next g.work (step_kept cmp (chosen divides_word (divisors_of words coefs starts)) ◌-◌ ◌+◌ over_word p (length ow) (limit - suc s.finished) s.finished (remainder_in s ow oc) g.work L.at L.term (in-work g.work g.counts) no-fit (omega (arith, written-long out)))) ∙ g.comes-to);
+                        comes-to = place_at R g.work grows (sym (at_next g.work (step_kept cmp (chosen divides_word (divisors_of words coefs starts)) ◌-◌ ◌+◌ over_word p (length ow) (limit - suc s.finished) s.finished (remainder_in s ow oc) g.work k.bucket (term k.word k.coef) (in-work g.work g.counts) no-fit (omega (arith, written-long out)))) ∙ g.comes-to);
                       };
                       ended = λ q. absurd (false-true (sym q ∙ a.more));
                     };
@@ -407,7 +396,7 @@ module _ {o : Order} {p : ℕ} {words coefs starts leads : List ℕ} {limit : �
                     coefs-past = coefs-past out x y refl fit;
                   }
                 where
-                  place_at : (R : Reduction ℕ) (w : events.Work ℕ) {r : List (Term ℕ)} → r ≡ remainder_in s ow oc ++ L.term ∷ [] → steps_from (compare_words o) (chosen divides_word (divisors_of words coefs starts)) ◌-◌ ◌+◌ over_word p (length ow) (limit - suc s.finished) (suc s.finished) (remainder_in s ow oc ++ L.term ∷ []) (events.removed (compare_words o) p w) ≡ R
+                  place_at : (R : Reduction ℕ) (w : events.Work ℕ) {r : List (Term ℕ)} → r ≡ remainder_in s ow oc ++ (term k.word k.coef) ∷ [] → steps_from (compare_words o) (chosen divides_word (divisors_of words coefs starts)) ◌-◌ ◌+◌ over_word p (length ow) (limit - suc s.finished) (suc s.finished) (remainder_in s ow oc ++ (term k.word k.coef) ∷ []) (events.removed (compare_words o) p w) ≡ R
                       → steps_from (compare_words o) (chosen divides_word (divisors_of words coefs starts)) ◌-◌ ◌+◌ over_word p (length ow) (limit - (s.finished + 1)) (s.finished + 1) r (events.removed (compare_words o) p w) ≡ R
                   place_at R w er e = ap₂ (λ (n : ℕ) (r : List (Term ℕ)). steps_from cmp (chosen divides_word (divisors_of words coefs starts)) ◌-◌ ◌+◌ over_word p (length ow) (limit - n) n r (events.removed cmp p w)) (add-one s.finished) er ∙ e
 
@@ -415,26 +404,9 @@ module _ {o : Order} {p : ℕ} {words coefs starts leads : List ℕ} {limit : �
               by (full h es eb ew ec) =
                   rw (eb, ew, ec)
                   (halted-step (Refused NoOutput) refl
-                  (λ w c. at_next w (step-full cmp (chosen divides_word (divisors_of words coefs starts)) ◌-◌ ◌+◌ over_word p (length ow) (limit - suc s.finished) s.finished (remainder_in s ow oc) w L.at L.term (in-work w c) no-fit (omega (arith, written-long a.sound.output, terms-same))))
+                  (λ w c. at_next w (step-full cmp (chosen divides_word (divisors_of words coefs starts)) ◌-◌ ◌+◌ over_word p (length ow) (limit - suc s.finished) s.finished (remainder_in s ow oc) w k.bucket (term k.word k.coef) (in-work w c) no-fit (omega (arith, written-long a.sound.output, terms-same))))
                   es a.numbers)
               by (put h es eb ew ec) =
                   let ew' : ow' ≡ set ow s.places k.word = ew ∙ ap (λ (n : ℕ). set ow n k.word) terms-same in
                   let ec' : oc' ≡ set oc s.places k.coef = ec ∙ ap (λ (n : ℕ). set oc n k.coef) terms-same in
                   rw (eb, ew', ec') (subst (λ (x : State). Stepped o p words coefs starts limit s x₀ ow oc x kept (without k.bucket x₁) (set ow s.places k.word) (set oc s.places k.coef)) (sym (es ∙ ap (λ (x : State). gave (finished_one x) 1 1) et)) (put-to (omega (arith, terms-same))))
-
--- ---- by what the search came to
-pub ended-step : {o : Order} {p : ℕ} {words coefs starts leads : List ℕ} {limit : ℕ} {s : State} {kept : List ℕ} {x₀ : Spaces} {ow oc : List ℕ} → Stepping o p words coefs starts leads limit s kept x₀ ow oc → {x₁ : Spaces} {k : Candidate} → Found o p x₀ x₁ k → {t : State} → Searched s k limit t → goes_on t.course ≡ false → Stepped o p words coefs starts limit s x₀ ow oc t kept x₁ ow oc
-ended-step a d (no_lead h e) off = zero-step a d refl h e
-ended-step a d (no_step n h e) off = limit-step a d refl n h e
-ended-step a d (one-step n h e) off = absurd (false-true (sym off ∙ (ap (λ (x : State). goes_on x.course) e ∙ a.more)))
-
--- a lead was found and a step is left
-pub record OneStep (s : State) (k : Candidate) (limit : ℕ) (t : State) : Type 0 where
-  pub counted_is : t ≡ counted s k.count
-  pub some-lead : k.bucket ≡ 6 → ⊥
-  pub some_left : t.finished ≡ limit → ⊥
-
-pub goes_on_lem : {s : State} {k : Candidate} {limit : ℕ} {t : State} → Searched s k limit t → goes_on t.course ≡ true → OneStep s k limit t
-goes_on_lem (no_lead h e) on = absurd (false-true (sym (ap (λ (x : State). goes_on x.course) e) ∙ on))
-goes_on_lem (no_step n h e) on = absurd (false-true (sym (ap (λ (x : State). goes_on x.course) e) ∙ on))
-goes_on_lem (one-step n h e) on = record { counted_is = e; some-lead = n; some_left = λ q. h (ap (λ (x : State). x.finished) (sym e) ∙ q) }

@@ -14,10 +14,11 @@ use Rattle.space.specs.Space.{Spaces, words_in, Standing}
 use Rattle.refusal.specs.declared.Refusal.TheVariants.{TooManyTerms, ExponentOver}
 use Rattle.call.specs.declared.state.State.{State}
 use Rattle.call.specs.States.{counted, brought, finished_one, halted}
-use Rattle.search.specs.declared.candidate.Candidate.{Candidate}
+use Rattle.search.specs.declared.candidate.Lead.{Lead}
 use Rattle.search.specs.Searching.{Removal, without}
 use Rattle.buckets.specs.Adding.{Added}
 use Rattle.division.specs.Division.{tail_multiple}
+use Rattle.divisors.specs.declared.kept.Cache.{Cache}
 use Rattle.divisors.specs.Divisors.{lead_word, lead_coef, tail_of, KeptNumbers}
 use Rattle.reducer.specs.Divisors.{OfLayout, Checked}
 
@@ -48,7 +49,7 @@ pub record TailAdded (o : Order) (p : ℕ) (f : Factor) (q : ℕ) (tw tc : List 
 
 -- ---- the lead is divided by divisor k
 
-pub record Dividing (o : Order) (p : ℕ) (words coefs starts : List ℕ) (k : ℕ) (s : State) (lead : Candidate) (kept : List ℕ) (x : Spaces) : Type 0 where
+pub record Dividing (o : Order) (p : ℕ) (words coefs starts : List ℕ) (k : ℕ) (s : State) (lead : Lead) (kept : Cache) (x : Spaces) : Type 0 where
   pub checked : Checked o p words coefs starts
   pub low : 1 ≤ k
   pub high : k + 1 < length starts
@@ -67,7 +68,7 @@ pub record Dividing (o : Order) (p : ℕ) (words coefs starts : List ℕ) (k : �
   pub few-comparisons : s.comparisons < 2000000000000000000
   pub few-brought : s.brought < 2000000000000000000
 
-module _ (o : Order) (p : ℕ) (words coefs starts : List ℕ) (k : ℕ) (s : State) (lead : Candidate) (x : Spaces) where
+module _ (o : Order) (p : ℕ) (words coefs starts : List ℕ) (k : ℕ) (s : State) (lead : Lead) (x : Spaces) where
   -- the multiple of the tail, by the lead c·α that was found
   abbrev pub to_add : List (Term ℕ)
   to_add = tail_multiple ◌-◌ ◌+◌ p (term lead.word lead.coef) (term (lead_word words starts k) (lead_coef coefs starts k)) (terms (tail_of starts k words) (tail_of starts k coefs))
@@ -80,6 +81,6 @@ module _ (o : Order) (p : ℕ) (words coefs starts : List ℕ) (k : ℕ) (s : St
         → (comparisons : ℕ) → Added o p (without lead.bucket x) to_add x' comparisons → s' ≡ brought (counted (finished_one s) comparisons) (length (tail_of starts k words))
         → DividedTo s' x'
 
-pub record Divided (o : Order) (p : ℕ) (words coefs starts : List ℕ) (k : ℕ) (s : State) (lead : Candidate) (x : Spaces) (s' : State) (kept' : List ℕ) (x' : Spaces) : Type 0 where
+pub record Divided (o : Order) (p : ℕ) (words coefs starts : List ℕ) (k : ℕ) (s : State) (lead : Lead) (x : Spaces) (s' : State) (kept' : Cache) (x' : Spaces) : Type 0 where
   pub numbers : KeptNumbers p words coefs starts kept'
   pub done : DividedTo o p words coefs starts k s lead x s' x'

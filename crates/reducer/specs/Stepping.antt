@@ -9,31 +9,24 @@ use Rattle.merge_common.specs.Lent.{part}
 use Rattle.geobucket.specs.Buckets.{held}
 use Rattle.geobucket.specs.Events as events
 use Rattle.space.specs.Space.{Buckets, dropped, no_buckets, Spaces, words_in, Standing}
-use Rattle.refusal.specs.declared.Refusal.TheVariants.{NoOutput, TooManyTerms, StepLimit}
+use Rattle.refusal.specs.declared.Refusal.TheVariants.{NoOutput, TooManyTerms}
 use Rattle.call.specs.declared.state.State.{State}
-use Rattle.call.specs.States.{begun, counted, brought, gave, finished_one, closed, halted, goes_on, stop_of}
+use Rattle.call.specs.States.{begun, counted, brought, gave, finished_one, halted, goes_on, stop_of}
 use Rattle.call.specs.Counts.{Counts}
 use Rattle.call.specs.Lending.{polynomial, divisors_of, Output}
-use Rattle.search.specs.declared.candidate.Candidate.{Candidate}
+use Rattle.search.specs.declared.candidate.Lead.{Lead}
 use Rattle.search.specs.Searching.{Removal}
 use Rattle.buckets.specs.Adding.{Added}
 use Rattle.division.specs.Choice.{chosen}
 use Rattle.division.specs.Divisors.{AllOf}
 use Rattle.division.specs.Steps.{Reduction, steps_from, over_word, reduction_of_words}
+use Rattle.divisors.specs.declared.kept.Cache.{Cache}
 use Rattle.divisors.specs.Divisors.{KeptLeads, KeptNumbers}
 use Rattle.reducer.specs.Divisors.{OfLayout, Checked}
 
--- ---- the search
-
--- no lead was found, or one was found with no step left, or with one
-pub data Searched (s : State) (lead : Candidate) (limit : ℕ) (s' : State) : Type 0 where
-  no_lead : lead.bucket ≡ 6 → s' ≡ closed (counted s lead.count) → Searched s lead limit s'
-  no_step : (lead.bucket ≡ 6 → ⊥) → s.finished ≡ limit → s' ≡ halted (counted s lead.count) StepLimit → Searched s lead limit s'
-  one-step : (lead.bucket ≡ 6 → ⊥) → (s.finished ≡ limit → ⊥) → s' ≡ counted s lead.count → Searched s lead limit s'
-
 -- ---- the lead goes to the remainder
 
-pub record Keeping (s : State) (lead : Candidate) (b : Buckets) (ow oc : List ℕ) : Type 0 where
+pub record Keeping (s : State) (lead : Lead) (b : Buckets) (ow oc : List ℕ) : Type 0 where
   pub removal : Removal b lead.bucket
   pub few-leads : s.finished < 10000000000000
   pub given-are : s.given ≡ s.places
@@ -41,7 +34,7 @@ pub record Keeping (s : State) (lead : Candidate) (b : Buckets) (ow oc : List �
   pub output : Output s.places ow oc
 
 -- "else 10": where the output has no place for it, nothing is done
-pub data Kept (s : State) (lead : Candidate) (b : Buckets) (ow oc : List ℕ) (s' : State) (b' : Buckets) (ow' oc' : List ℕ) : Type 0 where
+pub data Kept (s : State) (lead : Lead) (b : Buckets) (ow oc : List ℕ) (s' : State) (b' : Buckets) (ow' oc' : List ℕ) : Type 0 where
   full : length ow ≤ s.places → s' ≡ halted s NoOutput → b' ≡ b → ow' ≡ ow → oc' ≡ oc → Kept s lead b ow oc s' b' ow' oc'
   put : s.places < length ow → s' ≡ gave (finished_one s) 1 1 → b' ≡ dropped b lead.bucket → ow' ≡ set ow s.places lead.word → oc' ≡ set oc s.places lead.coef → Kept s lead b ow oc s' b' ow' oc'
 
@@ -83,7 +76,7 @@ pub record Sound (o : Order) (p : ℕ) (words coefs starts : List ℕ) (limit : 
   pub few-comparisons : goes_on s.course ≡ true → s.comparisons ≤ 100000 * (s.finished + 1)
   pub few-brought : goes_on s.course ≡ true → s.brought ≤ most_terms * (s.finished + 1)
 
-pub record Stepping (o : Order) (p : ℕ) (words coefs starts leads : List ℕ) (limit : ℕ) (s : State) (kept : List ℕ) (x : Spaces) (ow oc : List ℕ) : Type 0 where
+pub record Stepping (o : Order) (p : ℕ) (words coefs starts leads : List ℕ) (limit : ℕ) (s : State) (kept : Cache) (x : Spaces) (ow oc : List ℕ) : Type 0 where
   pub few-steps : limit ≤ most_steps
   pub more : goes_on s.course ≡ true
   pub sound : Sound o p words coefs starts limit s x ow oc
@@ -91,7 +84,7 @@ pub record Stepping (o : Order) (p : ℕ) (words coefs starts leads : List ℕ) 
   pub numbers : KeptNumbers p words coefs starts kept
 
 -- whatever reduction the published steps come to, this step is one of them; output past the remainder is untouched
-pub record Stepped (o : Order) (p : ℕ) (words coefs starts : List ℕ) (limit : ℕ) (s : State) (x : Spaces) (ow oc : List ℕ) (s' : State) (kept' : List ℕ) (x' : Spaces) (ow' oc' : List ℕ) : Type 0 where
+pub record Stepped (o : Order) (p : ℕ) (words coefs starts : List ℕ) (limit : ℕ) (s : State) (x : Spaces) (ow oc : List ℕ) (s' : State) (kept' : Cache) (x' : Spaces) (ow' oc' : List ℕ) : Type 0 where
   pub sound : Sound o p words coefs starts limit s' x' ow' oc'
   pub numbers : KeptNumbers p words coefs starts kept'
   pub further : goes_on s'.course ≡ true → (s'.finished ≡ s.finished + 1) × (s.finished < limit)

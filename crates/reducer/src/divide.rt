@@ -12,6 +12,7 @@ use buckets::last::merge_last;
 use call::state::State;
 use divisors::highest::tail_highest;
 use divisors::inverse::{factor_by, lead_inverse};
+use divisors::kept::Cache;
 use limits::MOST_TERMS;
 use monomial::word::quotient;
 use multiple::multiple::{over, put_multiple};
@@ -20,22 +21,20 @@ use polynomial::ring::Ring;
 use refusal::Refusal;
 use residue::arithmetic::negate;
 use residue::factor::Factor;
-use search::candidate::Candidate;
+use search::candidate::Lead;
 use search::lead::remove_lead;
 use space::state::held;
 
 // Divides the lead by divisor k: its tail times −c divided by its lead coefficient, and times the
 // quotient monomial, is added. Refused with 12 where a product has an exponent over 127, then with 11
 // where the buckets would hold over 4,096 terms; the lead is not counted.
-// Kept: the lent slices as parameters of their own, here and below: in a struct of `&mut` slices a contract would
-// name each one before and after, and say of each that it is still the slice that was lent.
 pub fn divide(
     ring: Ring,
     ps: Polynomials,
     k: usize,
     s: State,
-    lead: Candidate,
-    kept: &mut [u64],
+    lead: Lead,
+    kept: &mut Cache,
     b: &mut [usize],
     bw: &mut [u64],
     bc: &mut [u32],
@@ -45,11 +44,10 @@ pub fn divide(
     requires { Dividing ring.order ring.p ps.words.now ps.coefs.now ps.starts.now k s lead kept.old (spaces b.old ww.old wc.old bw.old bc.old) × Slices ww.old wc.old bw.old bc.old }
     ensures { Divided ring.order ring.p ps.entry.words.now ps.entry.coefs.now ps.entry.starts.now k s lead (spaces b.old ww.old wc.old bw.old bc.old) result kept.new (spaces b.new ww.new wc.new bw.new bc.new) }
 {
-    let gw = ps.words_of(k);
-    let gc = ps.coefs_of(k);
-    let q = quotient(lead.word, gw[0]);
-    let tw = &gw[1..];
-    let tc = &gc[1..];
+    let g = ps.part(k);
+    let q = quotient(lead.word, g.words[0]);
+    let tw = &g.words[1..];
+    let tc = &g.coefs[1..];
     if over(q, tail_highest(tw, k, kept)) {
         return s.halt(Refusal::ExponentOver);
     }
@@ -65,6 +63,10 @@ pub fn divide(
 
 // Adds the tail times factor·q. Where one of buckets 0 to 4 takes it, it is made past the areas of the
 // work space.
+// Kept: this and `add_large` beside `put_and_add` and `add_large` of `buckets::add`, which fill otherwise. With the
+// filling as a closure its contract (`F.post`) would have to say what it leaves in two lent slices, in the work
+// space from `FREE` on and in local arrays alike; and `add_large` there fills no coefficients, but hands on those that
+// are lent to it.
 fn add_tail(
     ring: Ring,
     factor: Factor,

@@ -1,27 +1,27 @@
 // One step of a reduction.
 ghost use Rattle.space.specs.Space.{spaces, Slices};
-ghost use Rattle.call.specs.States.{Countable};
-ghost use Rattle.reducer.specs.Stepping.{Searched, Keeping, Kept, Stepping, Stepped};
+ghost use Rattle.reducer.specs.Stepping.{Keeping, Kept, Stepping, Stepped};
 
 use crate::divide::divide;
 use call::state::State;
 use divisors::divisor::first_fit;
+use divisors::kept::{Cache, KEPT};
 use polynomial::part::Polynomials;
 use polynomial::ring::Ring;
 use refusal::Refusal;
-use search::candidate::Candidate;
+use search::candidate::Lead;
 use search::lead::{find_lead, remove_lead};
 
 // Finds the lead, then divides it by the first divisor whose lead monomial divides it, or puts it to
-// the remainder. Stops with 13 where a lead is found and the limit's leads are removed already.
-// Kept: the lent slices as parameters of their own, as in `divide`.
+// the remainder. The reduction ends where no lead is found, and stops with 13 where one is found and the limit's
+// leads are removed already.
 pub fn step(
     ring: Ring,
     ps: Polynomials,
-    leads: &[u64],
+    leads: &[u64; KEPT],
     limit: u64,
     s: State,
-    kept: &mut [u64],
+    kept: &mut Cache,
     b: &mut [usize],
     bw: &mut [u64],
     bc: &mut [u32],
@@ -33,10 +33,13 @@ pub fn step(
     requires { Stepping ring.order ring.p ps.words.now ps.coefs.now ps.starts.now leads.now limit s kept.old (spaces b.old ww.old wc.old bw.old bc.old) ow.old oc.old × Slices ww.old wc.old bw.old bc.old }
     ensures { Stepped ring.order ring.p ps.entry.words.now ps.entry.coefs.now ps.entry.starts.now limit s (spaces b.old ww.old wc.old bw.old bc.old) ow.old oc.old result kept.new (spaces b.new ww.new wc.new bw.new bc.new) ow.new oc.new }
 {
-    let lead = find_lead(ring, b, bw, bc, ww, wc);
-    let t = after_search(s, lead, limit);
-    if !t.goes_on() {
-        return t;
+    let found = find_lead(ring, b, bw, bc, ww, wc);
+    let t = s.compare(found.count);
+    let Some(lead) = found.lead else {
+        return t.close();
+    };
+    if t.finished == limit {
+        return t.halt(Refusal::StepLimit);
     }
     if let Some(k) = first_fit(ps, leads, lead.word) {
         return divide(ring, ps, k, t, lead, kept, b, bw, bc, ww, wc);
@@ -44,25 +47,8 @@ pub fn step(
     keep(t, lead, b, ow, oc)
 }
 
-// The state after the search: the reduction ends where no lead was found, then stops with 13 where the
-// limit's leads are removed already.
-// Kept: bucket 6 for none, as the Candidate has it.
-fn after_search(s: State, lead: Candidate, limit: u64) -> State
-    requires { Countable s.comparisons lead.count }
-    ensures { Searched s lead limit result }
-{
-    let t = s.compare(lead.count);
-    if lead.bucket == 6 {
-        return t.close();
-    }
-    if t.finished == limit {
-        return t.halt(Refusal::StepLimit);
-    }
-    t
-}
-
 // Puts the lead to the remainder, or refuses with 10 where the output has no place for it.
-fn keep(s: State, lead: Candidate, b: &mut [usize], ow: &mut [u64], oc: &mut [u32]) -> State
+fn keep(s: State, lead: Lead, b: &mut [usize], ow: &mut [u64], oc: &mut [u32]) -> State
     requires { Keeping s lead b.old ow.old oc.old }
     ensures { Kept s lead b.old ow.old oc.old result b.new ow.new oc.new }
 {

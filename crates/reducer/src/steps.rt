@@ -9,14 +9,14 @@ use crate::step::step;
 use buckets::add::add_polynomial;
 use call::state::State;
 use divisors::divisor::keep_leads;
+use divisors::kept::{Cache, KEPT};
 use limits::MOST_TERMS;
 use polynomial::part::Polynomials;
 use polynomial::ring::Ring;
 use refusal::Refusal;
 
 // The reduction of polynomial 0 by the others, all of which passed the opening checks.
-// Kept: the lent slices as parameters of their own, here and below, as in `divide`; and fixed arrays for what is
-// kept of the first 1,024 divisors (one place of `leads` each, and two of `kept`), as the engine has no heap.
+// Kept: fixed arrays for what is kept of the first 1,024 divisors, as the engine has no heap.
 pub fn reduce_all(
     ring: Ring,
     ps: Polynomials,
@@ -32,12 +32,14 @@ pub fn reduce_all(
     requires { Reducible ring.order ring.p ps.words.now ps.coefs.now ps.starts.now limit × Lent b.old bw.old bc.old ww.old wc.old ow.old oc.old }
     ensures { Reduced ring.order ring.p ps.entry.words.now ps.entry.coefs.now ps.entry.starts.now limit ow.old oc.old result (spaces b.new ww.new wc.new bw.new bc.new) ow.new oc.new }
 {
-    let mut leads = [0u64; 1024];
-    let mut kept = [0u64; 2048];
+    let mut leads = [0; KEPT];
+    let mut kept = Cache {
+        inverses: [0; KEPT],
+        highest: [0; KEPT],
+    };
     keep_leads(ps, &mut leads);
-    let fw = ps.words_of(0);
-    let fc = ps.coefs_of(0);
-    let mut s = begin(ring, fw, fc, b, bw, bc, ww, wc);
+    let f = ps.part(0);
+    let mut s = begin(ring, f.words, f.coefs, b, bw, bc, ww, wc);
     while s.goes_on() {
         s = step(
             ring, ps, &leads, limit, s, &mut kept, b, bw, bc, ww, wc, ow, oc,

@@ -11,11 +11,12 @@ use call::answer::{Answer, Returned, Tally, ended, refused};
 use conditions::lengths::Lengths;
 use monomial::order::order_of;
 use opening::reduction::reduction_opening;
+use opening::setting::GivenSetting;
 use polynomial::part::Polynomials;
 use polynomial::ring::Ring;
 use reducer::steps::reduce_all;
 use space::settle::settle;
-use space::state::clear;
+use space::state::EMPTY;
 
 // Reduces polynomial 0 by the others, with at most `limit` leads removed. The old counts come back from
 // an opening refusal, which changes nothing.
@@ -23,14 +24,14 @@ use space::state::clear;
 // function; and the buckets' places in an array of 18, lent on as a slice (see `space`).
 // Kept: beside `runs::run`. One function for both would take the check and the steps as closures over the lent
 // slices, and its contract would have to give `run_outcome` for one such pair, `reduction_outcome` for the other.
-pub fn reduce<'a>(
+pub fn reduce(
     tally: Tally,
     p: u32,
     order: u32,
     n: u32,
     weights: &[u32],
-    words: &'a [u64],
-    coefs: &'a [u32],
+    words: &[u64],
+    coefs: &[u32],
     starts: &[usize],
     limit: u64,
     bw: &mut [u64],
@@ -49,6 +50,8 @@ pub fn reduce<'a>(
         coefs,
         starts,
     };
+    // Kept: the lengths by name, as in `runs`: a function that made them of the six slices would take three of
+    // u64 and three of u32, in an order that no type holds.
     let lengths = Lengths {
         bw: bw.len(),
         bc: bc.len(),
@@ -57,11 +60,16 @@ pub fn reduce<'a>(
         ow: ow.len(),
         oc: oc.len(),
     };
-    if let Err(refusal) = reduction_opening(p, order, n, weights, ps, limit, lengths) {
+    let given = GivenSetting {
+        p,
+        order,
+        n,
+        weights,
+    };
+    if let Err(refusal) = reduction_opening(given, ps, limit, lengths) {
         return refused(refusal, tally);
     }
-    let mut b = [0usize; 18];
-    clear(&mut b);
+    let mut b = EMPTY;
     let order = order_of(order);
     let ring = Ring { order, p };
     let s = reduce_all(ring, ps, limit, &mut b, bw, bc, ww, wc, ow, oc);
@@ -71,14 +79,14 @@ pub fn reduce<'a>(
 
 // The same, with the counts set in place.
 // Kept: may not change: an entry of document 01 beside `reduce`, which `README.md` and `docs/` name.
-pub fn reduce_in_place<'t, 'a>(
-    tally: &'t mut Tally,
+pub fn reduce_in_place(
+    tally: &mut Tally,
     p: u32,
     order: u32,
     n: u32,
     weights: &[u32],
-    words: &'a [u64],
-    coefs: &'a [u32],
+    words: &[u64],
+    coefs: &[u32],
     starts: &[usize],
     limit: u64,
     bw: &mut [u64],

@@ -56,12 +56,14 @@ pub fn refusal_of(number: u32) -> Refusal
     }
 }
 
-// The number of a cause: the discriminant.
-// Kept: no plainer as `From`: `u32::from(refused.refusal)` does not say that the number is the documents'.
-pub fn number_of(refusal: Refusal) -> u32
-    ensures { result ≡ number_of refusal }
-{
-    refusal as u32
+impl Refusal {
+    // Its number, as documents 01 and 02 have it: the discriminant.
+    // Kept: no plainer as `From`: `u32::from(refused.refusal)` does not say that the number is the documents'.
+    pub fn number(self) -> u32
+        ensures { result ≡ number_of self }
+    {
+        self as u32
+    }
 }
 
 // What a call gives that is refused before it began: the cause, and that 0 operations are finished.

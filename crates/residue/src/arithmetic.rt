@@ -2,10 +2,6 @@
 ghost use Rattle.std.specs.Prelude.{◌≡◌, ◌<◌};
 ghost use Rattle.residue.specs.Modular.{Modulus, sum, negative, product};
 
-// Kept: p and the residues are plain numbers, here and wherever `Modulus p` and `a < p` are asked for. They lie so in
-// the slices that C lends: a type would be put round each number at every turn of a merge and taken off to store it,
-// and would spare no fact, since what the merges ask (`Areas`, `Into`) says it of p and of all coefficients at once.
-
 // a + b modulo p. The sum is below 2p, so one subtraction is enough.
 pub fn add(a: u32, b: u32, p: u32) -> u32
     requires { Modulus p × (a < p) × (b < p) }

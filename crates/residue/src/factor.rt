@@ -3,7 +3,7 @@ ghost use Rattle.std.specs.Prelude.{◌≡◌, ◌<◌};
 ghost use Rattle.residue.specs.Modular.{Modulus, product};
 ghost use Rattle.residue.specs.Share.{FactorOf, Prepared};
 
-const WORD: u64 = 4294967296;
+const WORD: u64 = 0x1_0000_0000;
 
 // A factor and its modulus. `share` is value * 2^32 / prime, rounded down.
 #[derive(Clone, Copy)]
@@ -29,15 +29,16 @@ impl Factor {
     // The factor times x. The quotient that the share gives is at most one too small, so one
     // subtraction of the modulus is enough. What it leaves is below 2^32, and is compared in 32 bits,
     // so that the processor makes several products at once.
-    // Kept: `as u64`: tried, and with `u64::from` the difference and the result did not close, since the laws in
-    // `Shoup` are of products of the fields, and not of what `from` gave.
+    // Kept: may not change: `Prepared self` is a clause, here, at `put_scaled` of `multiple` and in what the reducer
+    // asks, and no invariant of the type: docs/ASSURANCE.md and docs/changes/4-larger-primes.md name `Factor` and
+    // `times` by what they ask, so the type does not become narrower.
     pub fn times(self, x: u32) -> u32
         requires { Prepared self × (x < self.prime) }
         ensures { result ≡ product self.prime self.value x }
     {
         let p = self.prime;
-        let quotient = self.share as u64 * x as u64 / WORD;
-        let r = (self.value as u64 * x as u64 - quotient * p as u64) as u32;
+        let quotient = u64::from(self.share) * u64::from(x) / WORD;
+        let r = (u64::from(self.value) * u64::from(x) - quotient * u64::from(p)) as u32;
         if r < p { r } else { r - p }
     }
 }

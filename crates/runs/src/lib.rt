@@ -12,23 +12,24 @@ use conditions::lengths::Lengths;
 use engine::run::operate_all;
 use monomial::order::order_of;
 use opening::run::run_opening;
+use opening::setting::GivenSetting;
 use polynomial::part::Polynomials;
 use polynomial::ring::Ring;
 use space::settle::settle;
-use space::state::clear;
+use space::state::EMPTY;
 
 // Does the operations on an empty geobucket. The old counts come back from an opening refusal, which
 // changes nothing.
 // Kept: fifteen parameters, here and in `run_in_place`: they are what a call lends by document 01, in the order in
 // which the C function lends them; and the buckets' places in an array of 18, lent on as a slice (see `space`).
-pub fn run<'a>(
+pub fn run(
     tally: Tally,
     p: u32,
     order: u32,
     n: u32,
     weights: &[u32],
-    words: &'a [u64],
-    coefs: &'a [u32],
+    words: &[u64],
+    coefs: &[u32],
     starts: &[usize],
     ops: &[usize],
     bw: &mut [u64],
@@ -47,6 +48,8 @@ pub fn run<'a>(
         coefs,
         starts,
     };
+    // Kept: the lengths by name, as in `reductions`: a function that made them of the six slices would take three
+    // of u64 and three of u32, in an order that no type holds.
     let lengths = Lengths {
         bw: bw.len(),
         bc: bc.len(),
@@ -55,11 +58,16 @@ pub fn run<'a>(
         ow: ow.len(),
         oc: oc.len(),
     };
-    if let Err(refusal) = run_opening(p, order, n, weights, ps, ops, lengths) {
+    let given = GivenSetting {
+        p,
+        order,
+        n,
+        weights,
+    };
+    if let Err(refusal) = run_opening(given, ps, ops, lengths) {
         return refused(refusal, tally);
     }
-    let mut b = [0usize; 18];
-    clear(&mut b);
+    let mut b = EMPTY;
     let order = order_of(order);
     let ring = Ring { order, p };
     let s = operate_all(ring, ps, ops, &mut b, bw, bc, ww, wc, ow, oc);
@@ -69,14 +77,14 @@ pub fn run<'a>(
 
 // The same, with the counts set in place.
 // Kept: may not change: an entry of document 01 beside `run`, which `README.md` and `docs/` name.
-pub fn run_in_place<'t, 'a>(
-    tally: &'t mut Tally,
+pub fn run_in_place(
+    tally: &mut Tally,
     p: u32,
     order: u32,
     n: u32,
     weights: &[u32],
-    words: &'a [u64],
-    coefs: &'a [u32],
+    words: &[u64],
+    coefs: &[u32],
     starts: &[usize],
     ops: &[usize],
     bw: &mut [u64],

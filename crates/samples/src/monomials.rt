@@ -11,50 +11,46 @@ use std::io;
 // The largest exponent.
 const M: u8 = 127;
 
-// The number n of variables, and the exponents of x and of y, in six places each of which the first
-// n are used. The first two pairs are known results of document 01.
-const PAIRS: [[u8; 13]; 24] = [
-    [3, 0, 2, 0, 0, 0, 0, 1, 0, 1, 0, 0, 0],
-    [3, 1, 0, 0, 0, 0, 0, 0, 5, 0, 0, 0, 0],
-    [2, 2, 1, 0, 0, 0, 0, 1, 1, 0, 0, 0, 0],
-    [2, 2, 1, 0, 0, 0, 0, 2, 1, 0, 0, 0, 0],
-    [2, 2, 0, 0, 0, 0, 0, 1, 1, 0, 0, 0, 0],
-    [2, 1, 1, 0, 0, 0, 0, 0, 2, 0, 0, 0, 0],
-    [1, 0, 0, 0, 0, 0, 0, 0, 0, 0, 0, 0, 0],
-    [1, 5, 0, 0, 0, 0, 0, 3, 0, 0, 0, 0, 0],
-    [1, M, 0, 0, 0, 0, 0, 1, 0, 0, 0, 0, 0],
-    [3, 0, 0, 0, 0, 0, 0, 0, 0, 1, 0, 0, 0],
-    [3, 0, 0, 1, 0, 0, 0, 0, 1, 0, 0, 0, 0],
-    [3, 1, 1, 1, 0, 0, 0, 3, 0, 0, 0, 0, 0],
-    [4, 1, 2, 3, 4, 0, 0, 4, 3, 2, 1, 0, 0],
-    [4, 2, 1, 1, 2, 0, 0, 1, 2, 2, 1, 0, 0],
-    [5, 1, 0, 2, 0, 1, 0, 1, 1, 0, 1, 1, 0],
-    [5, 3, 2, 2, 1, 1, 0, 1, 0, 2, 0, 1, 0],
-    [2, 100, 3, 0, 0, 0, 0, 27, 1, 0, 0, 0, 0],
-    [2, 100, 3, 0, 0, 0, 0, 28, 1, 0, 0, 0, 0],
-    [6, 0, 0, 0, 0, 0, 64, 0, 0, 0, 0, 0, 64],
-    [6, M, 0, 0, 0, 0, 0, 0, M, M, M, M, M],
-    [6, M, M, M, M, M, M, M, M, M, M, M, M],
-    [6, M, M, M, M, M, M, M, M, M, M, M, 126],
-    [6, M, M, M, M, M, M, 1, 0, 0, 0, 0, 0],
-    [6, M, M, M, M, M, M, 0, 0, 0, 0, 0, 0],
+// The exponents of x and of y, x1's first. The first two pairs are known results of document 01.
+const PAIRS: [(&[u8], &[u8]); 24] = [
+    (&[0, 2, 0], &[1, 0, 1]),
+    (&[1, 0, 0], &[0, 5, 0]),
+    (&[2, 1], &[1, 1]),
+    (&[2, 1], &[2, 1]),
+    (&[2, 0], &[1, 1]),
+    (&[1, 1], &[0, 2]),
+    (&[0], &[0]),
+    (&[5], &[3]),
+    (&[M], &[1]),
+    (&[0, 0, 0], &[0, 0, 1]),
+    (&[0, 0, 1], &[0, 1, 0]),
+    (&[1, 1, 1], &[3, 0, 0]),
+    (&[1, 2, 3, 4], &[4, 3, 2, 1]),
+    (&[2, 1, 1, 2], &[1, 2, 2, 1]),
+    (&[1, 0, 2, 0, 1], &[1, 1, 0, 1, 1]),
+    (&[3, 2, 2, 1, 1], &[1, 0, 2, 0, 1]),
+    (&[100, 3], &[27, 1]),
+    (&[100, 3], &[28, 1]),
+    (&[0, 0, 0, 0, 0, 64], &[0, 0, 0, 0, 0, 64]),
+    (&[M, 0, 0, 0, 0, 0], &[0, M, M, M, M, M]),
+    (&[M, M, M, M, M, M], &[M, M, M, M, M, M]),
+    (&[M, M, M, M, M, M], &[M, M, M, M, M, 126]),
+    (&[M, M, M, M, M, M], &[1, 0, 0, 0, 0, 0]),
+    (&[M, M, M, M, M, M], &[0, 0, 0, 0, 0, 0]),
 ];
 
 pub fn pairs(rt: &impl Print) -> io::Result<()> {
-    for row in PAIRS {
-        in_row(rt, row)?;
+    for (x, y) in PAIRS {
+        pair(rt, x, y)?;
     }
     Ok(())
 }
 
-// The pair of a row in the three orders.
-fn in_row(rt: &impl Print, row: [u8; 13]) -> io::Result<()> {
-    let n = usize::from(row[0]);
-    if n > 6 {
+// The pair of x and y in the three orders.
+fn pair(rt: &impl Print, x: &[u8], y: &[u8]) -> io::Result<()> {
+    if x.len() > 6 || y.len() > 6 {
         return Ok(());
     }
-    let x = &row[1..1 + n];
-    let y = &row[7..7 + n];
     for order in ORDERS {
         let u = word_in(order, x);
         let v = word_in(order, y);

@@ -11,11 +11,24 @@ use grammar::entry::{Shape, read_entry};
 use text::bytes::is_word;
 
 // How many terms, polynomials and operations have been read.
-#[derive(Clone, Copy)]
+#[derive(Clone, Copy, Default)]
 pub struct Counts {
     pub terms: usize,
     pub polynomials: usize,
     pub operations: usize,
+}
+
+impl Counts {
+    // The counts behind an operation without terms.
+    fn with_operation(self) -> Counts
+        requires { 2 * self.operations < 9223372036854775808 }
+        ensures { result ≡ counts_behind self lead_line }
+    {
+        Counts {
+            operations: self.operations + 1,
+            ..self
+        }
+    }
 }
 
 // Reads the terms of an addition, each behind a space, and puts them from place `at` on. Answers the place
@@ -55,17 +68,6 @@ fn put_pair(ops: &mut [usize], k: usize, operation: Operation)
     ops[2 * k + 1] = index;
 }
 
-// The counts behind an operation without terms.
-fn plain(c: Counts) -> Counts
-    requires { 2 * c.operations < 9223372036854775808 }
-    ensures { result ≡ counts_behind c lead_line }
-{
-    Counts {
-        operations: c.operations + 1,
-        ..c
-    }
-}
-
 // Reads an addition, by what stands behind the word.
 fn read_add(
     s: &[u8],
@@ -91,8 +93,9 @@ fn read_add(
 }
 
 // Reads a line, and answers the counts behind it.
-// Kept: the lent slices are parameters, here and in the other functions and modules: the contract of a struct of
-// `&mut` fields would have to say besides that each field is still the slice that was lent.
+// Kept: the lent slices are parameters, here and in the other functions and modules: with a struct of `&mut` fields
+// each contract would have to say besides that a field is still the slice that was lent, and of a field that is passed
+// on as `&[T]` a proof knows its length afterwards, and no element.
 pub fn read_line(
     s: &[u8],
     shape: Shape,
@@ -107,11 +110,11 @@ pub fn read_line(
 {
     if is_word(s, b"lead") {
         put_pair(ops, c.operations, Operation::Lead);
-        return Some(plain(c));
+        return Some(c.with_operation());
     }
     if is_word(s, b"sum") {
         put_pair(ops, c.operations, Operation::Sum);
-        return Some(plain(c));
+        return Some(c.with_operation());
     }
     let terms = s.strip_prefix(b"add")?;
     read_add(terms, shape, words, coefs, starts, ops, c)

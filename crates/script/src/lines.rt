@@ -5,7 +5,6 @@ ghost use Rattle.script.specs.Loading.{LinesRoom, ReadLines};
 
 use crate::line::{Counts, read_line};
 use grammar::entry::Shape;
-use text::bytes::split_once;
 
 // Reads the lines and puts what they say into words, coefficients, starts and operations. The first start
 // is left to the caller.
@@ -20,16 +19,13 @@ pub fn read_lines(
     requires { LinesRoom (length s.now) (length words.old) (length coefs.old) (length starts.old) (length ops.old) }
     ensures { ReadLines shape.order (fields shape.order shape.weights) shape.n s.now words.old coefs.old starts.old ops.old words.new coefs.new starts.new ops.new result }
 {
-    let mut c = Counts {
-        terms: 0,
-        polynomials: 0,
-        operations: 0,
-    };
-    // Kept: a `for` over `split` would have one part more, the text behind the last newline, to tell from a line.
-    let mut rest = s;
-    while let Some((line, behind)) = split_once(rest, b'\n') {
-        c = read_line(line, shape, words, coefs, starts, ops, c)?;
-        rest = behind;
+    let mut c = Counts::default();
+    if s.is_empty() {
+        return Some(c);
     }
-    rest.is_empty().then_some(c)
+    let ended = s.strip_suffix(b"\n")?;
+    for line in ended.split(|x| *x == b'\n') {
+        c = read_line(line, shape, words, coefs, starts, ops, c)?;
+    }
+    Some(c)
 }

@@ -5,17 +5,17 @@ use Prim.Native.Nat.{ℕ, suc, ◌+◌, ◌-◌, ◌<◌, ◌≤◌, Ordering}
 use native.Mathlib.Nat.{zero-add}
 use native.Mathlib.Omega.{arith}
 use lib.ListN.{length, get_or}
+use Rattle.std.specs.Prelude.{Option, Some, None, MatchOption}
 use Rattle.residue.specs.Modular.{Modulus}
 use Rattle.monomial.specs.TotalOrder.{TotalOrder}
 use Rattle.polynomial.specs.Terms.{Term, term}
 use Rattle.geobucket.specs.Buckets.{held, Good, Canon}
-use Rattle.geobucket.specs.Search.{Pass, Lead, none, lead, Searched, pass, search, put_back, with_lead}
+use Rattle.geobucket.specs.Search.{Pass, none, lead, Searched, pass, search, put_back, with_lead}
 use Rattle.geobucket.proofs.EventLaws.{good-canon}
-use Rattle.space.specs.Space.{Buckets, all_places, head_at, list_from, bucket_at, buckets_in, Laid, Stands, dropped}
+use Rattle.space.specs.Space.{Buckets, all_places, head_at, len_at, list_from, bucket_at, buckets_in, Laid, Stands, dropped}
 use Rattle.space.proofs.Starts.{cap-zero, six}
 use Rattle.space.proofs.SpaceLaws.{from-long, canon-at, good-from, held-short, bucket-short, bucket-none, bucket-lead, dropped-laid, dropped-other, some_of, drop_here}
 use Rattle.search.specs.declared.candidate.Candidate.{Candidate}
-use Rattle.search.specs.Candidates.{candidate_of}
 use Rattle.search.specs.Searching.{Seek, SeekDone, pass_from, FirstHeld, Removal, FindDone}
 use Rattle.search.proofs.FindLaws.{pass-first, pass-none, put-append, Fronted, fronted, seek-few, Finding, finding-start, pass-long, last-answer, last-buckets, last-count, whole-none, whole-lead, lead-in, fewer, lead-canon, finding-on}
 
@@ -29,6 +29,11 @@ pub record Finds (cmp : ℕ → ℕ → Ordering) (p : ℕ) (bs : List (List (Te
 -- good buckets are canonical
 pub stands-canon : {cmp : ℕ → ℕ → Ordering} {p : ℕ} {b : Buckets} {sw sc : List ℕ} → Stands cmp p b sw sc → Canon cmp p (buckets_in b sw sc)
 stands-canon {cmp} {p} {b} {sw} {sc} s = good-canon cmp p 4 (buckets_in b sw sc) s.good
+
+-- the lowest bucket that is not empty, from a look at each in turn
+pub held_first : (b : Buckets) (r : Option ℕ) → MatchOption r ((k : ℕ) → 0 ≤ k → k < 6 → len_at b k ≡ 0) (λ i. (0 ≤ i) × (i < 6) × (0 < len_at b i) × ((k : ℕ) → 0 ≤ k → k < i → len_at b k ≡ 0)) → MatchOption r (FirstHeld b 6) (λ i. FirstHeld b i × (i < 6))
+held_first b None h = record { most = omega arith; below = λ j u. h j (omega arith) u; held = λ u. absurd (let z : ⊥ = omega arith in z) }
+held_first b (Some i) h = (record { most = omega (arith, h.1); below = λ j u. h.3 j (omega arith) u; held = λ u. h.2 }, h.1)
 
 -- ---- the start
 pub finds-start : {cmp : ℕ → ℕ → Ordering} {p : ℕ} {b : Buckets} {sw sc : List ℕ} → Stands cmp p b sw sc → Finds cmp p (buckets_in b sw sc) sw b 0 sc
@@ -64,15 +69,16 @@ module _ {cmp : ℕ → ℕ → Ordering} {p : ℕ} {bs : List (List (Term ℕ))
     all_none : pass cmp p (buckets_in b sw sc) ≡ record { answer = none; buckets = buckets_in b sw sc; pairs = [] }
     all_none = pass-none cmp p (bucket_at b sw sc) 6 0 (λ j l. ap (bucket_at b sw sc) (zero-add j) ∙ empty-below j (omega arith))
 
-    pub find_none : {c : Candidate} → c ≡ candidate_of none n → FindDone cmp p bs b sw sc c
-    find_none {c} e =
+    pub find_none : FindDone cmp p bs b sw sc none n
+    find_none =
         let P : Searched ℕ = record { answer = none; buckets = buckets_in b sw sc; pairs = [] } in
         let w = whole-none O pos v.state P all_none refl in
         let a = last-answer O pos v.state P all_none w in
         let k : length (search cmp p bs).pairs ≡ n = last-count O pos v.state P all_none w ∙ (let z : n + 0 ≡ n = omega arith in z) in
         record {
-          candidate-is = e ∙ ap₂ candidate_of (sym a) (sym k);
-          few = omega (arith, v.state.few, ap (λ (x : Candidate). x.count) e);
+          answer-is = sym a;
+          count-is = sym k;
+          few = omega (arith, v.state.few);
           lists-are = sym (ap₂ with_lead a (last-buckets O pos v.state P all_none w));
           stands = stands_by v.modulus v.words_long v.coefs-long v.laid v.state.canon;
         }
@@ -80,7 +86,7 @@ module _ {cmp : ℕ → ℕ → Ordering} {p : ℕ} {bs : List (List (Term ℕ))
   -- ---- a turn
   module _ (h : i < 6) {key coef : ℕ} (ek : key ≡ get_or sw (head_at b i) 0) (ec : coef ≡ get_or sc (head_at b i) 0) where
     abbrev begun : Candidate
-    begun = record { bucket = i; word = key; coef = coef; count = n }
+    begun = record { bucket = i; key = key; coef = coef; count = n }
 
     pub seek-asks : Seek cmp p b begun sw sc
     seek-asks = record {
@@ -91,7 +97,7 @@ module _ {cmp : ℕ → ℕ → Ordering} {p : ℕ} {bs : List (List (Term ℕ))
       canonical = λ j l. canon-at cmp p (bucket_at b sw sc) 6 0 v.state.canon j (omega arith) (omega arith);
       within = h;
       some = first.held h;
-      word-is = ek;
+      key-is = ek;
       coef-is = ec;
       few = omega (arith, v.state.few);
     }
@@ -108,7 +114,7 @@ module _ {cmp : ℕ → ℕ → Ordering} {p : ℕ} {bs : List (List (Term ℕ))
           let e : i + suc (5 - i) ≡ 6 = omega arith in
           let z : 0 + i ≡ i = omega arith in
           let own = bucket-lead b i v.laid h (first.held h) sw sc v.words_long v.coefs-long ∙ ap₂ (λ (w x : ℕ). term w x ∷ bucket_at (dropped b i) sw sc i) (sym ek) (sym ec) in
-          let r = pass-first cmp p (bucket_at b sw sc) i 0 (5 - i) (λ j l. ap (bucket_at b sw sc) (zero-add j) ∙ empty-below j l) (term begun.word begun.coef) (bucket_at (dropped b i) sw sc i) (ap (bucket_at b sw sc) z ∙ own) in
+          let r = pass-first cmp p (bucket_at b sw sc) i 0 (5 - i) (λ j l. ap (bucket_at b sw sc) (zero-add j) ∙ empty-below j l) (term begun.key begun.coef) (bucket_at (dropped b i) sw sc i) (ap (bucket_at b sw sc) z ∙ own) in
           rw (z, e) at r
 
       lists : buckets_in b' sw sc' ≡ put_back (i + S.at) S.lead P.buckets
@@ -124,27 +130,21 @@ module _ {cmp : ℕ → ℕ → Ordering} {p : ℕ} {bs : List (List (Term ℕ))
       bucket-six = omega (arith, in-six, d.bucket-is)
 
       few : length S.pairs ≤ 5
-      few = omega (arith, seek-few cmp p (list_from (bucket_at b sw sc) (suc i) (5 - i)) (term begun.word begun.coef) (bucket_at (dropped b i) sw sc i), from-long (bucket_at b sw sc) (suc i) (5 - i))
+      few = omega (arith, seek-few cmp p (list_from (bucket_at b sw sc) (suc i) (5 - i)) (term begun.key begun.coef) (bucket_at (dropped b i) sw sc i), from-long (bucket_at b sw sc) (suc i) (5 - i))
 
       -- the lead is found
-      pub find-lead : (c.coef ≡ 0 → ⊥) → FindDone cmp p bs b' sw sc' c
+      pub find-lead : (c.coef ≡ 0 → ⊥) → FindDone cmp p bs b' sw sc' (lead c.bucket (term c.key c.coef)) c.count
       find-lead ne =
           let ne' : S.lead.coef ≡ 0 → ⊥ = λ e. ne (sym coef-is ∙ e) in
           let w = whole-lead O pos v.state P is-pass (i + S.at) S.lead refl ne' in
           let a = last-answer O pos v.state P is-pass w in
           record {
-            candidate-is = same c d.bucket-is d.term_is (d.count-is ∙ sym (last-count O pos v.state P is-pass w)) ∙ ap (λ (l : Lead ℕ). candidate_of l (length (search cmp p bs).pairs)) (sym a);
+            answer-is = ap₂ lead d.bucket-is d.term_is ∙ sym a;
+            count-is = d.count-is ∙ sym (last-count O pos v.state P is-pass w);
             few = omega (arith, v.state.few, d.count-is, few);
             lists-are = lists ∙ sym (ap₂ with_lead a (last-buckets O pos v.state P is-pass w));
             stands = stands_by v.modulus v.words_long d.coefs-long d.laid (subst (Canon cmp p) (sym lists) (lead-canon O pos v.state P is-pass (i + S.at) S.lead refl ne'));
           }
-        where
-          same : (c : Candidate) {at m : ℕ} {t : Term ℕ} → c.bucket ≡ at → term c.word c.coef ≡ t → c.count ≡ m → c ≡ candidate_of (lead at t) m
-          same c {at} {m} {t} eb et ec =
-              let ew : c.word ≡ t.mono = ap (λ (u : Term ℕ). u.mono) et in
-              let ev : c.coef ≡ t.coef = ap (λ (u : Term ℕ). u.coef) et in
-              let e : ◌≡◌ {A = Candidate} (record { bucket = c.bucket; word = c.word; coef = c.coef; count = c.count }) (record { bucket = at; word = t.mono; coef = t.coef; count = m }) = cc in
-              e
 
       at_front : Fronted (bucket_at b' sw sc') 0 6 (i + S.at) S.lead P.buckets
       at_front = fronted (bucket_at b' sw sc') 6 0 (i + S.at) S.lead P.buckets lists in-six (pass-long O pos v.state P is-pass ∙ from-long (bucket_at b sw sc) 0 6)

@@ -1,6 +1,6 @@
 -- The leads looked at: where none is like the largest one before it, the search goes the same way. Assumes nothing.
 use mathlib.Core.Path.{◌≡◌, refl, sym, ap, ap₂, ◌∙◌, subst}
-use mathlib.Core.Bool.{Bool, not}
+use mathlib.Core.Bool.{Bool}
 use mathlib.Core.List.{List}
 use mathlib.Core.Logic.{◌⊎◌, ⊎_elim, inl, inr}
 use Prim.Native.Nat.{ℕ, suc, ◌+◌, ◌-◌, ◌<◌, ◌≤◌, compare, Ordering}
@@ -13,10 +13,10 @@ use lib.Dec.{eqb}
 use lib.ListN.{length, get_or}
 use Rattle.monomial.proofs.Comparing.{Tri, less, same, more, tri}
 use Rattle.monomial.proofs.OrderLaws.{numbers-order}
-use Rattle.polynomial.specs.Terms.{Term, Reduced}
+use Rattle.polynomial.specs.Terms.{Term, term, Reduced}
 use Rattle.polynomial.specs.Opening.{is_larger}
 use Rattle.merge_common.specs.Lent.{flag, chosen}
-use Rattle.geobucket.specs.Search.{Pass}
+use Rattle.geobucket.specs.Search.{Pass, lead}
 use Rattle.space.specs.Space.{Buckets, head_at, len_at, bucket_at, buckets_in, Stands, moved}
 use Rattle.space.proofs.SpaceLaws.{canon-at, bucket-lead, moved_same}
 use Rattle.search.specs.declared.candidate.Candidate.{Candidate}
@@ -41,7 +41,7 @@ module _ (t : Largest) (i key : ℕ) where
   met-more h = rw (h, met)
 
   -- by flags
-  module _ {l at w : ℕ} (el : l ≡ flag (is_larger (compare key t.key))) (ea : at ≡ chosen l i t.bucket) (ew : w ≡ chosen l key t.key) where
+  module _ {l : Bool} {at w : ℕ} (el : l ≡ is_larger (compare key t.key)) (ea : at ≡ chosen (flag l) i t.bucket) (ew : w ≡ chosen (flag l) key t.key) where
     by_flags : Ordering → Bool → Largest
     by_flags o x = record { bucket = chosen (flag (is_larger o)) i t.bucket; key = chosen (flag (is_larger o)) key t.key; held = t.held + 1; like = t.like + flag x }
 
@@ -61,7 +61,7 @@ module _ (t : Largest) (i key : ℕ) where
 module _ {p : ℕ} {b : Buckets} {ws cs : List ℕ} (st : Stands compare p b ws cs) where
   -- the lead of bucket j, as the first candidate
   abbrev first_of : ℕ → Candidate
-  first_of j = record { bucket = j; word = get_or ws (head_at b j) 0; coef = get_or cs (head_at b j) 0; count = 0 }
+  first_of j = record { bucket = j; key = get_or ws (head_at b j) 0; coef = get_or cs (head_at b j) 0; count = 0 }
 
   pub asks : {j : ℕ} → FirstHeld b j → j < 6 → Seek compare p b (first_of j) ws cs
   asks f h = seek-asks (finds-start st) f numbers-order h refl refl
@@ -92,8 +92,8 @@ module _ {p : ℕ} {b : Buckets} {ws cs : List ℕ} (st : Stands compare p b ws 
     goes-empty h e = record { first = u.first; is-first = u.is-first; within = u.within; some = u.some; seeks = on-empty u.seeks h e }
 
     -- a candidate after one comparison more
-    counted : (at w c : ℕ) → ◌≡◌ {A = Candidate} (record { bucket = at; word = w; coef = c; count = t.held + 1 - 1 }) (record { bucket = at; word = w; coef = c; count = t.held - 1 + 1 })
-    counted at w c = ap (λ (n : ℕ). record { bucket = at; word = w; coef = c; count = n }) (let e : t.held + 1 - 1 ≡ t.held - 1 + 1 = omega (arith, u.some) in e)
+    counted : (at w c : ℕ) → ◌≡◌ {A = Candidate} (record { bucket = at; key = w; coef = c; count = t.held + 1 - 1 }) (record { bucket = at; key = w; coef = c; count = t.held - 1 + 1 })
+    counted at w c = ap (λ (n : ℕ). record { bucket = at; key = w; coef = c; count = n }) (let e : t.held + 1 - 1 ≡ t.held - 1 + 1 = omega (arith, u.some) in e)
 
     module _ (h : i < 6) (pos : 0 < len_at b i) {key : ℕ} (ek : key ≡ get_or ws (head_at b i) 0) where
       goes-past : key < t.key → compare key t.key ≡ Ordering.lt → Under (record { bucket = t.bucket; key = t.key; held = t.held + 1; like = t.like }) (i + 1)
@@ -102,7 +102,7 @@ module _ {p : ℕ} {b : Buckets} {ws cs : List ℕ} (st : Stands compare p b ws 
         is-first = u.is-first;
         within = u.within;
         some = omega arith;
-        seeks = on-past u.seeks h pos numbers-order ek (flag (is_larger (compare key t.key))) refl (λ q. let z : ⊥ = omega (arith, q, ap (λ (o : Ordering). flag (is_larger o)) e) in z) (λ q. let z : ⊥ = omega (arith, q, k) in z) (counted t.bucket t.key _);
+        seeks = on-past u.seeks h pos numbers-order ek (ap is_larger e) (λ q. let z : ⊥ = omega (arith, q, k) in z) (counted t.bucket t.key _);
       }
 
       goes-up : compare key t.key ≡ Ordering.gt → Under (record { bucket = i; key = key; held = t.held + 1; like = t.like }) (i + 1)
@@ -117,12 +117,12 @@ module _ {p : ℕ} {b : Buckets} {ws cs : List ℕ} (st : Stands compare p b ws 
             within = u.within;
             some = omega arith;
             seeks =
-                on-up v h pos 0 (sym (ap (λ (x : Bool). 1 - flag (not x)) (ne_eqb (get_or cs (head_at b own) 0) 0 (positive own (own-six v) (own-some v))))) numbers-order ek refl
-                (flag (is_larger (compare key t.key))) refl (ap (λ (o : Ordering). flag (is_larger o)) e) (counted i key _) refl refl stays;
+                on-up v h pos 0 (sym (ap flag (ne_eqb (get_or cs (head_at b own) 0) 0 (positive own (own-six v) (own-some v))))) numbers-order ek refl
+                (ap is_larger e) (counted i key _) refl refl stays;
           }
 
     -- after the last bucket
-    ends : 6 ≤ i → FindDone compare p (buckets_in b ws cs) b ws cs (as_candidate t (get_or cs (head_at b t.bucket) 0))
+    ends : 6 ≤ i → FindDone compare p (buckets_in b ws cs) b ws cs (lead t.bucket (term t.key (get_or cs (head_at b t.bucket) 0))) (t.held - 1)
     ends h = find-lead (finds-start st) u.is-first numbers-order u.within refl refl (seeks-end (asks u.is-first u.within) u.seeks h) (positive t.bucket (own-six u.seeks) (own-some u.seeks))
 
   abbrev pub Halfway : Largest → ℕ → Type 0
@@ -177,7 +177,7 @@ module _ {b : Buckets} {ws : List ℕ} {t : Largest} {i : ℕ} (v : Looks b ws t
             (λ p cs st z. inr (⊎_elim (λ n. rw (ek, n.0) (begins st i h n.1 pos)) (λ u. goes-up st u h pos ek e) (v.halfway p cs st z)))
 
   looks-all : 6 ≤ i → Looked b ws t
-  looks-all h p cs st z inside = ⊎_elim (λ n. absurd (let w : ⊥ = omega (arith, inside, ap (λ (x : Largest). x.bucket) n.0) in w)) (λ u. (u.some, ends st u h)) (v.halfway p cs st z)
+  looks-all h p cs st z some = ⊎_elim (λ n. absurd (let w : ⊥ = omega (arith, some, ap (λ (x : Largest). x.held) n.0) in w)) (λ u. ends st u h) (v.halfway p cs st z)
 
   pub looks-end : 6 ≤ i → (t ≡ largest_of b ws 6) × Looked b ws t
   looks-end h = (v.is ∙ ap (largest_of b ws) (let e : i ≡ 6 = omega (arith, v.most) in e), looks-all h)

@@ -1,7 +1,9 @@
 -- A search that only looks at the leads. Assumes nothing.
 use Prim.Native.Nat.{Ordering}
-use Prim.Native.Nat.{ℕ, zero, suc, ◌+◌, ◌-◌, ◌<◌, ◌≤◌, compare}
+use Prim.Native.Nat.{ℕ, zero, suc, ◌+◌, ◌-◌, ◌≤◌, compare}
 use Rattle.std.specs.Prelude.{◌≡◌, List, get_or}
+use Rattle.polynomial.specs.Terms.{term}
+use Rattle.geobucket.specs.Search.{lead}
 use Rattle.space.specs.Space.{Buckets, head_at, len_at, buckets_in, Stands}
 use Rattle.search.specs.declared.candidate.Candidate.{Candidate}
 use Rattle.search.specs.declared.largest.Largest.{Largest}
@@ -9,7 +11,7 @@ use Rattle.search.specs.Searching.{FindDone}
 
 -- no lead was looked at
 abbrev pub unseen : Largest
-unseen = record { bucket = 6; key = 0; held = 0; like = 0 }
+unseen = record { bucket = 0; key = 0; held = 0; like = 0 }
 
 -- with the lead of one more bucket
 unfoldable pub met : Largest → (bucket key : ℕ) → Largest
@@ -32,8 +34,8 @@ largest_of b keys (suc i) = met_by (len_at b i) (largest_of b keys i) i (get_or 
 
 -- one comparison for each bucket that is not empty after the first
 abbrev pub as_candidate : Largest → (coef : ℕ) → Candidate
-as_candidate t coef = record { bucket = t.bucket; word = t.key; coef = coef; count = t.held - 1 }
+as_candidate t coef = record { bucket = t.bucket; key = t.key; coef = coef; count = t.held - 1 }
 
 -- where no lead was like the largest one before it, that is what the search finds, and it leaves the buckets as they are
 abbrev pub Looked : (b : Buckets) (keys : List ℕ) → Largest → Type 0
-Looked b keys t = (p : ℕ) (coefs : List ℕ) → Stands compare p b keys coefs → t.like ≡ 0 → t.bucket < 6 → (1 ≤ t.held) × FindDone compare p (buckets_in b keys coefs) b keys coefs (as_candidate t (get_or coefs (head_at b t.bucket) 0))
+Looked b keys t = (p : ℕ) (coefs : List ℕ) → Stands compare p b keys coefs → t.like ≡ 0 → 1 ≤ t.held → FindDone compare p (buckets_in b keys coefs) b keys coefs (lead t.bucket (term t.key (get_or coefs (head_at b t.bucket) 0))) (t.held - 1)

@@ -1,14 +1,16 @@
 -- What the search and its parts ask and leave. Assumes nothing.
 use Prim.Native.Nat.{ℕ, suc, ◌+◌, ◌-◌, ◌<◌, ◌≤◌, Ordering}
-use Rattle.std.specs.Prelude.{◌≡◌, List, ◌∷◌, ◌++◌, length, get_or}
+use Rattle.std.specs.Prelude.{◌≡◌, List, ◌∷◌, ◌++◌, length, get_or, Some}
 use Rattle.residue.specs.Modular.{Modulus}
 use Rattle.monomial.specs.declared.order.Order.{Order}
 use Rattle.monomial.specs.Words.{compare_words}
 use Rattle.polynomial.specs.Terms.{Term, term, Canonical}
-use Rattle.geobucket.specs.Search.{Pass, seek, search, put_back, with_lead}
+use Rattle.geobucket.specs.Search.{Pass, Lead, seek, search, put_back, with_lead}
 use Rattle.space.specs.Space.{Buckets, all_places, head_at, len_at, list_from, bucket_at, buckets_in, Laid, Stands, Spaces, words_in, Standing, dropped}
 use Rattle.search.specs.declared.candidate.Candidate.{Candidate}
-use Rattle.search.specs.Candidates.{candidate_of}
+use Rattle.search.specs.declared.candidate.Lead.{Lead as FoundLead}
+use Rattle.search.specs.declared.candidate.LeadSearch.{LeadSearch}
+use Rattle.search.specs.Candidates.{search_of}
 
 -- a bucket that has a lead
 pub record Removal (b : Buckets) (i : ℕ) : Type 0 where
@@ -17,8 +19,8 @@ pub record Removal (b : Buckets) (i : ℕ) : Type 0 where
   pub some : 0 < len_at b i
 
 -- the lead, as a word, is that of the published search, with the search's comparisons, and is removed from its bucket
-pub record Taken (o : Order) (p : ℕ) (x x' : Spaces) (c : Candidate) : Type 0 where
-  pub candidate-is : c ≡ candidate_of (search (compare_words o) p (words_in o x)).answer (length (search (compare_words o) p (words_in o x)).pairs)
+pub record Taken (o : Order) (p : ℕ) (x x' : Spaces) (c : LeadSearch) : Type 0 where
+  pub search-is : c ≡ search_of (search (compare_words o) p (words_in o x)).answer (length (search (compare_words o) p (words_in o x)).pairs)
   pub few : c.count ≤ 50000
   pub lists-are : words_in o x' ≡ (search (compare_words o) p (words_in o x)).buckets
   pub stands : Standing p x'
@@ -28,25 +30,27 @@ abbrev pub without : ℕ → Spaces → Spaces
 without i x = record { places = dropped x.places i; keys = x.keys; coefs = x.coefs }
 
 -- the same, with the lead left in its bucket, like terms combined; a lead that was found may be removed
-pub record Found (o : Order) (p : ℕ) (x x' : Spaces) (c : Candidate) : Type 0 where
-  pub candidate-is : c ≡ candidate_of (search (compare_words o) p (words_in o x)).answer (length (search (compare_words o) p (words_in o x)).pairs)
+pub record Found (o : Order) (p : ℕ) (x x' : Spaces) (c : LeadSearch) : Type 0 where
+  pub search-is : c ≡ search_of (search (compare_words o) p (words_in o x)).answer (length (search (compare_words o) p (words_in o x)).pairs)
   pub few : c.count ≤ 50000
   pub lists-are : words_in o x' ≡ with_lead (search (compare_words o) p (words_in o x)).answer (search (compare_words o) p (words_in o x)).buckets
   pub stands : Standing p x'
-  pub removal : (c.bucket ≡ 6 → ⊥) → Removal x'.places c.bucket
-  pub removed : (c.bucket ≡ 6 → ⊥) → Taken o p x (without c.bucket x') c
+  pub removal : (l : FoundLead) → c.lead ≡ Some l → Removal x'.places l.bucket
+  pub removed : (l : FoundLead) → c.lead ≡ Some l → Taken o p x (without l.bucket x') c
 
--- by keys: the lead is that of the published search, left in its bucket with like terms combined, with the search's comparisons
-pub record FindDone (cmp : ℕ → ℕ → Ordering) (p : ℕ) (bs : List (List (Term ℕ))) (b : Buckets) (sw sc : List ℕ) (c : Candidate) : Type 0 where
-  pub candidate-is : c ≡ candidate_of (search cmp p bs).answer (length (search cmp p bs).pairs)
-  pub few : c.count ≤ 50000
+-- by keys: the answer is that of the published search, the lead left in its bucket with like terms combined, with the search's n comparisons
+pub record FindDone (cmp : ℕ → ℕ → Ordering) (p : ℕ) (bs : List (List (Term ℕ))) (b : Buckets) (sw sc : List ℕ) (a : Lead ℕ) (n : ℕ) : Type 0 where
+  pub answer-is : a ≡ (search cmp p bs).answer
+  pub count-is : n ≡ length (search cmp p bs).pairs
+  pub few : n ≤ 50000
   pub lists-are : buckets_in b sw sc ≡ with_lead (search cmp p bs).answer (search cmp p bs).buckets
   pub stands : Stands cmp p b sw sc
 
 -- the same, with the lead removed
-pub record TakeDone (cmp : ℕ → ℕ → Ordering) (p : ℕ) (bs : List (List (Term ℕ))) (b : Buckets) (sw sc : List ℕ) (c : Candidate) : Type 0 where
-  pub candidate-is : c ≡ candidate_of (search cmp p bs).answer (length (search cmp p bs).pairs)
-  pub few : c.count ≤ 50000
+pub record TakeDone (cmp : ℕ → ℕ → Ordering) (p : ℕ) (bs : List (List (Term ℕ))) (b : Buckets) (sw sc : List ℕ) (a : Lead ℕ) (n : ℕ) : Type 0 where
+  pub answer-is : a ≡ (search cmp p bs).answer
+  pub count-is : n ≡ length (search cmp p bs).pairs
+  pub few : n ≤ 50000
   pub lists-are : buckets_in b sw sc ≡ (search cmp p bs).buckets
   pub stands : Stands cmp p b sw sc
 
@@ -64,20 +68,20 @@ pub record Seek (cmp : ℕ → ℕ → Ordering) (p : ℕ) (b : Buckets) (c : Ca
   pub canonical : (j : ℕ) → j < 6 → Canonical cmp p (bucket_at b sw sc j)
   pub within : c.bucket < 6
   pub some : 0 < len_at b c.bucket
-  pub word-is : c.word ≡ get_or sw (head_at b c.bucket) 0
+  pub key-is : c.key ≡ get_or sw (head_at b c.bucket) 0
   pub coef-is : c.coef ≡ get_or sc (head_at b c.bucket) 0
   pub few : c.count ≤ 100000
 
 -- the published pass from the candidate on, over the buckets above its own
 abbrev pub pass_from : (cmp : ℕ → ℕ → Ordering) (p : ℕ) (b : Buckets) (c : Candidate) (sw sc : List ℕ) → Pass ℕ
-pass_from cmp p b c sw sc = seek cmp p (term c.word c.coef) (bucket_at (dropped b c.bucket) sw sc c.bucket) (list_from (bucket_at b sw sc) (suc c.bucket) (5 - c.bucket))
+pass_from cmp p b c sw sc = seek cmp p (term c.key c.coef) (bucket_at (dropped b c.bucket) sw sc c.bucket) (list_from (bucket_at b sw sc) (suc c.bucket) (5 - c.bucket))
 
 -- the pass's last candidate, with its comparisons, stands in front of its bucket
 pub record SeekDone (cmp : ℕ → ℕ → Ordering) (p : ℕ) (b : Buckets) (c : Candidate) (sw sc sc' : List ℕ) (b' : Buckets) (d : Candidate) : Type 0 where
   pub laid : Laid b'
   pub coefs-long : length sc' ≡ all_places
   pub bucket-is : d.bucket ≡ c.bucket + (pass_from cmp p b c sw sc).at
-  pub term_is : term d.word d.coef ≡ (pass_from cmp p b c sw sc).lead
+  pub term_is : term d.key d.coef ≡ (pass_from cmp p b c sw sc).lead
   pub count-is : d.count ≡ c.count + length (pass_from cmp p b c sw sc).pairs
   pub lists-are :
       buckets_in b' sw sc'

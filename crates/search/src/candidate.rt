@@ -1,37 +1,37 @@
-// What a search keeps on its way through the buckets.
+// What a search keeps on its way through the buckets, and what it comes to.
 ghost use Rattle.std.specs.Prelude.{◌≡◌, ◌<◌, ◌≤◌};
 ghost use Rattle.residue.specs.Modular.{Modulus};
-ghost use Rattle.search.specs.Candidates.{candidate_of, joined, passed_by, replaced_by, said_in};
-ghost use Rattle.geobucket.specs.Search.{none};
+ghost use Rattle.search.specs.Candidates.{joined, passed_by, replaced_by, said_in};
 
 use monomial::order::Order;
 use residue::arithmetic::add;
 
-// The largest lead so far: its bucket (6 for none), the comparisons made, its monomial, as a key until
-// the search is done, and its coefficient with those of the like leads.
-// Kept: bucket 6 for none, not an Option around it all, here, in `in_words` and where a Candidate is asked for it
-// in `lead`: the comparisons are counted where no lead is found too, and the exported probe_buckets_lead gives 6.
+// The lead of the buckets: its bucket, its monomial as a word, and its coefficient with those of the like leads.
 #[derive(Clone, Copy)]
-pub struct Candidate {
+pub struct Lead {
     pub bucket: usize,
-    pub count: u64,
     pub word: u64,
     pub coef: u32,
 }
 
-impl Candidate {
-    // No candidate, after so many comparisons.
-    pub fn none(count: u64) -> Self
-        ensures { result ≡ candidate_of none count }
-    {
-        Candidate {
-            bucket: 6,
-            count,
-            word: 0,
-            coef: 0,
-        }
-    }
+// What a search comes to: the comparisons made, and the lead, or none where all buckets are empty.
+#[derive(Clone, Copy)]
+pub struct LeadSearch {
+    pub count: u64,
+    pub lead: Option<Lead>,
+}
 
+// The largest lead so far: its bucket, the comparisons made, its monomial as a key, and its coefficient with those
+// of the like leads.
+#[derive(Clone, Copy)]
+pub struct Candidate {
+    pub bucket: usize,
+    pub count: u64,
+    pub key: u64,
+    pub coef: u32,
+}
+
+impl Candidate {
     // A smaller lead is passed by.
     // Kept: `self.count ≤ 1000000`, here and in the two below, not a ghost field of Candidate: each of them adds
     // one, so the Candidate that it gives may be one past what it takes.
@@ -54,25 +54,30 @@ impl Candidate {
     }
 
     // A larger lead replaces it.
-    pub fn replace(self, bucket: usize, word: u64, coef: u32) -> Self
+    pub fn replace(self, bucket: usize, key: u64, coef: u32) -> Self
         requires { self.count ≤ 1000000 }
-        ensures { result ≡ replaced_by self bucket word coef }
+        ensures { result ≡ replaced_by self bucket key coef }
     {
         Candidate {
             bucket,
             count: self.count + 1,
-            word,
+            key,
             coef,
         }
     }
 
-    // The search is done: the key becomes a word.
-    pub fn in_words(mut self, order: Order) -> Self
+    // The search is done: the candidate is the lead, and its key becomes a word.
+    pub fn in_words(self, order: Order) -> LeadSearch
         ensures { result ≡ said_in order self }
     {
-        if self.bucket != 6 {
-            self.word = order.word(self.word);
+        let lead = Lead {
+            bucket: self.bucket,
+            word: order.word(self.key),
+            coef: self.coef,
+        };
+        LeadSearch {
+            count: self.count,
+            lead: Some(lead),
         }
-        self
     }
 }

@@ -10,10 +10,8 @@ use merge_common::merging::{choose, larger};
 use space::leads::lead_key;
 use space::state::len_of;
 
-// The largest lead so far: its bucket (6 for none) and its key; how many buckets that are not empty were
-// looked at, and how many leads were like the largest one before them.
-// Kept: bucket 6 for none, here, in `largest_lead` and in `take_lead`, as in the Candidate that it becomes: an
-// Option would be made in each turn, and be taken apart where the Candidate is made.
+// The largest lead so far: its bucket and its key; how many buckets that are not empty were looked at, none where
+// there is no lead, and how many leads were like the largest one before them.
 #[derive(Clone, Copy)]
 pub struct Largest {
     pub bucket: usize,
@@ -30,7 +28,7 @@ impl Largest {
     {
         let l = larger(key, self.key);
         Largest {
-            bucket: if l == 1 { bucket } else { self.bucket },
+            bucket: choose(l, bucket, self.bucket),
             key: choose(l, key, self.key),
             held: self.held + 1,
             like: self.like + (key == self.key) as usize,
@@ -45,7 +43,7 @@ impl Largest {
         Candidate {
             bucket: self.bucket,
             count: (self.held - 1) as u64,
-            word: self.key,
+            key: self.key,
             coef,
         }
     }
@@ -57,7 +55,7 @@ pub fn largest_lead(b: &[usize], sw: &[u64], ww: &[u64]) -> Largest
     ensures { (result ≡ largest_of b.now (ww.now ++ sw.now) 6) × Looked b.now (ww.now ++ sw.now) result }
 {
     let mut t = Largest {
-        bucket: 6,
+        bucket: 0,
         key: 0,
         held: 0,
         like: 0,

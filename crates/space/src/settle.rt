@@ -110,9 +110,9 @@ pub fn pull_terms<K: Key>(
     ensures { (word_numbers K.width sw.new ≡ sets (word_numbers K.width sw.old) to (map (from_key_by K.width order) (part from n (key_numbers K.width sw.old)))) × (sc.new ≡ sets sc.old to (part from n sc.old)) }
 {
     for i in 0..n {
-        let read = from + i;
-        let put = to + i;
-        K::at(sw, read).word(order).put(sw, put);
-        sc[put] = sc[read];
+        let source = from + i;
+        let target = to + i;
+        K::at(sw, source).word(order).put(sw, target);
+        sc[target] = sc[source];
     }
 }

@@ -1,12 +1,12 @@
 // Where the six buckets lie: eighteen numbers, which are lent from call to call. The first six are
 // the place of each bucket's lead, the next six each bucket's terms, and the next five where the free
-// area of each of buckets 0 to 4 begins. Places are counted through the work space and on through the
-// bucket space. Taking a lead moves the head: nothing is shifted.
-// Kept: a slice, not an array of 18. C lends a slice (`probe_buckets_add`). Tried, and the proof did not close: the
-// conversion to an array says nothing of what the slice holds at return; and a copy each way is 36 moves for a call.
-// Kept: here and in the crates above, `Laid b`, `length b ≡ 18`, the lengths of the spaces and `Slices ..` are
-// clauses. They are of `&mut` slices: a struct of these with the facts in ghost fields would have each contract
-// name its five fields all the same, and say of each that it is the same borrow at return.
+// area of each of buckets 0 to 4 begins; the eighteenth, where that of bucket 5 would be, is not used. Places are
+// counted through the work space and on through the bucket space. Taking a lead moves the head: nothing is shifted.
+// Kept: no struct of the heads, the lengths and the free areas with methods. C lends the eighteen numbers as one
+// slice (`probe_buckets_add` and the others), so each call would make such a struct and put it back, 36 moves; and
+// `Laid` and the theorems of `space`, `buckets` and `search` are stated of that list (`Buckets`).
+// Kept: no array of 18. Tried, and the proof did not close: the conversion of the lent slice to an array says
+// nothing of what the slice holds at return.
 ghost use Rattle.std.specs.Prelude.{◌≡◌, ◌<◌, length};
 ghost use Rattle.space.specs.Space.{Laid, head_at, held_in, len_at, side_at, moved, turned, no_buckets};
 
@@ -14,7 +14,7 @@ ghost use Rattle.space.specs.Space.{Laid, head_at, held_in, len_at, side_at, mov
 pub const LAST_START: usize = 1364;
 
 // Six empty buckets: each of buckets 0 to 4 in its first area, and bucket 5 at the end of its place.
-const EMPTY: [usize; 18] = [
+pub const EMPTY: [usize; 18] = [
     0, 16, 80, 336, 1360, 13652, 0, 0, 0, 0, 0, 0, 8, 48, 208, 848, 3408, 0,
 ];
 
@@ -27,8 +27,6 @@ pub fn clear(b: &mut [usize])
 }
 
 // The place of bucket i's lead.
-// Kept: here, below and in `leads`, `i < 6`: the loops over the buckets count plain numbers. A type of such
-// numbers would be made in each turn, to be taken apart here, where it is an index.
 pub fn head_of(b: &[usize], i: usize) -> usize
     requires { (length b.now ≡ 18) × (i < 6) }
     ensures { result ≡ head_at b.now i }

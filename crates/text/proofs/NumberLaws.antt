@@ -136,6 +136,11 @@ pub only-if : {A : Type 0} (t : Bool) (a b : A) → only_if t a ≡ some b → (
 only-if true a b e = (refl, cc)
 only-if false a b e = absurd (let z : ◌≡◌ {A = ℕ} 0 1 = cc in let y : ⊥ = omega arith in y)
 
+-- what the code's answer for one digit tells
+pub no-value : {A : Type 0} (t : Bool) (a : A) → only_if t a ≡ none → t ≡ false
+no-value true a e = absurd (let z : ◌≡◌ {A = ℕ} 0 1 = cc in let y : ⊥ = omega arith in y)
+no-value false a e = refl
+
 digit-behind : (v b w : ℕ) → with_digit v b ≡ some w → (0 < w) × (w ≤ 4294967295) × (decimal w ≡ decimal v ++ (b ∷ []))
 unfolding with_digit
 digit-behind v b w e =

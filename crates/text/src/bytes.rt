@@ -3,6 +3,7 @@ ghost use Rattle.std.specs.Prelude.{◌≡◌, ◌+◌, ◌<◌, ◌==◌, lengt
 ghost use Rattle.text.specs.Bytes.{same, index_of};
 
 // Whether the text s is the word w.
+// Kept: a function of its own: `==` takes two slices, so that a caller would write `s == &b"lead"[..]`.
 pub fn is_word(s: &[u8], w: &[u8]) -> bool
     ensures { result ≡ same w.now s.now }
 {
@@ -10,6 +11,7 @@ pub fn is_word(s: &[u8], w: &[u8]) -> bool
 }
 
 // The place of the first byte b of s, where there is one.
+// Kept: a function of its own. Tried as `position` in `split_once`: the proof of what it answers didn't close there.
 fn place_of(s: &[u8], b: u8) -> Option<usize>
     ensures { result ≡ position (λ x. x == b) s.now }
 {

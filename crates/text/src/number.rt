@@ -1,22 +1,26 @@
 // Decimal numbers.
-ghost use Rattle.std.specs.Prelude.{◌≡◌, min};
-ghost use Rattle.text.specs.Numbers.{is_digit, with_digit, number_of, found};
+ghost use Rattle.std.specs.Prelude.{◌≡◌, ◌-◌, min};
+ghost use Rattle.text.specs.Numbers.{only_if, is_digit, with_digit, number_of, found};
 
-pub fn is_digit(b: u8) -> bool
-    ensures { result ≡ is_digit b }
+// The digit that the byte b is.
+fn digit(b: u8) -> Option<u32>
+    ensures { result ≡ found (only_if (is_digit b) (b - 48)) }
 {
-    b.is_ascii_digit()
+    match b {
+        b'0'..=b'9' => Some(u32::from(b - b'0')),
+        _ => None,
+    }
 }
 
-// The number v with the digit of the byte b behind it.
+// The number v with the digit of the byte b behind it. There is none where v is 0, so that no number begins with 0.
 fn with_digit(v: u32, b: u8) -> Option<u32>
     ensures { result ≡ found (with_digit v b) }
 {
-    if v == 0 || !is_digit(b) {
+    if v == 0 {
         return None;
     }
-    let digit = u32::from(b - b'0');
-    v.checked_mul(10)?.checked_add(digit)
+    let last = digit(b)?;
+    v.checked_mul(10)?.checked_add(last)
 }
 
 // The number that the text s is: of at most 32 bits, or none.
@@ -24,10 +28,7 @@ pub fn read_number(s: &[u8]) -> Option<u32>
     ensures { result ≡ found (number_of s.now) }
 {
     let (first, rest) = s.split_first()?;
-    if !is_digit(*first) {
-        return None;
-    }
-    let mut v = u32::from(*first - b'0');
+    let mut v = digit(*first)?;
     for b in rest {
         v = with_digit(v, *b)?;
     }

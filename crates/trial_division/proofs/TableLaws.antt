@@ -1,8 +1,8 @@
 -- What is so before each number of a table that keeps its rule. Assumes nothing.
-use mathlib.Core.Path.{◌≡◌, refl, sym, ap, subst, ◌∙◌}
+use mathlib.Core.Path.{◌≡◌, refl, sym, ap, ap₂, subst, ◌∙◌}
 use mathlib.Core.Bool.{Bool, true, false}
 use mathlib.Core.List.{List, [], ◌∷◌}
-use Prim.Native.Nat.{ℕ, suc, ◌+◌, ◌-◌, ◌*◌, ◌/◌, ◌%◌, ◌≤◌, ◌<◌}
+use Prim.Native.Nat.{ℕ, suc, ◌+◌, ◌-◌, ◌*◌, ◌/◌, ◌%◌, ◌^◌, ◌≤◌, ◌<◌}
 use native.Mathlib.Nat.{mul-le-mul, mul-le-mul_right, mul_assoc, mul-add, mul-mod_left, add-mul-mod_self_right, mod-eq_of_lt, div-add-mod', lt_of_not-le}
 use native.Mathlib.Omega.{arith}
 use borrow.Author.Tests.{eqb-true, eqb-false, eq-eqb, ne_eqb}
@@ -98,6 +98,21 @@ module _ {p from : ℕ} {table : List ℕ} {d i : ℕ} (v : Dividing p from tabl
 
     pub dividing-next : (p % d ≡ 0 → ⊥) → Dividing p from table (d + 2 * digit_at i table) (i + 1)
     dividing-next h = record { inside = omega arith; tried = step (digit_at i table) (digits_from (16 * length table - (i + 1)) (i + 1) table) dividing-here h }
+
+-- digit k of number i of the table
+digit-of : (table : List ℕ) (i k : ℕ) → k < 16 → digit_at (16 * i + k) table ≡ get_or table i 0 / 2 ^ (4 * k) % 16
+digit-of table i k l =
+    let e : (16 * i + k) / 16 ≡ i = omega arith in
+    let f : (16 * i + k) % 16 ≡ k = omega arith in
+    ap₂ (λ (a b : ℕ). get_or table a 0 / 2 ^ (4 * b) % 16) e f
+
+pub dividing-at : {p from : ℕ} {table : List ℕ} {d i j : ℕ} → Dividing p from table d i → i ≡ j → Dividing p from table d j
+dividing-at {p} {from} {table} {d} v e = subst (λ (n : ℕ). Dividing p from table d n) e v
+
+pub dividing-digit : {p from : ℕ} {table : List ℕ} {d i k g : ℕ} → Dividing p from table d (16 * i + k) → i < length table → k < 16 → (p % d ≡ 0 → ⊥) → g ≡ get_or table i 0 / 2 ^ (4 * k) % 16 → Dividing p from table (d + 2 * g) (16 * i + (k + 1))
+dividing-digit {p} {from} {table} {d} {i} {k} {g} v m l h is =
+    let e : 16 * i + k + 1 ≡ 16 * i + (k + 1) = omega arith in
+    dividing-at (subst (λ (n : ℕ). Dividing p from table (d + 2 * n) (16 * i + k + 1)) (digit-of table i k l ∙ sym is) (dividing-next v (omega arith) h)) e
 
 -- ---- all odd numbers
 

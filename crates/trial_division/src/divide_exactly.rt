@@ -13,15 +13,15 @@ pub fn divide_exactly(p: u32, from: u32, table: &[u32]) -> bool
 {
     // d is a u64, so that no test converts it: with a u32, 2^31 - 1 took 6.7 us, or 10.0 where the code stood
     // elsewhere in memory, and so it takes 6.3.
-    let mut d = from as u64;
+    let mut d = u64::from(from);
     for w in table {
-        if d * d > p as u64 {
+        if d * d > u64::from(p) {
             return true;
         }
         if divides(p, d, *w) {
             return false;
         }
-        d += (2 * (*w / QUOTIENTS)) as u64;
+        d += u64::from(2 * (*w / QUOTIENTS));
     }
     true
 }
@@ -33,6 +33,6 @@ fn divides(p: u32, d: u64, w: u32) -> bool
     requires { (64 ≤ d) × (d ≤ 4294967295) × (d * w % 67108864 ≡ 1) }
     ensures { result ≡ eqb (p % d) 0 }
 {
-    let quotient = p as u64 * w as u64 % QUOTIENTS as u64;
-    quotient * d == p as u64
+    let quotient = u64::from(p) * u64::from(w) % u64::from(QUOTIENTS);
+    quotient * d == u64::from(p)
 }

@@ -8,8 +8,6 @@ use monomial::exponents::{exponent, word_of};
 use monomial::order::Order;
 
 // The exponent of variable i, from 0, in the monomial of two words.
-// Kept: no twins of the functions of one word, here, in `keys`, `layout` and `two`: they share x1 to x12 out between
-// two words, and most are made of those. What the merges need of both, `Key` has.
 pub fn wide_exponent(order: Order, w: Pair, i: u32) -> u8
     requires { i < 12 }
     ensures { result ≡ get_or (wide_fields order (paired w.first w.second)) i 0 }

@@ -15,12 +15,10 @@ pub fn wide_beyond(order: Order, n: u32) -> Pair
     requires { n ≤ 12 }
     ensures { (result.first ≡ beyond_bits order (in_first n)) × (result.second ≡ beyond_bits order (in_second n)) }
 {
-    let (first, second) = if n <= 6 {
-        (beyond_bits(order, n), beyond_bits(order, 0))
-    } else {
-        (beyond_bits(order, 6), beyond_bits(order, n - 6))
-    };
-    Pair { first, second }
+    Pair {
+        first: beyond_bits(order, n.min(6)),
+        second: beyond_bits(order, n.saturating_sub(6)),
+    }
 }
 
 // The twelve weights, x1's first, as two words: each lies where the field of its variable does.
@@ -39,10 +37,7 @@ pub fn wide_weights(order: Order, weights: &[u32]) -> Pair
 fn clear(beyond: u64, w: u64) -> bool
     ensures { TestsClear beyond w result }
 {
-    if w & TOPS != 0 {
-        return false;
-    }
-    w & beyond == 0
+    w & TOPS == 0 && w & beyond == 0
 }
 
 // Whether two words are of the layout. `beyond` is what `wide_beyond` gives for the order and number of
@@ -50,15 +45,9 @@ fn clear(beyond: u64, w: u64) -> bool
 pub fn in_wide_layout(beyond: Pair, weights: Pair, w: Pair) -> bool
     ensures { TestsWide beyond.first beyond.second weights.first weights.second (paired w.first w.second) result }
 {
-    if !clear(beyond.first, w.first) {
-        return false;
-    }
-    if !clear(beyond.second, w.second) {
-        return false;
-    }
-    if w.second >= 0x1_0000_0000_0000 {
-        return false;
-    }
-    w.first / 0x1_0000_0000_0000
-        == weighted_sum(weights.first, w.first) + weighted_sum(weights.second, w.second)
+    clear(beyond.first, w.first)
+        && clear(beyond.second, w.second)
+        && w.second < 0x1_0000_0000_0000
+        && w.first / 0x1_0000_0000_0000
+            == weighted_sum(weights.first, w.first) + weighted_sum(weights.second, w.second)
 }

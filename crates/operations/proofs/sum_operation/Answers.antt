@@ -31,13 +31,13 @@ pub slice_bounds-put_words_of-end : goal.slice_bounds-put_words_of-end
 slice_bounds-put_words_of-end c = omega (arith, c.full_sum-r.ensures.in-space, (slices (goal.at.slice_bounds-put_words_of-end c).After-full_sum-r).words_long)
 
 pub put_words_of-requires : goal.put_words_of-requires
-put_words_of-requires c = omega (arith, fits (goal.at.put_words_of-requires c).After-full_sum-r, part-len c.full_sum-r.result.from c.full_sum-r.result.len c.full_sum-r.new.sw (omega (arith, c.full_sum-r.ensures.in-space, (slices (goal.at.put_words_of-requires c).After-full_sum-r).words_long)))
+put_words_of-requires c = omega (arith, fits (goal.at.put_words_of-requires c).After-full_sum-r, part-len c.full_sum-r.result.head c.full_sum-r.result.len c.full_sum-r.new.sw (omega (arith, c.full_sum-r.ensures.in-space, (slices (goal.at.put_words_of-requires c).After-full_sum-r).words_long)))
 
 pub slice_bounds-put-end : goal.slice_bounds-put-end
 slice_bounds-put-end c = omega (arith, c.full_sum-r.ensures.in-space, (slices (goal.at.slice_bounds-put-end c).After-full_sum-r).coefs-long)
 
 pub put-requires : goal.put-requires
-put-requires c = omega (arith, fits (goal.at.put-requires c).After-full_sum-r, part-len c.full_sum-r.result.from c.full_sum-r.result.len c.full_sum-r.new.sc (omega (arith, c.full_sum-r.ensures.in-space, (slices (goal.at.put-requires c).After-full_sum-r).coefs-long)), c.requires.2.same-long)
+put-requires c = omega (arith, fits (goal.at.put-requires c).After-full_sum-r, part-len c.full_sum-r.result.head c.full_sum-r.result.len c.full_sum-r.new.sc (omega (arith, c.full_sum-r.ensures.in-space, (slices (goal.at.put-requires c).After-full_sum-r).coefs-long)), c.requires.2.same-long)
 
 pub overflow_add-end : goal.overflow_add-end
 overflow_add-end c = omega (arith, fits (goal.at.overflow_add-end c).After-full_sum-r, c.well_formed)
@@ -82,4 +82,4 @@ pub shape_of-wc : goal.shape_of-wc
 shape_of-wc c = c.full_sum-r.auto.wc
 
 pub returns : goal.returns
-returns c = rw (c.finish.ensures, c.give.ensures, c.compare.ensures) (rw-done c.args.s.places (c.args.s.places + c.full_sum-r.result.len) c.full_sum-r.result.from c.full_sum-r.result.len c.full_sum-r.new.sw c.full_sum-r.new.sc c.put_words_of.ensures c.put.ensures (sum-operated c.requires.0 c.requires.1 c.requires.2 (room (goal.at.returns c).After-full_sum-r) c.full_sum-r.ensures (slices (goal.at.returns c).After-full_sum-r) c.requires.3))
+returns c = rw (c.finish.ensures, c.give.ensures, c.compare.ensures) (rw-done c.args.s.places (c.args.s.places + c.full_sum-r.result.len) c.full_sum-r.result.head c.full_sum-r.result.len c.full_sum-r.new.sw c.full_sum-r.new.sc c.put_words_of.ensures c.put.ensures (sum-operated c.requires.0 c.requires.1 c.requires.2 (room (goal.at.returns c).After-full_sum-r) c.full_sum-r.ensures (slices (goal.at.returns c).After-full_sum-r) c.requires.3))

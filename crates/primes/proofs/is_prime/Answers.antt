@@ -7,8 +7,8 @@ use Rattle.primes.proofs.is_prime.Goals as goal
 pub returns-then-not-prime_to_317 : goal.returns-then-not-prime_to_317
 returns-then-not-prime_to_317 c = sym (not-prime 317 _ (sym c.prime_to_317.ensures ∙ c.if-not-prime_to_317.true))
 
-pub returns-then-p-lt100489 : goal.returns-then-p-lt100489
-returns-then-p-lt100489 c = sym (passed-prime 317 _ (sym c.prime_to_317.ensures ∙ c.if-not-prime_to_317.false) c.if-p-lt100489.true)
+pub returns-then-p : goal.returns-then-p
+returns-then-p c = sym (passed-prime 317 _ (sym c.prime_to_317.ensures ∙ c.if-not-prime_to_317.false) c.if-p.true)
 
 pub prime_to_46349-requires : goal.prime_to_46349-requires
 prime_to_46349-requires c = sym c.prime_to_317.ensures ∙ c.if-not-prime_to_317.false

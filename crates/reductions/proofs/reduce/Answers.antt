@@ -1,5 +1,5 @@
 -- `reductions::reduce` meets its contract.
-use mathlib.Core.Path.{◌≡◌, sym, ap, ◌∙◌}
+use mathlib.Core.Path.{◌≡◌, refl, sym, ap, ◌∙◌}
 use lib.ListN.{length}
 use Rattle.refusal.specs.Table.{refusal_in, number_of}
 use Rattle.refusal.proofs.TableLaws.{number-some}
@@ -28,7 +28,7 @@ pub reduce_all-s-requires : goal.reduce_all-s-requires
 reduce_all-s-requires c =
     let a = c.args in
     let o = pass (goal.at.reduce_all-s-requires c).In_default in
-    (rw c.order_of-order.ensures (reducible o), spaces c.clear.ensures a.bw.now a.bc.now a.ww.now a.wc.now a.ow.now a.oc.now o)
+    (rw c.order_of-order.ensures (reducible o), spaces refl a.bw.now a.bc.now a.ww.now a.wc.now a.ow.now a.oc.now o)
 
 pub settle-requires : goal.settle-requires
 settle-requires c =

@@ -1,5 +1,5 @@
 -- `runs::run` meets its contract.
-use mathlib.Core.Path.{◌≡◌, sym, ap, ◌∙◌}
+use mathlib.Core.Path.{◌≡◌, refl, sym, ap, ◌∙◌}
 use lib.ListN.{length}
 use Rattle.refusal.specs.Table.{refusal_in, number_of}
 use Rattle.refusal.proofs.TableLaws.{number-some}
@@ -25,7 +25,7 @@ returns-in-Err c =
     rw (← e) (decided-refused (number_of c.in-Err.refusal) c.args.tally _ c.args.bw.now c.args.bc.now c.args.ww.now c.args.wc.now c.args.ow.now c.args.oc.now (number-some c.in-Err.refusal) c.refused.ensures)
 
 pub operate_all-s-requires : goal.operate_all-s-requires
-operate_all-s-requires c = (rw c.order_of-order.ensures (loaded (pass (goal.at.operate_all-s-requires c).In_default)), spaces c.args.bw.now c.args.bc.now c.args.ww.now c.args.wc.now c.args.ow.now c.args.oc.now c.clear.ensures (pass (goal.at.operate_all-s-requires c).In_default))
+operate_all-s-requires c = (rw c.order_of-order.ensures (loaded (pass (goal.at.operate_all-s-requires c).In_default)), spaces c.args.bw.now c.args.bc.now c.args.ww.now c.args.wc.now c.args.ow.now c.args.oc.now refl (pass (goal.at.operate_all-s-requires c).In_default))
 
 pub settle-requires : goal.settle-requires
 settle-requires c = let r = c.operate_all-s.ensures in (r.counting.stands.laid, c.operate_all-s.auto.bw ∙ (pass (goal.at.settle-requires c).In_default).bucket-words, c.operate_all-s.auto.bc ∙ (pass (goal.at.settle-requires c).In_default).bucket-coefs, c.operate_all-s.auto.ww ∙ (pass (goal.at.settle-requires c).In_default).work-words, c.operate_all-s.auto.wc ∙ (pass (goal.at.settle-requires c).In_default).work-coefs)

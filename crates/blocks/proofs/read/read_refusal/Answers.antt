@@ -14,7 +14,7 @@ returns-in_err-form_refusal c =
     rw (p.1, p.2, ← c.in_err-form_refusal.ensures) (first_some _ _ (number-some _))
 
 pub content_refusal-requires : goal.content_refusal-requires
-content_refusal-requires c = let a = c.args in form-formed a.s.now a.ow a.oc (form-passes a.s.now a.ow a.oc (sym c.in_ok-form_refusal.ensures))
+content_refusal-requires c = let a = c.args in form-formed a.s.now a.words_room a.coefs_room (form-passes a.s.now a.words_room a.coefs_room (sym c.in_ok-form_refusal.ensures))
 
 pub returns : goal.returns
-returns c = let a = c.args in c.content_refusal.ensures ∙ ap (λ (r : ℕ). first r (content_refusal a.s.now a.ow)) c.in_ok-form_refusal.ensures
+returns c = let a = c.args in c.content_refusal.ensures ∙ ap (λ (r : ℕ). first r (content_refusal a.s.now a.words_room)) c.in_ok-form_refusal.ensures

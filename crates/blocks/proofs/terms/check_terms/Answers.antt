@@ -1,50 +1,39 @@
 -- `blocks::terms::check_terms` meets its contract.
-use Rattle.std.proofs.Common.{refl, sym, ◌∙◌, arith}
-use Rattle.std.proofs.lemmas.Result.{err_from_is_err_and}
-use Rattle.refusal.proofs.TableLaws.{number-some}
-use Rattle.monomial.specs.Layout.{fields}
-use Rattle.blocks.proofs.PlaceLaws.{going_start, going_next, going-stop, going-ends, going-six, place-fits, place-low}
+use Rattle.std.proofs.Common.{◌+◌, sym, ◌∙◌, arith}
+use Rattle.polynomial.proofs.CheckingLaws.{polynomial-listed}
+use Rattle.blocks.specs.Reading.{first_terms}
+use Rattle.blocks.proofs.PlaceLaws.{up_to, places-fit, check-start, check-next, check-stops, check-late, check-six}
 use Rattle.blocks.proofs.terms.check_terms.Goals as goal
 
-pub loop-i-init : goal.loop-i-init
-loop-i-init c = let a = c.args in let o = c.order_of-order.result in going_start o a.t.n (fields o c.weight_word-weights.result) a.t.p a.s.now a.total
+pub loop-k-init : goal.loop-k-init
+loop-k-init c = let a = c.args in check-start a.s.now a.t a.total _ c.unseen-checking.ensures
 
-pub get_number-word-requires : goal.get_number-word-requires
-get_number-word-requires c = let a = c.args in omega (arith, place-fits a.s.now a.total c.loop-i._i c.requires.1 c.loop-i-test.true, c.loop-i.invariant.place)
+pub check_places-checking-requires : goal.check_places-checking-requires
+check_places-checking-requires c = let a = c.args in (c.requires.0, places-fit a.s.now a.total c.loop-k.k _ c.requires.1 (omega arith) c.here_of.ensures)
 
-pub overflow_add-at : goal.overflow_add-at
-overflow_add-at c = let a = c.args in omega (arith, place-low a.s.now a.total c.loop-i._i c.requires.1 c.loop-i-test.true, c.loop-i.invariant.place)
-
-pub get_number-coef-requires : goal.get_number-coef-requires
-get_number-coef-requires c = let a = c.args in omega (arith, place-fits a.s.now a.total c.loop-i._i c.requires.1 c.loop-i-test.true, c.loop-i.invariant.place)
-
-pub returns-in_err-check_term : goal.returns-in_err-check_term
-returns-in_err-check_term c =
-    let o = c.order_of-order in
-    let v = c.weight_word-weights in
+pub refusal_of-requires : goal.refusal_of-requires
+refusal_of-requires c =
     let a = c.args in
-    let p = err_from_is_err_and c.from_residual.result c.from_residual.ensures.1 in
-    rw (p.1, p.2, ← o.ensures, ← v.ensures) (going-stop o.result a.t.n (fields o.result v.result) a.t.p a.s.now a.total c.loop-i.late c.loop-i.seen c.loop-i.last c.loop-i.at c.loop-i._i c.loop-i.invariant c.loop-i-test.true _ _ c.get_number-word.ensures.0 c.get_number-coef.ensures.0 _ _ (c.in_err-check_term.ensures o.result a.t.n c.requires.0.few c.beyond_bits-beyond.ensures) c.check_fall-late.ensures (number-some _))
+    let e = check-next a.s.now a.total c.loop-k.k _ (omega arith) c.here_of.ensures a.t c.loop-k.invariant.on c.check_places-checking.ensures in
+    let f = check-stops a.s.now a.t a.total (up_to a.total (c.loop-k.k + 1)) _ e (omega arith) c.if-checking-ne0.true in
+    rw f (polynomial-listed a.t (first_terms a.s.now a.total) (λ z. c.if-checking-ne0.true (f ∙ z)))
 
-pub next_place-at-requires : goal.next_place-at-requires
-next_place-at-requires c = let a = c.args in omega (arith, place-low a.s.now a.total c.loop-i._i c.requires.1 c.loop-i-test.true, c.loop-i.invariant.place)
-
-pub loop-i-preserved : goal.loop-i-preserved
-loop-i-preserved c =
+pub returns-then-checking-ne0 : goal.returns-then-checking-ne0
+returns-then-checking-ne0 c =
     let a = c.args in
-    let o = c.order_of-order.result in
-    going_next o a.t.n (fields o c.weight_word-weights.result) a.t.p a.s.now a.total c.loop-i.late c.loop-i.seen c.loop-i.last c.loop-i.at c.loop-i._i c.loop-i.invariant c.loop-i-test.true _ _ c.get_number-word.ensures.0 c.get_number-coef.ensures.0 _ _ (c.in_ok-check_term.ensures o a.t.n c.requires.0.few c.beyond_bits-beyond.ensures) c.check_fall-late.ensures _ refl c.next_place-at.ensures
+    let e = check-next a.s.now a.total c.loop-k.k _ (omega arith) c.here_of.ensures a.t c.loop-k.invariant.on c.check_places-checking.ensures in
+    c.refusal_of.ensures ∙ check-stops a.s.now a.t a.total (up_to a.total (c.loop-k.k + 1)) _ e (omega arith) c.if-checking-ne0.true
 
-pub returns-then-late-eq0 : goal.returns-then-late-eq0
-returns-then-late-eq0 c =
-    let o = c.order_of-order in
-    let v = c.weight_word-weights in
+pub loop-k-preserved : goal.loop-k-preserved
+loop-k-preserved c =
     let a = c.args in
-    rw (← o.ensures, ← v.ensures) (sym c.if-late-eq0.true ∙ going-ends o.result a.t.n (fields o.result v.result) a.t.p a.s.now a.total c.loop-i.late c.loop-i.seen c.loop-i.last c.loop-i.at c.loop-i._i c.loop-i.invariant c.loop-i-test.false)
+    record {
+      on = check-next a.s.now a.total c.loop-k.k _ (omega arith) c.here_of.ensures a.t c.loop-k.invariant.on c.check_places-checking.ensures;
+      good = c.if-checking-ne0.false;
+    }
 
-pub returns-else-late-eq0 : goal.returns-else-late-eq0
-returns-else-late-eq0 c =
-    let o = c.order_of-order in
-    let v = c.weight_word-weights in
-    let a = c.args in
-    rw (← o.ensures, ← v.ensures) (going-six o.result a.t.n (fields o.result v.result) a.t.p a.s.now a.total c.loop-i.late c.loop-i.seen c.loop-i.last c.loop-i.at c.loop-i._i c.loop-i.invariant c.loop-i-test.false c.if-late-eq0.false)
+pub returns-then-checking-eq0 : goal.returns-then-checking-eq0
+returns-then-checking-eq0 c = let a = c.args in sym c.if-checking-eq0.true ∙ check-late a.s.now a.t a.total (up_to a.total c.loop-k.k) _ c.loop-k.invariant.on (omega arith) c.loop-k.invariant.good
+
+pub returns-else-checking-eq0 : goal.returns-else-checking-eq0
+returns-else-checking-eq0 c = let a = c.args in check-six a.s.now a.t a.total (up_to a.total c.loop-k.k) _ c.loop-k.invariant.on (omega arith) c.loop-k.invariant.good c.if-checking-eq0.false

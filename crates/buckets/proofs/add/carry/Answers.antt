@@ -1,9 +1,9 @@
 -- `buckets::add::carry` meets its contract.
-use mathlib.Core.Path.{sym, ap, ◌∙◌}
+use mathlib.Core.Path.{sym, ap, ap₂, ◌∙◌}
 use Prim.Native.Nat.{ℕ, ◌+◌, ◌-◌, ◌*◌}
 use native.Mathlib.Omega.{arith}
+use Rattle.space.specs.Space.{side_at}
 use Rattle.space.proofs.SpaceLaws.{part-to}
-use Rattle.buckets.specs.declared.level.Level.{Level}
 use Rattle.buckets.proofs.CarryState.{carries-start, up-asks, other-asks, short-count, stays, goes, last-asks, ends}
 use Rattle.buckets.proofs.add.carry.Goals as goal
 
@@ -17,7 +17,7 @@ pub merge_up-m-requires : goal.merge_up-m-requires
 merge_up-m-requires c = up-asks c.loop-l.invariant c.loop-l-test.true
 
 pub other_area-requires : goal.other_area-requires
-other_area-requires c = other-asks c.loop-l.invariant c.loop-l-test.true c.side_of-side.ensures
+other_area-requires c = let q = c.loop-l.l in rw (q.zone_is, q.cap_is) (other-asks c.loop-l.invariant c.loop-l-test.true c.side_of-side.ensures)
 
 pub turn-requires : goal.turn-requires
 turn-requires c = (c.loop-l.invariant.laid.eighteen, c.loop-l-test.true)
@@ -37,7 +37,7 @@ shape_of-wc-then-m-l c = c.merge_up-m.auto.wc ∙ (c.loop-l.invariant.slices.wor
 pub returns-then-m-l : goal.returns-then-m-l
 returns-then-m-l c =
     let q = c.loop-l.l in
-    let s = stays c.loop-l.invariant c.loop-l-test.true c.merge_up-m.ensures.0 c.merge_up-m.auto.ww c.merge_up-m.auto.wc c.if-m-l.true (c.other_area.ensures ∙ ap (λ (x : ℕ). q.zone + (q.zone + 2 * q.cap - x)) c.side_of-side.ensures) c.turn.ensures in
+    let s = stays c.loop-l.invariant c.loop-l-test.true c.merge_up-m.ensures.0 c.merge_up-m.auto.ww c.merge_up-m.auto.wc (omega (arith, c.if-m-l.true, q.cap_is)) (c.other_area.ensures ∙ (ap (λ (x : ℕ). q.zone + (q.zone + 2 * q.cap - x)) c.side_of-side.ensures ∙ ap₂ (λ (z k : ℕ). z + (z + 2 * k - side_at c.loop-l.b q.bucket)) q.zone_is q.cap_is)) c.turn.ensures in
     record { lists-are = s.0; count-is = s.1; few = s.2; stands = s.3 }
 
 pub head_of-h-requires : goal.head_of-h-requires
@@ -50,13 +50,13 @@ pub overflow_add-n : goal.overflow_add-n
 overflow_add-n c = let k = c.loop-l-test.true in omega (arith, short-count c.loop-l.invariant c.loop-l-test.true c.merge_up-m.ensures.0 c.merge_up-m.auto.ww c.merge_up-m.auto.wc, k)
 
 pub next-l-requires : goal.next-l-requires
-next-l-requires c = (c.loop-l.invariant.level-is, c.loop-l.invariant.within)
+next-l-requires c = c.loop-l.invariant.within
 
 pub loop-l-smaller : goal.loop-l-smaller
-loop-l-smaller c = omega (arith, c.loop-l.invariant.within, ap (λ (k : Level). k.bucket) c.next-l.ensures)
+loop-l-smaller c = omega (arith, c.loop-l.invariant.within, c.next-l.ensures)
 
 pub loop-l-preserved : goal.loop-l-preserved
-loop-l-preserved c = goes c.loop-l.invariant c.loop-l-test.true c.merge_up-m.ensures.0 c.merge_up-m.auto.ww c.merge_up-m.auto.wc (omega (arith, c.if-m-l.false)) c.head_of-h.ensures c.place.ensures c.next-l.ensures
+loop-l-preserved c = goes c.loop-l.invariant c.loop-l-test.true c.merge_up-m.ensures.0 c.merge_up-m.auto.ww c.merge_up-m.auto.wc (omega (arith, c.if-m-l.false, c.loop-l.l.cap_is)) c.head_of-h.ensures c.place.ensures c.next-l.ensures
 
 pub overflow_add-end : goal.overflow_add-end
 overflow_add-end c = omega (arith, c.loop-l.invariant.in-places)

@@ -1,21 +1,13 @@
 -- `buckets::level::level_for` meets its contract.
-use mathlib.Core.Path.{ap}
 use native.Mathlib.Omega.{arith}
-use Rattle.buckets.specs.declared.level.Level.{Level}
-use Rattle.buckets.proofs.LevelLaws.{climb-start, climb-on, climb-end}
+use Rattle.buckets.proofs.LevelLaws.{climb-start, climb-on, zone-zero, cap_zero}
 use Rattle.buckets.proofs.level.level_for.Goals as goal
 
 pub loop-l-init : goal.loop-l-init
-loop-l-init c = climb-start _
+loop-l-init c = (climb-start c.args.n, zone-zero, cap_zero)
 
 pub next-l-requires : goal.next-l-requires
-next-l-requires c = let v = c.loop-l.invariant in (v.is, v.within)
-
-pub loop-l-smaller : goal.loop-l-smaller
-loop-l-smaller c = omega (arith, c.loop-l.invariant.within, ap (λ (k : Level). k.bucket) c.next-l.ensures)
+next-l-requires c = c.loop-l.invariant.0.within
 
 pub loop-l-preserved : goal.loop-l-preserved
-loop-l-preserved c = let k = c.loop-l in climb-on _ k.l k.invariant c.requires c.loop-l-test.true _ c.next-l.ensures
-
-pub returns : goal.returns
-returns c = climb-end _ _ c.loop-l.invariant c.loop-l-test.false
+loop-l-preserved c = let k = c.loop-l in let r = c.next-l.result in (rw c.next-l.ensures (climb-on c.args.n k.l.0 k.invariant.0 c.requires (omega (arith, c.loop-l-test.true, k.invariant.2))), r.zone_is, r.cap_is)

@@ -9,11 +9,11 @@ sum_areas-low-requires c = areas-asks c.requires
 pub merge_last-n-requires : goal.merge_last-n-requires
 merge_last-n-requires c = last-asks c.requires c.sum_areas-low.ensures c.sum_areas-low.auto.ww c.sum_areas-low.auto.wc
 
-pub overflow_sub-from : goal.overflow_sub-from
-overflow_sub-from c = sum_past c.requires c.sum_areas-low.ensures c.sum_areas-low.auto.ww c.sum_areas-low.auto.wc c.merge_last-n.ensures c.head_of-from.ensures
+pub overflow_sub-head : goal.overflow_sub-head
+overflow_sub-head c = sum_past c.requires c.sum_areas-low.ensures c.sum_areas-low.auto.ww c.sum_areas-low.auto.wc c.merge_last-n.ensures c.head_of-head.ensures
 
 pub overflow_add-result : goal.overflow_add-result
 overflow_add-result c = omega (arith, all-few c.requires c.sum_areas-low.ensures c.sum_areas-low.auto.ww c.sum_areas-low.auto.wc c.merge_last-n.ensures)
 
 pub returns : goal.returns
-returns c = sum_done c.requires c.sum_areas-low.ensures c.sum_areas-low.auto.ww c.sum_areas-low.auto.wc c.merge_last-n.ensures c.head_of-from.ensures c.len_of-len.ensures c.clear.ensures
+returns c = sum_done c.requires c.sum_areas-low.ensures c.sum_areas-low.auto.ww c.sum_areas-low.auto.wc c.merge_last-n.ensures c.head_of-head.ensures c.len_of-len.ensures c.clear.ensures

@@ -3,4 +3,4 @@ use Rattle.buckets.proofs.SumLaws.{Sums}
 use Rattle.buckets.proofs.sum.sum_areas.Given as goal
 
 abbrev pub invariant-loop-i : goal.invariant-loop-i
-invariant-loop-i l = Sums l.p l.b l.initial.ww l.initial.wc l.ww l.wc l.from l.len l.n l.i
+invariant-loop-i l = Sums l.p l.b l.initial.ww l.initial.wc l.ww l.wc l.head l.len l.n l.i

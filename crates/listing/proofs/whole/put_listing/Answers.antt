@@ -45,4 +45,4 @@ pub returns : goal.returns
 returns c = good-listing (good-read c.read_script-found.ensures refl refl refl refl c.in-Some.l c.in-Some.is) c.list_run.ensures
 
 pub returns-in_default : goal.returns-in_default
-returns-in_default c = bad-listing c.read_script-found.ensures c.in_default.is (put_same (ap (λ (k : ℕ). refused_text k 0) c.number_of.ensures) c.put_refused.ensures)
+returns-in_default c = bad-listing c.read_script-found.ensures c.in_default.is (put_same (ap (λ (k : ℕ). refused_text k 0) c.number.ensures) c.put_refused.ensures)

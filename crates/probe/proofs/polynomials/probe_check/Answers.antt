@@ -15,8 +15,11 @@ returns-then-not-is_checkable c = failed _ _ (no c.is_checkable.ensures (ap not 
 pub setting_of-requires : goal.setting_of-requires
 setting_of-requires c = six-weights _ _ _ _ (yes c.is_checkable.ensures (ap not c.if-not-is_checkable.false))
 
+pub invariant_of-check : goal.invariant_of-check
+invariant_of-check c = record { same_long = (checks _ _ _ _ (yes c.is_checkable.ensures (ap not c.if-not-is_checkable.false)) _ _ _ c.setting_of.ensures).1 }
+
 pub check-requires : goal.check-requires
-check-requires c = checks _ _ _ _ (yes c.is_checkable.ensures (ap not c.if-not-is_checkable.false)) _ _ _ c.setting_of.ensures
+check-requires c = (checks _ _ _ _ (yes c.is_checkable.ensures (ap not c.if-not-is_checkable.false)) _ _ _ c.setting_of.ensures).0
 
 pub returns-in-Ok : goal.returns-in-Ok
 returns-in-Ok c =
@@ -28,4 +31,4 @@ pub returns-in-Err : goal.returns-in-Err
 returns-in-Err c =
     let a = c.args in
     held _ (yes c.is_checkable.ensures (ap not c.if-not-is_checkable.false))
-    (c.number_of.ensures ∙ (sym (ap refusal_in c.in-Err.is) ∙ (c.check.ensures ∙ ap (λ (t : Setting). polynomial_refusal t (terms a.words.now a.coefs.now)) c.setting_of.ensures)))
+    (c.number.ensures ∙ (sym (ap refusal_in c.in-Err.is) ∙ (c.check.ensures ∙ ap (λ (t : Setting). polynomial_refusal t (terms a.words.now a.coefs.now)) c.setting_of.ensures)))

@@ -15,11 +15,14 @@ returns-then-not-is_checkable c = failed _ _ (no c.is_checkable.ensures (ap not 
 pub setting_of-requires : goal.setting_of-requires
 setting_of-requires c = six-weights _ _ _ _ (yes c.is_checkable.ensures (ap not c.if-not-is_checkable.false))
 
-pub check_on-to-requires : goal.check_on-to-requires
-check_on-to-requires c = checks _ _ _ _ (yes c.is_checkable.ensures (ap not c.if-not-is_checkable.false)) _ _ _ c.setting_of.ensures
+pub invariant_of-check_on : goal.invariant_of-check_on
+invariant_of-check_on c = record { same_long = (checks _ _ _ _ (yes c.is_checkable.ensures (ap not c.if-not-is_checkable.false)) _ _ _ c.setting_of.ensures).1 }
+
+pub check_on-requires : goal.check_on-requires
+check_on-requires c = (checks _ _ _ _ (yes c.is_checkable.ensures (ap not c.if-not-is_checkable.false)) _ _ _ c.setting_of.ensures).0
 
 pub returns : goal.returns
 returns c =
     let a = c.args in
     held _ (yes c.is_checkable.ensures (ap not c.if-not-is_checkable.false))
-    (c.check_on-to.ensures ∙ ap (λ (t : Setting). polynomial_on t (numbers a.stop a.late a.seen a.last) (terms a.words.now a.coefs.now)) c.setting_of.ensures)
+    (c.check_on.ensures ∙ ap (λ (t : Setting). polynomial_on t (numbers a.stop a.late a.seen a.last) (terms a.words.now a.coefs.now)) c.setting_of.ensures)

@@ -5,11 +5,11 @@ use Rattle.probe.proofs.Answering.{held, failed, yes, no}
 use Rattle.probe.proofs.Moduli.{able-parts}
 use Rattle.probe.proofs.residues.probe_add.Goals as goal
 
-pub returns-then-not-takes : goal.returns-then-not-takes
-returns-then-not-takes c = failed _ _ (no c.takes.ensures (ap not c.if-not-takes.true))
+pub returns-then-not-are_residues : goal.returns-then-not-are_residues
+returns-then-not-are_residues c = failed _ _ (no c.are_residues.ensures (ap not c.if-not-are_residues.true))
 
 pub add-requires : goal.add-requires
-add-requires c = able-parts _ _ _ (yes c.takes.ensures (ap not c.if-not-takes.false))
+add-requires c = able-parts _ _ _ (yes c.are_residues.ensures (ap not c.if-not-are_residues.false))
 
 pub returns : goal.returns
-returns c = held _ (yes c.takes.ensures (ap not c.if-not-takes.false)) c.add.ensures
+returns c = held _ (yes c.are_residues.ensures (ap not c.if-not-are_residues.false)) c.add.ensures

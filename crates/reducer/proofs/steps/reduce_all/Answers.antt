@@ -1,35 +1,22 @@
 -- `reducer::steps::reduce_all` meets its contract.
 use mathlib.Core.Path.{sym, ap, ◌∙◌}
-use Prim.Native.Nat.{ℕ}
-use lib.ListN.{length, length-replicate}
+use lib.ListN.{length}
 use Rattle.divisors.proofs.KeptLaws.{none_kept}
 use Rattle.reducer.proofs.FirstLaws.{leads-there}
-use Rattle.reducer.proofs.ReduceLaws.{first-words, first-coefs, addend, beginning, turn-start, turn-asks, turn_on, turn-less, turn_end}
+use Rattle.reducer.proofs.ReduceLaws.{first-words, addend, beginning, turn-start, turn-asks, turn_on, turn-less, turn_end}
 use Rattle.reducer.proofs.steps.reduce_all.Goals as goal
 
-pub slice_bounds-keep_leads-end : goal.slice_bounds-keep_leads-end
-slice_bounds-keep_leads-end c = sym (length-replicate {A = ℕ} 1024 0)
-
 pub keep_leads-requires : goal.keep_leads-requires
-keep_leads-requires c = (leads-there c.requires.0.checked, length-replicate {A = ℕ} 1024 0)
+keep_leads-requires c = leads-there c.requires.0.checked
 
-pub words_of-fw-requires : goal.words_of-fw-requires
-words_of-fw-requires c = first-words c.requires.0
-
-pub coefs_of-fc-requires : goal.coefs_of-fc-requires
-coefs_of-fc-requires c = first-coefs c.requires.0
+pub part-f-requires : goal.part-f-requires
+part-f-requires c = (first-words c.requires.0, c.requires.0.checked.long)
 
 pub begin-s-requires : goal.begin-s-requires
-begin-s-requires c = (addend c.requires.0 c.words_of-fw.ensures c.coefs_of-fc.ensures, beginning c.requires.0 c.words_of-fw.ensures c.coefs_of-fc.ensures c.requires.1, c.requires.1.slices)
+begin-s-requires c = (addend c.requires.0 c.part-f.ensures.0 c.part-f.ensures.1, beginning c.requires.0 c.part-f.ensures.0 c.part-f.ensures.1 c.requires.1, c.requires.1.slices)
 
 pub loop-ring-init : goal.loop-ring-init
-loop-ring-init c = turn-start c.requires.0 c.words_of-fw.ensures c.coefs_of-fc.ensures c.requires.1 (none_kept _ _ _ _) (let q = c.requires.1.slices in record { work-words = c.begin-s.auto.ww ∙ q.work-words; work-coefs = c.begin-s.auto.wc ∙ q.work-coefs; words_long = c.begin-s.auto.bw ∙ q.words_long; coefs-long = c.begin-s.auto.bc ∙ q.coefs-long }) c.begin-s.ensures
-
-pub slice_bounds-step-end : goal.slice_bounds-step-end
-slice_bounds-step-end c = sym c.keep_leads.ensures.long
-
-pub slice_bounds-step-end-in-loop-ring : goal.slice_bounds-step-end-in-loop-ring
-slice_bounds-step-end-in-loop-ring c = sym c.loop-ring.invariant.numbers.long
+loop-ring-init c = turn-start c.requires.0 c.part-f.ensures.0 c.part-f.ensures.1 c.requires.1 (none_kept _ _ _ _) (let q = c.requires.1.slices in record { work-words = c.begin-s.auto.ww ∙ q.work-words; work-coefs = c.begin-s.auto.wc ∙ q.work-coefs; words_long = c.begin-s.auto.bw ∙ q.words_long; coefs-long = c.begin-s.auto.bc ∙ q.coefs-long }) c.begin-s.ensures
 
 pub step-s-requires : goal.step-s-requires
 step-s-requires c = (turn-asks c.requires.0 c.loop-ring.invariant (sym c.goes_on.ensures ∙ c.loop-ring-test.true) c.keep_leads.ensures, c.loop-ring.invariant.slices)

@@ -1,11 +1,11 @@
 -- `search::lead::seek` meets its contract.
-use mathlib.Core.Path.{sym, ap, ◌∙◌}
-use Prim.Native.Nat.{ℕ, ◌-◌, ◌<◌}
+use mathlib.Core.Path.{sym, ◌∙◌}
+use Prim.Native.Nat.{◌<◌}
 use native.Mathlib.Omega.{arith}
 use Rattle.monomial.proofs.OrderLaws.{numbers-order}
 use Rattle.space.specs.Space.{len_at}
 use Rattle.search.proofs.SeekState.{slices-kept, seeks-start, seeks-end, on-empty, lead-some, lead-small, on-past, on-like, on-up}
-use Rattle.search.proofs.lead.seek.Goals.{Else-len-eq0, then-key-c, else-key-c+then-larger-eq1, else-key-c+else-larger-eq1}
+use Rattle.search.proofs.lead.seek.Goals.{Else-len-eq0, then-key-c, else-key-c+then-larger, else-key-c+else-larger}
 use Rattle.search.proofs.lead.seek.Goals as goal
 
 -- in a turn, where the bucket is not empty
@@ -28,10 +28,10 @@ loop-i-preserved c =
     elim c.if-key-c.branch [
       | then-key-c w ↦
           rw (w.b-is, w.sc-is, w.wc-is, w.c-is) (on-like v.0 c.loop-i-test.true some numbers-order c.lead_key-key.ensures w.lead_coef.ensures w.if-key-c.true w.join-c.ensures w.put_lead_coef.ensures w.remove_lead.ensures, slices-kept v.1 w.put_lead_coef.auto.wc w.put_lead_coef.auto.sc)
-      | else-key-c+then-larger-eq1 w ↦
-          rw (w.b-is, w.sc-is, w.wc-is, w.c-is) (on-up v.0 c.loop-i-test.true some _ (ap (λ (m : ℕ). 1 - m) w.not_zero-gone.ensures.0) numbers-order c.lead_key-key.ensures w.lead_coef-then-larger-eq1.ensures _ w.larger.ensures.0 w.if-larger-eq1.true w.replace-c.ensures w.head_of-head.ensures w.len_of-left.ensures w.place.ensures, v.1)
-      | else-key-c+else-larger-eq1 w ↦
-          rw (w.b-is, w.sc-is, w.wc-is, w.c-is) (on-past v.0 c.loop-i-test.true some numbers-order c.lead_key-key.ensures _ w.larger.ensures.0 w.if-larger-eq1.false w.if-key-c.false w.pass_by-c.ensures, v.1)
+      | else-key-c+then-larger w ↦
+          rw (w.b-is, w.sc-is, w.wc-is, w.c-is) (on-up v.0 c.loop-i-test.true some _ w.from-gone.ensures numbers-order c.lead_key-key.ensures w.lead_coef-then-larger.ensures (sym w.larger.ensures ∙ w.if-larger.true) w.replace-c.ensures w.head_of-head.ensures w.len_of-left.ensures w.place.ensures, v.1)
+      | else-key-c+else-larger w ↦
+          rw (w.b-is, w.sc-is, w.wc-is, w.c-is) (on-past v.0 c.loop-i-test.true some numbers-order c.lead_key-key.ensures (sym w.larger.ensures ∙ w.if-larger.false) w.if-key-c.false w.pass_by-c.ensures, v.1)
     ]
 
 pub returns : goal.returns

@@ -3,8 +3,8 @@ use Prim.Native.Nat.{◌-◌}
 use Rattle.trial_division.proofs.TableLaws.{AllOdd}
 use Rattle.trial_division.proofs.divide_odd.divide_odd.Given as goal
 
-abbrev pub invariant-loop-d : goal.invariant-loop-d
-invariant-loop-d l = AllOdd l.p l.d
+abbrev pub invariant-loop-p : goal.invariant-loop-p
+invariant-loop-p l = AllOdd l.p l.d
 
-abbrev pub decreases-loop-d : goal.decreases-loop-d
-decreases-loop-d l = 65537 - l.d
+abbrev pub decreases-loop-p : goal.decreases-loop-p
+decreases-loop-p l = 65537 - l.d
